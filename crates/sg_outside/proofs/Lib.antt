@@ -1,0 +1,4 @@
+pub mod FileSearch
+pub mod Failing
+pub mod Tally
+pub mod Untold

@@ -1,0 +1,9 @@
+pub mod Count
+pub mod Shelf
+pub mod Sink
+pub mod FileLog
+pub mod MemShelf
+pub mod SureShelf
+pub mod MemSink
+pub mod SureSink
+pub mod Edge

@@ -1,0 +1,11 @@
+-- What a sink of bytes is
+use Rattle.std.specs.Prelude.{◌≡◌, ℕ, ◌≤◌, List, ◌++◌, length, take, Option}
+use Rattle.std.specs.Option.{option_map}
+
+-- what was written after one piece more, where it is told
+abbrev pub appended : Option (List ℕ) → List ℕ → Option (List ℕ)
+appended written piece = option_map (λ w. w ++ piece) written
+
+-- a front of the piece was appended, which may be empty or whole
+abbrev pub CutShort : Option (List ℕ) → Option (List ℕ) → List ℕ → Type 0
+CutShort old new piece = (m : ℕ) × (m ≤ length piece) × (new ≡ appended old (take m piece))
