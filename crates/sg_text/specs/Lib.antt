@@ -1,0 +1,10 @@
+pub mod Bytes
+pub mod Symbols
+pub mod Words
+pub mod Forms
+pub mod Tokens
+pub mod Lines
+pub mod Strings
+pub mod Lexemes
+pub mod Placed
+pub mod Cut
