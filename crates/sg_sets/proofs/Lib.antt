@@ -1,0 +1,11 @@
+pub mod BeforeLemmas
+pub mod CloseLemmas
+pub mod CyclesLemmas
+pub mod FlowLemmas
+pub mod JoinedLemmas
+pub mod LayersLemmas
+pub mod MembersLemmas
+pub mod OptionLemmas
+pub mod PathsLemmas
+pub mod RowsLemmas
+pub mod WordsLemmas

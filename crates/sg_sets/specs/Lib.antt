@@ -1,0 +1,7 @@
+pub mod Cycles
+pub mod Layers
+pub mod Members
+pub mod Paths
+pub mod Relations
+pub mod Rows
+pub mod Words

@@ -1,0 +1,18 @@
+-- What a contract sees of a `BitSet`: a flag for each number below the width.
+use Rattle.std.specs.Prelude.{ℕ, Bool, false, not, List, IsTrue, count_by, slice_index_or}
+
+-- the flag of a
+abbrev pub has : List Bool → ℕ → Bool
+has set a = slice_index_or set a false
+
+-- a is in the set
+abbrev pub Has : List Bool → ℕ → Type 0
+Has set a = IsTrue (has set a)
+
+-- how many numbers below the width are not in the set
+abbrev pub missing_of : List Bool → ℕ
+missing_of set = count_by not set
+
+-- a is in both sets
+abbrev pub Shared : List Bool → List Bool → ℕ → Type 0
+Shared xs ys a = Has xs a × Has ys a

@@ -1,0 +1,130 @@
+//! `Relation`, a relation on the numbers below its size, with its closure.
+ghost use Rattle.std.specs.Prelude.{◌≡◌, ℕ, ◌+◌, ◌<◌, ◌≤◌, ◌↔◌, ◌⊎◌, Bool, false, true, not, if◌then◌else◌, length, replicate, IfOk, IsTrue};
+ghost use Rattle.std.specs.Bool.{OnTrue, OnFalse};
+ghost use Rattle.sg_sets.specs.Members.{has};
+ghost use Rattle.sg_sets.specs.Rows.{row_of, Holds, all_missing};
+ghost use Rattle.sg_sets.specs.Paths.{Path, IsTransitive};
+ghost use Rattle.sg_sets.specs.Relations.{predecessors};
+
+use crate::{BitSet, NoMemory, Rows};
+use std::alloc::Global;
+use std::marker::Model;
+
+/// A relation on the numbers below its size, each of them a vertex of a graph.
+#[derive(Drop)]
+pub struct Relation {
+    rows: Rows,
+}
+
+impl Model for Relation {
+    ghost use Rattle.std.specs.Prelude.{◌≡◌, List, Bool, length};
+
+    ghost Value = { List (List Bool) };
+
+    ghost view = { λ r. r.rows.rows };
+
+    ghost invariant = { λ r. r.rows.width ≡ length r.rows.rows };
+}
+
+impl Relation {
+    /// Returns the empty relation on the numbers below `n`.
+    pub fn new(alloc: Global, n: usize) -> Result<Relation, NoMemory>
+        ensures { IfOk result (λ r. r ≡ replicate n (replicate n false)) }
+    {
+        let rows = Rows::new(alloc, n, n)?;
+        Ok(Relation { rows })
+    }
+
+    /// Returns the size: the relation is on the numbers below it.
+    pub fn size(&self) -> usize
+        ensures { result ≡ length self.now }
+    {
+        self.rows.count()
+    }
+
+    /// Returns whether `a` is related to `b`.
+    pub fn holds(&self, a: usize, b: usize) -> bool
+        ensures { IsTrue result ↔ Holds self.now a b }
+    {
+        self.rows.holds(a, b)
+    }
+
+    /// Returns the numbers that `a` is related to.
+    pub fn successors(&self, a: usize) -> &BitSet
+        requires { a < length self.now }
+        ensures row { result.now ≡ row_of self.now a }
+        ensures width { length result.now ≡ length self.now }
+    {
+        self.rows.row(a)
+    }
+
+    /// Relates `a` to `b`, and returns whether they were not related before.
+    pub fn add(&mut self, a: usize, b: usize) -> bool
+        requires from { a < length self.old }
+        requires to { b < length self.old }
+        ensures absent { result ≡ not (has (row_of self.old a) b) }
+        ensures gains { (x y : ℕ) → Holds self.new x y ↔ (Holds self.old x y ⊎ ((x ≡ a) × (y ≡ b))) }
+        ensures counted { all_missing self.old ≡ all_missing self.new + (if result then 1 else 0) }
+        ensures stays { OnFalse result (self.new ≡ self.old) }
+        ensures size { length self.new ≡ length self.old }
+    {
+        self.rows.insert(a, b)
+    }
+
+    /// Relates what `other` does, and returns whether some pair was not related before.
+    pub fn join(&mut self, other: &Relation) -> bool
+        requires { length self.old ≡ length other.now }
+        ensures joins { (x y : ℕ) → Holds self.new x y ↔ (Holds self.old x y ⊎ Holds other.now x y) }
+        ensures grows { OnTrue result (all_missing self.new < all_missing self.old) }
+        ensures stays { OnFalse result (self.new ≡ self.old) }
+        ensures size { length self.new ≡ length self.old }
+    {
+        self.rows.union(&other.rows)
+    }
+
+    /// Returns an equal relation.
+    pub fn copy(&self, alloc: Global) -> Result<Relation, NoMemory>
+        ensures { IfOk result (λ r. r ≡ self.now) }
+    {
+        let rows = self.rows.copy(alloc)?;
+        Ok(Relation { rows })
+    }
+
+    /// Returns how many numbers are related to `b`.
+    pub fn predecessors(&self, b: usize) -> usize
+        ensures { result ≡ predecessors self.now b }
+    {
+        let mut count = 0;
+        for a in 0..self.size() {
+            if self.holds(a, b) {
+                count += 1;
+            }
+        }
+        count
+    }
+
+    /// Makes the relation transitive by the pairs that this takes and no other.
+    pub fn close(&mut self)
+        ensures contains { (a b : ℕ) → Holds self.old a b → Holds self.new a b }
+        ensures transitive { IsTransitive (Holds self.new) }
+        ensures least { (a b : ℕ) → Holds self.new a b → Path (Holds self.old) a b }
+        ensures size { length self.new ≡ length self.old }
+    {
+        for k in 0..self.size() {
+            self.close_through(k);
+        }
+    }
+
+    /// Relates `a` to `b` where `a` is related to `k` and `k` to `b`.
+    fn close_through(&mut self, k: usize)
+        requires { k < length self.old }
+        ensures through { (a b : ℕ) → Holds self.new a b ↔ (Holds self.old a b ⊎ (Holds self.old a k × Holds self.old k b)) }
+        ensures size { length self.new ≡ length self.old }
+    {
+        for a in 0..self.size() {
+            if self.holds(a, k) {
+                self.rows.join_row(k, a);
+            }
+        }
+    }
+}
