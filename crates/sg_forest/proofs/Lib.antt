@@ -1,0 +1,15 @@
+pub mod Paths
+pub mod Moves
+pub mod Shape
+pub mod Swapped
+pub mod Grown
+pub mod Unhung
+pub mod Mapped
+pub mod Depth
+pub mod Dropping
+pub mod Dropped
+pub mod Standing
+pub mod Laws
+pub mod Linked
+pub mod Slots
+pub mod Walk

@@ -1,0 +1,4 @@
+pub mod Node
+pub mod Trees
+pub mod Tree
+pub mod Steps
