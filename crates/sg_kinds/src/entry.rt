@@ -1,0 +1,91 @@
+// The entries of a pool.
+ghost use Rattle.std.specs.Prelude.{◌≡◌, ◌↔◌, IsTrue};
+ghost use Rattle.sg_kinds.specs.Values.{fault_number};
+ghost use Rattle.sg_kinds.specs.PoolEntries.{same_entry, entry_writes};
+ghost use Rattle.sg_kinds.specs.SameEntry.{entry_partial, entry_equal, entry_alike};
+
+use crate::ids::{OpId, ValueId};
+use crate::marks::FaultKind;
+use crate::row::Row;
+use crate::text::Text;
+use std::hash::{Hash, Hasher};
+
+/// An entry of a pool: a value that has no children, or an operator with the numbers of its children.
+#[derive(Drop)]
+pub enum Entry {
+    Bool(bool),
+    Int(i64),
+    Text(Text),
+    Tree(OpId, Row<ValueId>),
+    Fault(FaultKind),
+}
+
+impl FaultKind {
+    /// The place of the kind in its declaration, counted from 0.
+    pub fn number(self) -> u8
+        ensures { result ≡ fault_number self }
+    {
+        match self {
+            FaultKind::Fuel => 0,
+            FaultKind::Depth => 1,
+            FaultKind::Size => 2,
+            FaultKind::Divide => 3,
+            FaultKind::Overflow => 4,
+            FaultKind::NoMatch => 5,
+            FaultKind::Convert => 6,
+        }
+    }
+}
+
+impl PartialEq for Entry {
+    ghost eq = { same_entry };
+
+    ghost laws = { entry_partial };
+
+    fn eq(&self, other: &Entry) -> bool {
+        match (self, other) {
+            (Entry::Bool(a), Entry::Bool(b)) => *a == *b,
+            (Entry::Int(a), Entry::Int(b)) => *a == *b,
+            (Entry::Text(a), Entry::Text(b)) => a.as_slice() == b.as_slice(),
+            (Entry::Tree(a, xs), Entry::Tree(b, ys)) => *a == *b && xs.as_slice() == ys.as_slice(),
+            (Entry::Fault(a), Entry::Fault(b)) => *a == *b,
+            _ => false,
+        }
+    }
+}
+
+impl Eq for Entry {
+    ghost laws = { entry_equal };
+}
+
+impl Hash for Entry {
+    ghost hash_input = { entry_writes };
+
+    ghost respects_eq = { entry_alike.fed };
+
+    fn hash<H: Hasher>(&self, state: &mut H) {
+        match self {
+            Entry::Bool(b) => {
+                0u8.hash(state);
+                b.hash(state);
+            }
+            Entry::Int(n) => {
+                1u8.hash(state);
+                n.hash(state);
+            }
+            Entry::Text(text) => {
+                2u8.hash(state);
+                text.as_slice().hash(state);
+            }
+            Entry::Tree(op, kids) => {
+                3u8.hash(state);
+                op.number.hash(state);
+                kids.as_slice().hash(state);
+            }
+            Entry::Fault(kind) => {
+                4u8.hash(state);
+                kind.number().hash(state);
+            }
+        }
+    }
+}

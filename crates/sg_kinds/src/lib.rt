@@ -1,0 +1,24 @@
+// The records of a specification, its values and its terms, and the pool of shared values.
+#![tactic(auto)]
+
+pub mod copy;
+pub mod entry;
+pub mod expr;
+pub mod fault;
+pub mod ids;
+pub mod laws;
+pub mod lexeme;
+pub mod made;
+pub mod marks;
+pub mod memory;
+pub mod pattern;
+pub mod plans;
+pub mod pool;
+pub mod row;
+pub mod spec;
+pub mod term;
+#[cfg(test)]
+mod tests;
+pub mod text;
+pub mod trees;
+pub mod value;

@@ -1,0 +1,301 @@
+// The pool of shared values.
+ghost use Rattle.std.specs.Prelude.{◌≡◌, ℕ, ◌<◌, ◌↔◌, [], length, map, All, IsTrue, IsErrOf, MatchOption, IfOk, OnOk, OnErr, IfErr, MatchResult, true, false, slice_get, Some};
+ghost use Rattle.sg_kinds.specs.Values.{row_of, Truth, Number, Chars, Tree, Fault, size_of, depth_of, is_within};
+ghost use Rattle.sg_kinds.specs.Pools.{value_at, Stands, tree_over, with_value, interned, interned_all, is_kept, IsGrown, AreDifferent};
+ghost use Rattle.sg_kinds.specs.PoolEntries.{entry_value, kids_of};
+ghost use Rattle.sg_kinds.specs.PoolView.{AreBelow, measure_of};
+ghost use Rattle.sg_kinds.specs.declared.pool.PoolFault.TheVariants.{NoMemory as PoolNoMemory};
+
+use crate::entry::Entry;
+use crate::ids::{OpId, ValueId};
+use crate::marks::FaultKind;
+use crate::memory::NoMemory;
+use crate::row::{Row, item};
+use crate::text::Text;
+use crate::value::{DEPTH_LIMIT, Kids, SIZE_LIMIT, Value, ValueNode};
+use indexmap::IndexSet;
+use std::alloc::{AllocError, Global};
+use std::marker::Model;
+
+/// Why a pool has no number for a tree.
+#[derive(Clone, Copy, Debug, PartialEq, Eq)]
+pub enum PoolFault {
+    /// the tree is over a limit of values
+    Size,
+    NoMemory,
+}
+
+impl From<NoMemory> for PoolFault {
+    ghost from_gives = { λ _ e. e ≡ PoolNoMemory };
+
+    fn from(_: NoMemory) -> PoolFault {
+        PoolFault::NoMemory
+    }
+}
+
+impl From<AllocError> for PoolFault {
+    ghost from_gives = { λ _ e. e ≡ PoolNoMemory };
+
+    fn from(_: AllocError) -> PoolFault {
+        PoolFault::NoMemory
+    }
+}
+
+// what is kept of a value
+#[derive(Clone, Copy)]
+struct Measure {
+    size: u64,
+    depth: u32,
+}
+
+// of a value that is no text and no tree
+const LEAF: Measure = Measure { size: 1, depth: 1 };
+
+/// Values that are shared: a value has one number, and equal numbers are equal values. Contracts see the values in the
+/// order of their numbers. A pool only grows, and each number keeps its value.
+#[derive(Drop)]
+pub struct Pool {
+    alloc: Global,
+    entries: IndexSet<Entry>,
+    measures: Vec<Measure>,
+}
+
+impl Model for Pool {
+    ghost use Rattle.std.specs.Prelude.{List};
+    ghost use Rattle.std.specs.Coded.{coded_list};
+    ghost use Rattle.sg_kinds.specs.Values.{Value as IsValue};
+    ghost use Rattle.sg_kinds.specs.ValueCode.{value_code};
+
+    ghost Value = { List IsValue };
+
+    ghost coded = { coded_list value_code };
+
+    ghost use Rattle.sg_kinds.specs.PoolView.{values_of, IsPooled};
+
+    ghost view = { λ p. values_of p.entries.keys };
+
+    ghost invariant = { λ p. IsPooled p.entries.keys p.measures.items };
+}
+
+impl Pool {
+    /// An empty pool.
+    pub fn new(alloc: Global) -> Result<Pool, NoMemory>
+        ensures { IfOk result (λ p. p ≡ []) }
+    {
+        Ok(Pool {
+            alloc,
+            entries: IndexSet::new(alloc),
+            measures: Vec::new(alloc),
+        })
+    }
+
+    /// How many values there are.
+    pub fn len(&self) -> usize
+        ensures { result ≡ length self.now }
+    {
+        self.entries.len()
+    }
+
+    /// Two numbers are equal exactly where their values are equal. This does nothing and tells it.
+    #[tactic(auto, using(crate::proofs::Pooled::place_is))]
+    pub fn sound(&self)
+        ensures different { AreDifferent self.now }
+        ensures one_number { (a b : ℕ) → a < length self.now → b < length self.now → value_at self.now a ≡ value_at self.now b → a ≡ b }
+    {
+        let _ = &self.entries;
+    }
+
+    /// The entry of a number: what its value is, with the numbers of its children.
+    #[tactic(auto, using(crate::proofs::Pooled::entries_length, crate::proofs::Pooled::entry_told, crate::proofs::Pooled::kids_told))]
+    pub fn entry(&self, id: ValueId) -> &Entry
+        requires { id < length self.now }
+        ensures value { Stands self.now id (entry_value self.now result.now) }
+        ensures kids { All (λ k. k < id) (kids_of result.now) }
+    {
+        item(self.entries.as_slice(), id.number)
+    }
+
+    /// The size of a number's value.
+    pub fn size(&self, id: ValueId) -> u64
+        requires { id < length self.now }
+        ensures { result ≡ size_of (value_at self.now id) }
+    {
+        self.measures.get(id.number).unwrap().size
+    }
+
+    /// The depth of a number's value.
+    pub fn depth(&self, id: ValueId) -> u32
+        requires { id < length self.now }
+        ensures { result ≡ depth_of (value_at self.now id) }
+    {
+        self.measures.get(id.number).unwrap().depth
+    }
+
+    /// The value of a number.
+    #[cycle(value)]
+    pub fn value(&self, alloc: Global, id: ValueId) -> Result<Value, NoMemory>
+        requires { id < length self.now }
+        ensures { IfOk result (λ v. Stands self.now id v) }
+    {
+        match self.entry(id) {
+            Entry::Bool(b) => Ok(Value::truth(*b)),
+            Entry::Int(n) => Ok(Value::number(*n)),
+            Entry::Text(text) => Ok(Value::text(text.copy(alloc)?)),
+            Entry::Tree(op, kids) => Ok(Value::tree(*op, self.values(alloc, kids.as_slice(), id)?)),
+            Entry::Fault(kind) => Ok(Value::fault(*kind)),
+        }
+    }
+
+    // the values of numbers below a number
+    #[cycle(value)]
+    fn values(&self, alloc: Global, ids: &[ValueId], below: ValueId) -> Result<Kids, NoMemory>
+        requires within { below < length self.now }
+        requires smaller { All (λ k. k < below) ids.now }
+        ensures { IfOk result (λ v. v.items ≡ map (value_at self.now) ids.now) }
+    {
+        let mut values = Vec::with_capacity(alloc, ids.len())?;
+        for id in ids {
+            values.push(self.value(alloc, *id)?)?;
+        }
+        Ok(values)
+    }
+
+    /// A number whose value is v. What is not there is put last, children from left to right before the whole.
+    #[cycle(put)]
+    #[tactic(auto, using(crate::proofs::Grown::kids_kept, crate::proofs::Grown::grown_with, crate::proofs::Grown::grown_twice))]
+    pub fn put(&mut self, v: &Value) -> Result<ValueId, NoMemory>
+        requires { IsTrue (is_kept v.now) }
+        ensures stands { IfOk result (λ id. Stands self.new id v.now) }
+        ensures pool { OnOk result (self.new ≡ interned self.old v.now) }
+        ensures grown { IsGrown self.old self.new }
+    {
+        match &v.node {
+            ValueNode::Bool(b) => self.put_truth(*b),
+            ValueNode::Int(n) => self.put_number(*n),
+            ValueNode::Text(text) => {
+                let text = text.copy(self.alloc)?;
+                self.put_text(text)
+            }
+            ValueNode::Tree(op, kids) => {
+                let (size, depth) = v.measure();
+                let numbers = self.put_all(kids)?;
+                self.enter(
+                    Entry::Tree(*op, Row::new(numbers)),
+                    Measure {
+                        size: size as u64,
+                        depth,
+                    },
+                )
+            }
+            ValueNode::Fault(kind) => self.put_fault(*kind),
+        }
+    }
+
+    // the numbers of these values
+    #[cycle(put)]
+    #[tactic(auto, using(crate::proofs::Grown::numbers_push, crate::proofs::Grown::below_grown, crate::proofs::Grown::grown_twice))]
+    fn put_all(&mut self, values: &[Value]) -> Result<Vec<ValueId>, NoMemory>
+        requires { All (λ v. IsTrue (is_kept v)) values.now }
+        ensures numbers { IfOk result (λ ids. map (value_at self.new) ids.items ≡ values.now) }
+        ensures below { IfOk result (λ ids. AreBelow (length self.new) ids.items) }
+        ensures pool { OnOk result (self.new ≡ interned_all self.old (row_of values.now)) }
+        ensures grown { IsGrown self.old self.new }
+    {
+        let mut numbers = Vec::with_capacity(self.alloc, values.len())?;
+        for value in values {
+            numbers.push(self.put(value)?)?;
+        }
+        Ok(numbers)
+    }
+
+    /// The number of a truth value.
+    pub fn put_truth(&mut self, b: bool) -> Result<ValueId, NoMemory>
+        ensures stands { IfOk result (λ id. Stands self.new id (Truth b)) }
+        ensures pool { OnOk result (self.new ≡ with_value self.old (Truth b)) }
+        ensures grown { IsGrown self.old self.new }
+    {
+        self.enter(Entry::Bool(b), LEAF)
+    }
+
+    /// The number of a number.
+    pub fn put_number(&mut self, n: i64) -> Result<ValueId, NoMemory>
+        ensures stands { IfOk result (λ id. Stands self.new id (Number n)) }
+        ensures pool { OnOk result (self.new ≡ with_value self.old (Number n)) }
+        ensures grown { IsGrown self.old self.new }
+    {
+        self.enter(Entry::Int(n), LEAF)
+    }
+
+    /// The number of a text, whatever its length.
+    pub fn put_text(&mut self, text: Text) -> Result<ValueId, NoMemory>
+        ensures stands { IfOk result (λ id. Stands self.new id (Chars text)) }
+        ensures pool { OnOk result (self.new ≡ with_value self.old (Chars text)) }
+        ensures grown { IsGrown self.old self.new }
+    {
+        let size = text.as_slice().len() as u64 + 1;
+        self.enter(Entry::Text(text), Measure { size, depth: 1 })
+    }
+
+    /// The number of a fault.
+    pub fn put_fault(&mut self, kind: FaultKind) -> Result<ValueId, NoMemory>
+        ensures stands { IfOk result (λ id. Stands self.new id (Fault kind)) }
+        ensures pool { OnOk result (self.new ≡ with_value self.old (Fault kind)) }
+        ensures grown { IsGrown self.old self.new }
+    {
+        self.enter(Entry::Fault(kind), LEAF)
+    }
+
+    /// A number whose value is the tree of an operator over the values of these numbers; `Size` exactly where that tree is
+    /// over a limit of values.
+    #[tactic(auto, using(crate::proofs::Pooled::below_all))]
+    pub fn node(&mut self, op: OpId, kids: &[ValueId]) -> Result<ValueId, PoolFault>
+        requires { All (λ k. k < length self.old) kids.now }
+        ensures stands { IfOk result (λ id. Stands self.new id (tree_over self.old op kids.now)) }
+        ensures pool { OnOk result (self.new ≡ with_value self.old (tree_over self.old op kids.now)) }
+        ensures size { IsErrOf result PoolFault.Size ↔ (is_within (tree_over self.old op kids.now) ≡ false) }
+        ensures err { OnErr result (self.new ≡ self.old) }
+        ensures grown { IsGrown self.old self.new }
+    {
+        let Some(measure) = self.measure_over(kids) else {
+            return Err(PoolFault::Size);
+        };
+        let numbers = Row::new(Vec::from_slice(self.alloc, kids)?);
+        Ok(self.enter(Entry::Tree(op, numbers), measure)?)
+    }
+
+    // the measure of a tree over the values of these numbers, none where it is over a limit
+    fn measure_over(&self, kids: &[ValueId]) -> Option<Measure>
+        requires { All (λ k. k < length self.now) kids.now }
+        ensures { MatchOption result (is_within (tree_over self.now 0 kids.now) ≡ false) (λ m. (m ≡ measure_of (tree_over self.now 0 kids.now)) × (is_within (tree_over self.now 0 kids.now) ≡ true)) }
+    {
+        let mut size: u64 = 1;
+        let mut depth: u32 = 1;
+        for kid in kids {
+            let (kid_size, kid_depth) = (self.size(*kid), self.depth(*kid));
+            if kid_size > SIZE_LIMIT as u64 - size || kid_depth >= DEPTH_LIMIT {
+                return None;
+            }
+            size += kid_size;
+            depth = depth.max(kid_depth + 1);
+        }
+        Some(Measure { size, depth })
+    }
+
+    // the number of an entry, which is put last where it is not there
+    #[tactic(auto, using(crate::proofs::Grown::grown_same, crate::proofs::Grown::grown_put))]
+    fn enter(&mut self, entry: Entry, measure: Measure) -> Result<ValueId, NoMemory>
+        requires kids { AreBelow (length self.old) (kids_of entry) }
+        requires measure { measure ≡ measure_of (entry_value self.old entry) }
+        ensures stands { IfOk result (λ id. Stands self.new id (entry_value self.old entry)) }
+        ensures pool { OnOk result (self.new ≡ with_value self.old (entry_value self.old entry)) }
+        ensures err { OnErr result (self.new ≡ self.old) }
+        ensures grown { IsGrown self.old self.new }
+    {
+        self.measures.reserve(1)?;
+        let (number, added) = self.entries.insert_full(entry)?;
+        if added {
+            self.measures.push(measure).unwrap();
+        }
+        Ok(ValueId { number })
+    }
+}
