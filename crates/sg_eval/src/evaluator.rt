@@ -1,0 +1,121 @@
+// The evaluator of a specification.
+ghost use Rattle.std.specs.Prelude.{◌≡◌, ℕ, ◌<◌, ◌⊎◌, List, [], ◌∷◌, ◌++◌, map, length, All, slice_get, Some, IsTrue, IfOk, OnOk, OnErr};
+ghost use Rattle.sg_kinds.specs.declared.spec.Rule.{Rule};
+ghost use Rattle.sg_kinds.specs.Pools.{value_at, Stands, IsGrown};
+ghost use Rattle.sg_kinds.specs.Evaluation.{Reached, outcome_in};
+ghost use Rattle.sg_kinds.specs.Outcome.{outcome, outcome_of};
+ghost use Rattle.sg_eval.specs.Journal.{now_of, total_of};
+ghost use Rattle.sg_eval.specs.Lives.{IsReached};
+ghost use Rattle.sg_eval.specs.Sums.{is_sum_rule};
+
+use crate::eval::{Scope, enter};
+use crate::journal::{Instance, Journal};
+use crate::live::{Live, Stop};
+use sg_kinds::ids::{ExprId, RuleId, ValueId};
+use sg_kinds::marks::FaultKind;
+use sg_kinds::memory::NoMemory;
+use sg_kinds::pool::Pool;
+use sg_kinds::row::item;
+use sg_kinds::spec::Spec;
+use std::alloc::Global;
+use std::marker::Model;
+
+/// How many nodes of an expression one evaluation may enter.
+pub const FUEL: u32 = 100_000;
+
+/// How many nodes may be entered and not left.
+pub const NESTING: u32 = 2_048;
+
+/// The evaluator of a specification, of which it keeps a copy. Contracts see it as that specification.
+#[derive(Drop)]
+pub struct Evaluator {
+    alloc: Global,
+    spec: Spec,
+}
+
+impl Model for Evaluator {
+    ghost use Rattle.sg_kinds.specs.declared.spec.Spec.{Spec};
+    ghost use Rattle.sg_kinds.specs.contracts.spec.Spec as contract;
+
+    ghost Value = { Spec };
+
+    ghost coded = { contract.the_row.coded };
+
+    ghost view = { λ e. e.spec };
+}
+
+impl Evaluator {
+    /// The evaluator of a specification.
+    pub fn new(alloc: Global, spec: &Spec) -> Result<Evaluator, NoMemory>
+        ensures { IfOk result (λ e. e ≡ spec.now) }
+    {
+        Ok(Evaluator {
+            alloc,
+            spec: spec.copy(alloc)?,
+        })
+    }
+
+    /// Notes `who` in the journal and answers the number of the rule's outcome on the values of these numbers. It is the only
+    /// call that evaluates an equation.
+    pub fn run(
+        &self,
+        rule: RuleId,
+        args: &[ValueId],
+        who: Instance,
+        pool: &mut Pool,
+        journal: &mut Journal,
+    ) -> Result<ValueId, NoMemory>
+        requires rule { rule < length self.now.rules }
+        requires who { who.rule ≡ rule }
+        requires args { All (λ k. k < length pool.old) args.now }
+        requires sum { IsTrue (is_sum_rule self.now rule) }
+        ensures outcome { (r : Rule) → slice_get self.now.rules rule ≡ Some r → IfOk result (λ id. Stands pool.new id (outcome self.now r (map (value_at pool.old) args.now))) }
+        ensures noted { OnOk result (now_of journal.new ≡ now_of journal.old ++ who ∷ []) }
+        ensures err { OnErr result ((now_of journal.new ≡ now_of journal.old) ⊎ (now_of journal.new ≡ now_of journal.old ++ who ∷ [])) }
+        ensures total { total_of journal.new ≡ total_of journal.old }
+        ensures grown { IsGrown pool.old pool.new }
+    {
+        journal.note(who)?;
+        let spec = &self.spec;
+        let rule = item(spec.rules.as_slice(), rule.number as usize);
+        evaluate(self.alloc, spec, rule.expr, args, pool)
+    }
+}
+
+// the number of the outcome of an expression on the values of these numbers
+fn evaluate(
+    alloc: Global,
+    spec: &Spec,
+    e: ExprId,
+    args: &[ValueId],
+    pool: &mut Pool,
+) -> Result<ValueId, NoMemory>
+    requires { All (λ k. k < length pool.old) args.now }
+    ensures outcome { IfOk result (λ id. Stands pool.new id (outcome_of spec.now e (map (value_at pool.old) args.now))) }
+    ensures grown { IsGrown pool.old pool.new }
+{
+    match spec.exprs.place(e.number) {
+        Some(expr) => {
+            let scope = Scope { alloc, spec, args };
+            let mut env = Vec::new(alloc);
+            let mut fuel = FUEL;
+            let reached = enter(&scope, &expr.tree, &mut env, NESTING, &mut fuel, pool);
+            settled(reached, pool)
+        }
+        None => pool.put_fault(FaultKind::NoMatch),
+    }
+}
+
+// the number of an answer's value
+fn settled(reached: Result<Live, Stop>, pool: &mut Pool) -> Result<ValueId, NoMemory>
+    ensures ok { (r : Reached) (left : ℕ) → IsReached pool.old reached left r → IfOk result (λ id. Stands pool.new id (outcome_in r)) }
+    ensures grown { IsGrown pool.old pool.new }
+{
+    match reached {
+        Ok(Live::Truth(b)) => pool.put_truth(b),
+        Ok(Live::Number(n)) => pool.put_number(n),
+        Ok(Live::Kept(number)) => Ok(ValueId { number }),
+        Err(Stop::Fault(kind)) => pool.put_fault(kind),
+        Err(Stop::NoMemory) => Err(NoMemory),
+    }
+}

@@ -1,0 +1,46 @@
+// What stands for values while an expression is evaluated.
+ghost use Rattle.std.specs.Prelude.{◌≡◌};
+ghost use Rattle.sg_eval.specs.declared.live.Stop.TheVariants.{NoMemory as StopNoMemory};
+
+use sg_kinds::marks::FaultKind;
+use sg_kinds::memory::NoMemory;
+use std::alloc::{AllocError, AllocFailed};
+
+/// A truth value or a number as it is; any value by its number in the pool.
+#[derive(Clone, Copy)]
+pub enum Live {
+    Truth(bool),
+    Number(i64),
+    Kept(usize),
+}
+
+/// Why an evaluation ends before its value: the fault that is its outcome, or want of memory.
+#[derive(Clone, Copy)]
+pub enum Stop {
+    Fault(FaultKind),
+    NoMemory,
+}
+
+impl From<NoMemory> for Stop {
+    ghost from_gives = { λ _ e. e ≡ StopNoMemory };
+
+    fn from(_: NoMemory) -> Stop {
+        Stop::NoMemory
+    }
+}
+
+impl From<AllocError> for Stop {
+    ghost from_gives = { λ _ e. e ≡ StopNoMemory };
+
+    fn from(_: AllocError) -> Stop {
+        Stop::NoMemory
+    }
+}
+
+impl<T: Drop> From<AllocFailed<T>> for Stop {
+    ghost from_gives = { λ _ e. e ≡ StopNoMemory };
+
+    fn from(_: AllocFailed<T>) -> Stop {
+        Stop::NoMemory
+    }
+}
