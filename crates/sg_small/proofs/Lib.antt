@@ -1,0 +1,4 @@
+mod Worked
+pub mod Turns
+pub mod Found
+pub mod Newlines

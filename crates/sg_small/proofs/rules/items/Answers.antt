@@ -1,0 +1,27 @@
+use Rattle.std.proofs.Common.{◌≡◌, [], ◌∷◌, ◌++◌, sym, ◌∙◌, map, not}
+use Rattle.std.proofs.lemmas.Result.{err_from_is_err_and}
+use Rattle.std.proofs.lemmas.List.{map_push}
+use Rattle.sg_text.specs.declared.symbols.Symbol.TheVariants as sign
+use Rattle.sg_small.specs.Readers.{is_sign}
+use Rattle.sg_small.specs.Reading.{item}
+use Rattle.sg_small.specs.View.{item_view}
+use Rattle.sg_small.specs.Left.{left_of}
+use Rattle.sg_small.proofs.Turns.{goes_on, fails, stops, ends}
+use Rattle.sg_small.proofs.rules.items.Goals as goal
+
+pub returns-then-not-sees_other : goal.returns-then-not-sees_other
+returns-then-not-sees_other c =
+    stops (λ k. not (is_sign sign.RightBracket k)) item c.len-turn-end.result c.loop-turn._turn (map item_view c.loop-turn.found.items) (left_of c.loop-turn.tokens) c.loop-turn-test.true (sym c.sees_other.ensures ∙ c.if-not-sees_other.true) c.loop-turn.invariant
+
+pub returns-in_err-item : goal.returns-in_err-item
+returns-in_err-item c =
+    let p = err_from_is_err_and c.from_residual.result c.from_residual.ensures.1 in
+    rw (p.1, p.2) (λ no. fails (λ k. not (is_sign sign.RightBracket k)) item c.len-turn-end.result c.loop-turn._turn (map item_view c.loop-turn.found.items) (left_of c.loop-turn.tokens) c.loop-turn-test.true (sym c.sees_other.ensures ∙ c.if-not-sees_other.false) (c.in_err-item.ensures no) c.loop-turn.invariant)
+
+pub loop-turn-preserved : goal.loop-turn-preserved
+loop-turn-preserved c =
+    let pushed : map item_view c.push.new.self.items ≡ map item_view c.loop-turn.found.items ++ (item_view c.in_ok-item.field-0) ∷ [] = rw c.in_ok-push.ensures.items (map_push _ c.loop-turn.found.items c.in_ok-item.field-0) in
+    rw pushed (goes_on (λ k. not (is_sign sign.RightBracket k)) item c.len-turn-end.result c.loop-turn._turn (map item_view c.loop-turn.found.items) (left_of c.loop-turn.tokens) _ (item_view c.in_ok-item.field-0) c.loop-turn-test.true (sym c.sees_other.ensures ∙ c.if-not-sees_other.false) c.in_ok-item.ensures c.loop-turn.invariant)
+
+pub returns : goal.returns
+returns c = ends (λ k. not (is_sign sign.RightBracket k)) item c.len-turn-end.result c.loop-turn._turn (map item_view c.loop-turn.found.items) (left_of c.loop-turn.tokens) c.loop-turn-test.false c.loop-turn.invariant

@@ -1,0 +1,12 @@
+use Rattle.std.proofs.Common.{◌≡◌, ◌-◌, length, map}
+use Rattle.sg_text.specs.declared.symbols.Symbol.TheVariants as sign
+use Rattle.sg_small.specs.Readers.{is_sign, more}
+use Rattle.sg_small.specs.Reading.{other}
+use Rattle.sg_small.specs.View.{alt_view}
+use Rattle.sg_small.specs.Left.{left_of}
+use Rattle.sg_small.proofs.rules.others.Given as goal
+
+abbrev pub invariant-loop-turn : goal.invariant-loop-turn
+invariant-loop-turn l =
+    more (is_sign sign.Bar) other (length (left_of l.fn.tokens)) (map alt_view l.fn.found.items) (left_of l.fn.tokens)
+    ≡ more (is_sign sign.Bar) other (l._turn-end - l._turn) (map alt_view l.found.items) (left_of l.tokens)
