@@ -1,6 +1,6 @@
 -- Completing terms, as the code makes them.
-use Rattle.std.specs.Prelude.{◌≡◌, ◌≢◌, refl, ℕ, zero, suc, ◌+◌, ◌-◌, ◌<◌, ◌≤◌, List, [], ◌∷◌, ◌++◌, length, drop, Option, Some, None, slice_get, option_map, option_and_then}
-use Rattle.std.proofs.Common.{sym, ◌∙◌, ap, subst, arith, get_or, append_assoc, rules}
+use Rattle.std.specs.Prelude.{◌≡◌, ◌≢◌, refl, ℕ, zero, suc, ◌+◌, ◌-◌, ◌<◌, ◌≤◌, List, [], ◌∷◌, ◌++◌, length, drop, Option, Some, None, slice_get, option_map}
+use Rattle.std.proofs.Common.{sym, ◌∙◌, ap, arith, get_or, append_assoc, rules}
 use Rattle.sg_kinds.specs.Terms.{Term, Terms, NoTerm, AndTerm, terms_of, kids_of}
 use Rattle.sg_kinds.specs.Specification.{Spec, Phylum}
 use Rattle.sg_kinds.specs.Completing.{all_made, completed, completing_within}

@@ -22,3 +22,4 @@ pub mod Each
 pub mod UsesOrdered
 pub mod TwoVisits
 pub mod SoundSmall
+pub mod Postfix

@@ -1,5 +1,5 @@
 -- The language of two meeting visits is not ordered, whatever layers are taken.
-use Rattle.std.specs.Prelude.{◌≡◌, refl, ℕ, zero, suc, ◌+◌, ◌%◌, ◌<◌, ◌≤◌, true, false, nat_eq, nat_lt, nat_le, List, [], ◌∷◌, length, ◌⊎◌, Some, slice_index, slice_index_or}
+use Rattle.std.specs.Prelude.{◌≡◌, refl, ℕ, zero, suc, ◌+◌, ◌%◌, ◌<◌, ◌≤◌, true, false, nat_eq, nat_lt, nat_le, [], ◌∷◌, ◌⊎◌, Some, slice_index}
 use Rattle.std.proofs.Common.{arith, inl, inr}
 use Rattle.sg_kinds.specs.Specification.{Occurrence, Rule, rules_of}
 use Rattle.sg_kinds.specs.Dependencies.{phylum_there, IsAttr, occurrence, Direct, InOperator, Chain, InPhylum}

@@ -1,5 +1,5 @@
 -- Every outcome is in the limits of values, and no outcome has more fuel than was given.
-use Rattle.std.specs.Prelude.{◌≡◌, refl, ℕ, zero, suc, ◌≤◌, Bool, true, false, cond, List}
+use Rattle.std.specs.Prelude.{◌≡◌, refl, ℕ, zero, suc, Bool, true, false, cond, List}
 use Rattle.sg_kinds.specs.Values.{Value, Fault, is_within}
 use Rattle.sg_kinds.specs.Expressions.{Expr}
 use Rattle.sg_kinds.specs.Specification.{Spec}

@@ -1,9 +1,9 @@
 -- Plain terms fit where a term with that value does; counts of terms and of their values.
-use Rattle.std.specs.Prelude.{◌≡◌, refl, ℕ, suc, ◌+◌, ◌<◌, ◌≤◌, max, false, List, [], ◌∷◌, Option, Some, None, slice_get, option_map, unwrap_or, MatchOption}
-use Rattle.std.proofs.Common.{arith, ap, subst, sym, ◌∙◌}
-use Rattle.sg_kinds.specs.Values.{Value, Values, Truth, Number, Chars, Tree, Fault, NoValue, AndValue, size_of, sizes_of, depth_of, depths_of}
+use Rattle.std.specs.Prelude.{◌≡◌, refl, ℕ, suc, ◌<◌, ◌≤◌, max, List, [], ◌∷◌, Option, Some, None, slice_get, option_map, unwrap_or, MatchOption}
+use Rattle.std.proofs.Common.{arith, ap}
+use Rattle.sg_kinds.specs.Values.{Value, Values, Truth, Number, Chars, Tree, Fault, size_of, sizes_of, depth_of, depths_of}
 use Rattle.sg_kinds.specs.Terms.{Term, Terms, Leaf, Node, NoTerm, AndTerm, nodes_of, nodes_of_all, height_of, height_of_all}
-use Rattle.sg_kinds.specs.Specification.{Spec, Shape, Phylum, Operator, args_of}
+use Rattle.sg_kinds.specs.Specification.{Spec, Shape, Phylum, Operator}
 use Rattle.sg_kinds.specs.Fits.{Fits, AllFit, MayHold}
 use Rattle.sg_kinds.specs.ValueOf.{value_of, values_of}
 use Rattle.sg_kinds.specs.Plain.{plain, plain_all}

@@ -1,8 +1,8 @@
 -- Plain terms, as the code makes them.
-use Rattle.std.specs.Prelude.{◌≡◌, refl, ℕ, zero, suc, ◌+◌, ◌<◌, ◌≤◌, false, List, [], ◌∷◌, ◌++◌, length, drop, Option, Some, None, slice_get, unwrap_or}
-use Rattle.std.proofs.Common.{sym, ◌∙◌, ap, subst, arith, get_or, append_assoc, rules}
-use Rattle.sg_kinds.specs.Values.{Value, Values, NoValue, AndValue, row_of}
-use Rattle.sg_kinds.specs.Terms.{Term, Terms, NoTerm, AndTerm, terms_of, kids_of}
+use Rattle.std.specs.Prelude.{◌≡◌, refl, ℕ, zero, suc, ◌+◌, ◌<◌, ◌≤◌, List, [], ◌∷◌, ◌++◌, length, drop, slice_get, unwrap_or}
+use Rattle.std.proofs.Common.{sym, ◌∙◌, ap, arith, get_or, append_assoc, rules}
+use Rattle.sg_kinds.specs.Values.{Value, Values, AndValue, row_of}
+use Rattle.sg_kinds.specs.Terms.{Term, AndTerm, terms_of, kids_of}
 use Rattle.sg_kinds.specs.Specification.{Spec}
 use Rattle.sg_kinds.specs.Plain.{plain, plain_all}
 use Rattle.sg_kinds.proofs.Kids.{drop_more}

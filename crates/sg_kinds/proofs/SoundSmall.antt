@@ -1,5 +1,5 @@
 -- A language with one operator below its top is sound, so soundness asks nothing impossible.
-use Rattle.std.specs.Prelude.{◌≡◌, ◌≢◌, ◌⊎◌, ◌++◌, map, count_by, MatchOption, refl, ℕ, zero, suc, ◌+◌, ◌<◌, ◌≤◌, pos, true, false, not, List, [], ◌∷◌, length, All, AllPairs, Some, slice_get, IsTrue, bytes_eq}
+use Rattle.std.specs.Prelude.{◌≡◌, ◌≢◌, ◌⊎◌, ◌++◌, map, count_by, MatchOption, refl, ℕ, zero, suc, ◌+◌, ◌<◌, ◌≤◌, pos, true, false, not, List, [], ◌∷◌, length, All, Some, slice_get, IsTrue, bytes_eq}
 use Rattle.std.proofs.Common.{arith, inl, inr}
 use Rattle.std.proofs.lemmas.Slice.Eq.{bytes_eq-Decides}
 use Rattle.sg_kinds.specs.Values.{Bytes, Number}
@@ -11,7 +11,7 @@ use Rattle.sg_kinds.specs.Sound.{IsPhylum, HasShapes, HasNames, HasRules, IsType
 use Rattle.sg_kinds.specs.Typing.{is_usable, is_typed, is_accepted, bound_types}
 use Rattle.sg_kinds.specs.Matches.{Matches}
 use Rattle.sg_kinds.specs.Instances.{defines}
-use Rattle.sg_kinds.specs.declared.marks.Shape.TheVariants.{Lexemes, Truths, Numbers, Texts, Ordinary}
+use Rattle.sg_kinds.specs.declared.marks.Shape.TheVariants.{Truths, Numbers, Texts, Ordinary}
 use Rattle.sg_kinds.specs.declared.marks.Way.TheVariants.{Synthesized}
 use Rattle.sg_kinds.specs.declared.marks.ChildPlace.TheVariants.{Resting}
 use Rattle.sg_kinds.proofs.Each.{Each, EachPair, all_of, pairs_of}

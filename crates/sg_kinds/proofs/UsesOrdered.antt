@@ -1,5 +1,5 @@
 -- The language of a source and its use is ordered, and has valid plans.
-use Rattle.std.specs.Prelude.{◌≡◌, ◌≢◌, refl, ℕ, zero, suc, ◌%◌, ◌<◌, ◌≤◌, Bool, true, false, nat_eq, [], ◌∷◌, length, Some, slice_index, AllPairs, ◌↔◌, List, Contains}
+use Rattle.std.specs.Prelude.{◌≡◌, ◌≢◌, refl, ℕ, zero, suc, ◌%◌, ◌<◌, ◌≤◌, Bool, true, false, nat_eq, [], ◌∷◌, length, Some, slice_index, AllPairs, List, Contains}
 use Rattle.std.proofs.Common.{arith, inl, inr}
 use mathlib.Core.Path.{sym, ap, ◌∙◌}
 use Rattle.sg_kinds.specs.Specification.{attrs_of, is_inherited, rules_of, Occurrence, Rule}

@@ -2,6 +2,7 @@
 ghost use Rattle.std.specs.Prelude.{◌≡◌, IfOk};
 
 use crate::ids::RuleId;
+use crate::lexeme::{Lexeme, LexemeStep};
 use crate::memory::NoMemory;
 use crate::plans::{PlanStep, Plans};
 use crate::row::Row;
@@ -155,6 +156,33 @@ impl TryCopy for Transform {
             phylum: self.phylum,
             pattern: self.pattern.try_copy(alloc)?,
             expr: self.expr,
+        })
+    }
+}
+
+impl TryCopy for LexemeStep {
+    fn try_copy(&self, alloc: Global) -> Result<LexemeStep, NoMemory> {
+        match self {
+            LexemeStep::Nothing => Ok(LexemeStep::Nothing),
+            LexemeStep::Byte(b) => Ok(LexemeStep::Byte(*b)),
+            LexemeStep::Dot => Ok(LexemeStep::Dot),
+            LexemeStep::Class(negated, ranges) => Ok(LexemeStep::Class(
+                *negated,
+                ranges.copy(alloc)?,
+            )),
+            LexemeStep::Then => Ok(LexemeStep::Then),
+            LexemeStep::Either => Ok(LexemeStep::Either),
+            LexemeStep::Many => Ok(LexemeStep::Many),
+            LexemeStep::Several => Ok(LexemeStep::Several),
+            LexemeStep::Maybe => Ok(LexemeStep::Maybe),
+        }
+    }
+}
+
+impl TryCopy for Lexeme {
+    fn try_copy(&self, alloc: Global) -> Result<Lexeme, NoMemory> {
+        Ok(Lexeme {
+            steps: self.steps.try_copy(alloc)?,
         })
     }
 }

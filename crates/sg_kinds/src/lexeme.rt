@@ -1,28 +1,30 @@
 // Patterns of lexemes.
 use crate::row::Row;
-use std::boxed::Box;
 use std::marker::Model;
 
-/// The pattern of a lexeme phylum.
+/// The pattern of a lexeme phylum as steps in postfix order: each makes a pattern, of the one or the two made last where
+/// it joins. So a pattern as long as a text is copied and dropped by a loop.
 #[derive(Drop)]
 pub struct Lexeme {
-    pub tree: LexemeTree,
+    pub steps: Row<LexemeStep>,
 }
 
-#[cycle(lexeme)]
+/// A step of a pattern. A step that lacks what it joins does nothing, and no step at all is the empty pattern.
 #[derive(Drop)]
-pub enum LexemeTree {
+pub enum LexemeStep {
     Nothing,
     Byte(u8),
     /// any byte but 10
     Dot,
     /// the bytes in some range, or with true those in none
     Class(bool, Row<(u8, u8)>),
-    Then(Box<LexemeTree>, Box<LexemeTree>),
-    Either(Box<LexemeTree>, Box<LexemeTree>),
-    Many(Box<LexemeTree>),
-    Several(Box<LexemeTree>),
-    Maybe(Box<LexemeTree>),
+    /// the last but one and then the last
+    Then,
+    /// the last but one or the last
+    Either,
+    Many,
+    Several,
+    Maybe,
 }
 
 impl Model for Lexeme {
@@ -35,5 +37,5 @@ impl Model for Lexeme {
 
     ghost use Rattle.sg_kinds.specs.LexemeView.{lexeme_of};
 
-    ghost view = { λ l. lexeme_of l.tree };
+    ghost view = { λ l. lexeme_of l.steps };
 }

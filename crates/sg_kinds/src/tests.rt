@@ -1,6 +1,6 @@
 use crate::expr::{CaseList, Expr, ExprList, ExprTree};
 use crate::ids::{ExprId, OpId, PhylumId, RuleId, ValueId};
-use crate::lexeme::{Lexeme, LexemeTree};
+use crate::lexeme::{Lexeme, LexemeStep};
 use crate::marks::{ChildPlace, Made, Shape, Sign, Way};
 use crate::memory::NoMemory;
 use crate::pattern::{Literal, Pattern, PatternTree};
@@ -187,8 +187,11 @@ fn lists(alloc: Global) -> Result<Spec, NoMemory> {
     let mut ranges = Vec::new(alloc);
     ranges.push((48, 57))?;
     let mut lexemes = Vec::new(alloc);
+    let mut steps = Vec::new(alloc);
+    steps.push(LexemeStep::Class(false, Row::new(ranges)))?;
+    steps.push(LexemeStep::Several)?;
     lexemes.push(Lexeme {
-        tree: LexemeTree::Several(Box::new(alloc, LexemeTree::Class(false, Row::new(ranges)))?),
+        steps: Row::new(steps),
     })?;
     let mut right = Vec::new(alloc);
     right.push(Symbol::Quoted(Text::from_slice(alloc, b"+")?))?;

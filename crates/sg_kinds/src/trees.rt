@@ -2,11 +2,9 @@
 ghost use Rattle.std.specs.Prelude.{◌≡◌, IfOk};
 ghost use Rattle.sg_kinds.specs.PatternView.{literal_of, pattern_of, patterns_of};
 ghost use Rattle.sg_kinds.specs.ExprView.{expr_of, exprs_of, cases_of};
-ghost use Rattle.sg_kinds.specs.LexemeView.{lexeme_of};
 
 use crate::copy::TryCopy;
 use crate::expr::{CaseList, Expr, ExprList, ExprTree};
-use crate::lexeme::{Lexeme, LexemeTree};
 use crate::memory::NoMemory;
 use crate::pattern::{Literal, Pattern, PatternList, PatternTree};
 use std::alloc::Global;
@@ -58,41 +56,6 @@ impl PatternList {
 impl TryCopy for Pattern {
     fn try_copy(&self, alloc: Global) -> Result<Pattern, NoMemory> {
         Ok(Pattern {
-            tree: self.tree.copy(alloc)?,
-        })
-    }
-}
-
-impl LexemeTree {
-    fn copy(&self, alloc: Global) -> Result<LexemeTree, NoMemory>
-        ensures { IfOk result (λ c. lexeme_of c ≡ lexeme_of self.now) }
-    {
-        match self {
-            LexemeTree::Nothing => Ok(LexemeTree::Nothing),
-            LexemeTree::Byte(b) => Ok(LexemeTree::Byte(*b)),
-            LexemeTree::Dot => Ok(LexemeTree::Dot),
-            LexemeTree::Class(negated, ranges) => Ok(LexemeTree::Class(
-                *negated,
-                ranges.copy(alloc)?,
-            )),
-            LexemeTree::Then(a, b) => {
-                let a = Box::new(alloc, a.copy(alloc)?)?;
-                Ok(LexemeTree::Then(a, Box::new(alloc, b.copy(alloc)?)?))
-            }
-            LexemeTree::Either(a, b) => {
-                let a = Box::new(alloc, a.copy(alloc)?)?;
-                Ok(LexemeTree::Either(a, Box::new(alloc, b.copy(alloc)?)?))
-            }
-            LexemeTree::Many(a) => Ok(LexemeTree::Many(Box::new(alloc, a.copy(alloc)?)?)),
-            LexemeTree::Several(a) => Ok(LexemeTree::Several(Box::new(alloc, a.copy(alloc)?)?)),
-            LexemeTree::Maybe(a) => Ok(LexemeTree::Maybe(Box::new(alloc, a.copy(alloc)?)?)),
-        }
-    }
-}
-
-impl TryCopy for Lexeme {
-    fn try_copy(&self, alloc: Global) -> Result<Lexeme, NoMemory> {
-        Ok(Lexeme {
             tree: self.tree.copy(alloc)?,
         })
     }

@@ -1,4 +1,4 @@
-use Rattle.std.proofs.Common.{◌≡◌, ◌≤◌, sym, ◌∙◌, ap, arith}
+use Rattle.std.proofs.Common.{◌≤◌, ◌∙◌, ap, arith}
 use Rattle.sg_kinds.specs.ExprView.{expr_of}
 use Rattle.sg_kinds.specs.declared.expr.CaseList.{size-CaseList}
 use Rattle.sg_kinds.proofs.Arms.{arms_next, smaller_rest}
