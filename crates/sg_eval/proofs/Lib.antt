@@ -1,3 +1,10 @@
 pub mod Steps
 pub mod Bindings
 pub mod Settled
+pub mod Converted
+pub mod Forms
+pub mod Kept
+pub mod Matched
+pub mod Clipped
+pub mod TypeFacts
+pub mod OfTypes

@@ -1,15 +1,18 @@
 -- The outcome of an expression, from the answer to its evaluation.
-use Rattle.std.specs.Prelude.{◌≡◌, refl, ℕ, ◌<◌, List, [], ◌∷◌, length, map, Option, Some, None, slice_get, unwrap_or, All, IsTrue}
-use Rattle.std.proofs.Common.{sym, ◌∙◌, ap, subst}
+use Rattle.std.specs.Prelude.{◌≡◌, refl, ℕ, zero, suc, ◌+◌, ◌<◌, List, [], ◌∷◌, ◌++◌, length, map, take, Option, Some, None, slice_get, unwrap_or, All, IsTrue}
+use Rattle.std.proofs.Common.{sym, ◌∙◌, ap, subst, arith, get_or}
+use Rattle.std.proofs.lemmas.List.{map-append}
 use Rattle.sg_kinds.specs.Values.{Value}
 use Rattle.sg_kinds.specs.Expressions.{Expr}
 use Rattle.sg_kinds.specs.declared.spec.Spec.{Spec}
 use Rattle.sg_kinds.specs.Pools.{value_at, Stands, IsGrown}
 use Rattle.sg_kinds.specs.Evaluation.{untyped, outcome_in, value_within}
 use Rattle.sg_kinds.specs.Outcome.{outcome_of}
+use Rattle.sg_kinds.specs.PoolView.{AreBelow}
+use Rattle.sg_kinds.proofs.Kids.{take_more}
 use Rattle.sg_kinds.proofs.Grown.{map_stays}
 use Rattle.sg_kinds.proofs.Pooled.{below_all}
-use Rattle.sg_eval.specs.Lives.{is_settled, bound_in}
+use Rattle.sg_eval.specs.Lives.{is_settled, bound_in, clipped}
 
 -- a text or a tree of a pool stands at its number
 pub stands_settled : (pool : List Value) (k : ℕ) → IsTrue (is_settled (value_at pool k)) → Stands pool k (value_at pool k)
@@ -35,3 +38,19 @@ outcome_there spec e x bound h = rw h refl
 pub outcome_nowhere : (spec : Spec) (e : ℕ) (bound : List Value) → slice_get spec.exprs e ≡ None → outcome_of spec e bound ≡ untyped
 unfolding outcome_of
 outcome_nowhere spec e bound h = rw h refl
+
+-- numbers below a bound
+below_at : (n : ℕ) (ks : List ℕ) (i d : ℕ) → AreBelow n ks → i < length ks → get_or ks i d < n
+below_at n [] i d h l = absurd (omega arith)
+below_at n (k ∷ ks) zero d h l = h.0
+below_at n (k ∷ ks) (suc i) d h l = below_at n ks i d h.1 (omega (arith, l))
+
+pub all_below : (n : ℕ) (ks : List ℕ) → AreBelow n ks → All (λ k. k < n) ks
+all_below n ks h = λ i d l. below_at n ks i d h l
+
+-- one value more
+pub clipped_more : (vs : List Value) (i : ℕ) (v : Value) → i < length vs → v ≡ get_or vs i v → map clipped (take i vs) ++ clipped v ∷ [] ≡ map clipped (take (i + 1) vs)
+clipped_more vs i v l e = sym (ap (map clipped) (take_more vs i v l e) ∙ map-append clipped (take i vs) (v ∷ []))
+
+pub same_there : (pool : List Value) (k : ℕ) (v w : Value) → Stands pool k v → Stands pool k w → v ≡ w
+same_there pool k v w h g = let e : Some v ≡ Some w = sym h ∙ g in cc

@@ -1,3 +1,3 @@
 pub mod Journal
 pub mod Lives
-pub mod Sums
+pub mod Typed

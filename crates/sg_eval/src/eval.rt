@@ -1,22 +1,24 @@
 // The evaluation of an expression.
-ghost use Rattle.std.specs.Prelude.{◌≡◌, ℕ, ◌<◌, List, length, slice_get, unwrap_or, OnOk, All};
+ghost use Rattle.std.specs.Prelude.{◌≡◌, ℕ, [], List, length, slice_get, unwrap_or, OnOk, MatchResult};
 ghost use Rattle.sg_kinds.specs.Values.{Value};
-ghost use Rattle.sg_kinds.specs.Pools.{value_at, IsGrown};
+ghost use Rattle.sg_kinds.specs.Pools.{IsGrown};
 ghost use Rattle.sg_kinds.specs.PatternView.{literal_of};
-ghost use Rattle.sg_kinds.specs.ExprView.{expr_of};
-ghost use Rattle.sg_kinds.specs.Expressions.{Binary};
-ghost use Rattle.sg_kinds.specs.Evaluation.{Gives, untyped, value_within, step as step_of, limited, combined as combined_of};
-ghost use Rattle.sg_eval.specs.Lives.{value_in, AreKnown, bindings, bound_in, IsReached};
+ghost use Rattle.sg_kinds.specs.ExprView.{expr_of, exprs_of, cases_of};
+ghost use Rattle.sg_kinds.specs.Expressions.{Single, Binary, Logical, Cons, Choice, Apply, Call, Let, With};
+ghost use Rattle.sg_kinds.specs.Evaluation.{Gives, untyped, value_within, step as step_of, limited, made_value, row_reached, first_case};
+ghost use Rattle.sg_eval.specs.Lives.{value_in, AreKnown, bindings, bound_in, IsUsable, IsReached, AreReached, IsHalted, needs_second as needs_second_of};
 
 use crate::live::{Live, Stop};
-use sg_kinds::entry::Entry;
-use sg_kinds::expr::ExprTree;
-use sg_kinds::ids::ValueId;
-use sg_kinds::marks::{FaultKind, Sign};
+use crate::operators::{applied, combined};
+use crate::patterns::matches;
+use crate::texts::text;
+use crate::trees::{made, put, read, tree};
+use sg_kinds::expr::{CaseList, ExprList, ExprTree};
+use sg_kinds::ids::{OpId, PhylumId, ValueId};
+use sg_kinds::marks::{Connective, FaultKind, Made, Sign, Unary};
 use sg_kinds::pattern::Literal;
 use sg_kinds::pool::Pool;
 use sg_kinds::spec::Spec;
-use sg_kinds::value::{DEPTH_LIMIT, SIZE_LIMIT};
 use std::alloc::Global;
 
 /// What does not change while an expression or a function's body is evaluated. The first bindings are the arguments.
@@ -68,16 +70,44 @@ fn step(
     ensures grown { IsGrown pool.old pool.new }
 {
     match e {
-        ExprTree::Literal(literal) => constant(literal),
+        ExprTree::Literal(literal) => constant(scope.alloc, literal, pool),
         ExprTree::Named(k) => named(scope, env, *k, pool),
-        ExprTree::Binary(sign, a, b) => both(scope, *sign, a, b, env, room, fuel, pool),
-        _ => Err(Stop::NoMemory),
+        ExprTree::Made(kind, p) => made_of(scope, *kind, *p, pool),
+        ExprTree::Unary(f, a) => single(scope, *f, a, env, room, fuel, pool),
+        ExprTree::Binary(sign, a, b) => binary(scope, *sign, a, b, env, room, fuel, pool),
+        ExprTree::Logical(how, a, b) => logical(scope, *how, a, b, env, room, fuel, pool),
+        ExprTree::Cons(op, a, b) => cons(scope, *op, a, b, env, room, fuel, pool),
+        ExprTree::Choice(c, a, b) => choice(scope, c, a, b, env, room, fuel, pool),
+        ExprTree::Apply(op, parts) => apply(scope, *op, parts, env, room, fuel, pool),
+        ExprTree::Call(f, parts) => call(scope, *f, parts, env, room, fuel, pool),
+        ExprTree::Let(a, b) => bind(scope, a, b, env, room, fuel, pool),
+        ExprTree::With(a, cases) => with(scope, a, cases, env, room, fuel, pool),
     }
+}
+
+// a form with one operand
+#[cycle(eval)]
+fn single(
+    scope: &Scope,
+    f: Unary,
+    a: &ExprTree,
+    env: &mut Vec<Live>,
+    room: u32,
+    fuel: &mut u32,
+    pool: &mut Pool,
+) -> Result<Live, Stop>
+    requires { AreKnown (length pool.old) (bindings scope.now.args.now env.old.items) }
+    ensures value { (last : List Value) → IsGrown pool.new last → IsReached last result fuel.new (limited (step_of scope.now.spec.now (value_within scope.now.spec.now room) (Single f (expr_of a.now)) (bound_in last scope.now.args.now env.old.items) fuel.old)) }
+    ensures env { OnOk result (env.new.items ≡ env.old.items) }
+    ensures grown { IsGrown pool.old pool.new }
+{
+    let x = enter(scope, a, env, room, fuel, pool)?;
+    applied(scope.alloc, f, x, pool)
 }
 
 // an operator with two strict operands
 #[cycle(eval)]
-fn both(
+fn binary(
     scope: &Scope,
     sign: Sign,
     a: &ExprTree,
@@ -94,17 +124,257 @@ fn both(
 {
     let x = enter(scope, a, env, room, fuel, pool)?;
     let y = enter(scope, b, env, room, fuel, pool)?;
-    combined(sign, x, y)
+    combined(scope.alloc, sign, x, y, pool)
+}
+
+// `&&` and `||`
+#[cycle(eval)]
+fn logical(
+    scope: &Scope,
+    how: Connective,
+    a: &ExprTree,
+    b: &ExprTree,
+    env: &mut Vec<Live>,
+    room: u32,
+    fuel: &mut u32,
+    pool: &mut Pool,
+) -> Result<Live, Stop>
+    requires { AreKnown (length pool.old) (bindings scope.now.args.now env.old.items) }
+    ensures value { (last : List Value) → IsGrown pool.new last → IsReached last result fuel.new (limited (step_of scope.now.spec.now (value_within scope.now.spec.now room) (Logical how (expr_of a.now) (expr_of b.now)) (bound_in last scope.now.args.now env.old.items) fuel.old)) }
+    ensures env { OnOk result (env.new.items ≡ env.old.items) }
+    ensures grown { IsGrown pool.old pool.new }
+{
+    let x = enter(scope, a, env, room, fuel, pool)?;
+    let Live::Truth(first) = x else {
+        return Err(Stop::Fault(FaultKind::NoMatch));
+    };
+    if needs_second(how, first) {
+        enter(scope, b, env, room, fuel, pool)
+    } else {
+        Ok(x)
+    }
+}
+
+// whether the second operand decides
+fn needs_second(how: Connective, first: bool) -> bool
+    ensures { result ≡ needs_second_of how first }
+{
+    match how {
+        Connective::Both => first,
+        Connective::Either => !first,
+    }
+}
+
+// `::`
+#[cycle(eval)]
+fn cons(
+    scope: &Scope,
+    op: OpId,
+    a: &ExprTree,
+    b: &ExprTree,
+    env: &mut Vec<Live>,
+    room: u32,
+    fuel: &mut u32,
+    pool: &mut Pool,
+) -> Result<Live, Stop>
+    requires { AreKnown (length pool.old) (bindings scope.now.args.now env.old.items) }
+    ensures value { (last : List Value) → IsGrown pool.new last → IsReached last result fuel.new (limited (step_of scope.now.spec.now (value_within scope.now.spec.now room) (Cons op (expr_of a.now) (expr_of b.now)) (bound_in last scope.now.args.now env.old.items) fuel.old)) }
+    ensures env { OnOk result (env.new.items ≡ env.old.items) }
+    ensures grown { IsGrown pool.old pool.new }
+{
+    let x = enter(scope, a, env, room, fuel, pool)?;
+    let y = enter(scope, b, env, room, fuel, pool)?;
+    tree(scope.alloc, op, &[x, y], pool)
+}
+
+// `? :`
+#[cycle(eval)]
+fn choice(
+    scope: &Scope,
+    c: &ExprTree,
+    a: &ExprTree,
+    b: &ExprTree,
+    env: &mut Vec<Live>,
+    room: u32,
+    fuel: &mut u32,
+    pool: &mut Pool,
+) -> Result<Live, Stop>
+    requires { AreKnown (length pool.old) (bindings scope.now.args.now env.old.items) }
+    ensures value { (last : List Value) → IsGrown pool.new last → IsReached last result fuel.new (limited (step_of scope.now.spec.now (value_within scope.now.spec.now room) (Choice (expr_of c.now) (expr_of a.now) (expr_of b.now)) (bound_in last scope.now.args.now env.old.items) fuel.old)) }
+    ensures env { OnOk result (env.new.items ≡ env.old.items) }
+    ensures grown { IsGrown pool.old pool.new }
+{
+    let Live::Truth(chosen) = enter(scope, c, env, room, fuel, pool)? else {
+        return Err(Stop::Fault(FaultKind::NoMatch));
+    };
+    if chosen {
+        enter(scope, a, env, room, fuel, pool)
+    } else {
+        enter(scope, b, env, room, fuel, pool)
+    }
+}
+
+// an operator on its operands
+#[cycle(eval)]
+fn apply(
+    scope: &Scope,
+    op: OpId,
+    parts: &ExprList,
+    env: &mut Vec<Live>,
+    room: u32,
+    fuel: &mut u32,
+    pool: &mut Pool,
+) -> Result<Live, Stop>
+    requires { AreKnown (length pool.old) (bindings scope.now.args.now env.old.items) }
+    ensures value { (last : List Value) → IsGrown pool.new last → IsReached last result fuel.new (limited (step_of scope.now.spec.now (value_within scope.now.spec.now room) (Apply op (exprs_of parts.now)) (bound_in last scope.now.args.now env.old.items) fuel.old)) }
+    ensures env { OnOk result (env.new.items ≡ env.old.items) }
+    ensures grown { IsGrown pool.old pool.new }
+{
+    let kids = row(scope, parts, env, room, fuel, pool)?;
+    tree(scope.alloc, op, &kids, pool)
+}
+
+// a function on its arguments, whose body is evaluated inside the call
+#[cycle(eval)]
+fn call(
+    scope: &Scope,
+    f: u32,
+    parts: &ExprList,
+    env: &mut Vec<Live>,
+    room: u32,
+    fuel: &mut u32,
+    pool: &mut Pool,
+) -> Result<Live, Stop>
+    requires { AreKnown (length pool.old) (bindings scope.now.args.now env.old.items) }
+    ensures value { (last : List Value) → IsGrown pool.new last → IsReached last result fuel.new (limited (step_of scope.now.spec.now (value_within scope.now.spec.now room) (Call f (exprs_of parts.now)) (bound_in last scope.now.args.now env.old.items) fuel.old)) }
+    ensures env { OnOk result (env.new.items ≡ env.old.items) }
+    ensures grown { IsGrown pool.old pool.new }
+{
+    let mut args = row(scope, parts, env, room, fuel, pool)?;
+    let Some(function) = scope.spec.functions.place(f) else {
+        return Err(Stop::Fault(FaultKind::NoMatch));
+    };
+    let Some(body) = scope.spec.exprs.place(function.body.number) else {
+        return Err(Stop::Fault(FaultKind::NoMatch));
+    };
+    let inside = Scope {
+        alloc: scope.alloc,
+        spec: scope.spec,
+        args: &[],
+    };
+    enter(&inside, &body.tree, &mut args, room, fuel, pool)
+}
+
+// `let`
+#[cycle(eval)]
+fn bind(
+    scope: &Scope,
+    a: &ExprTree,
+    b: &ExprTree,
+    env: &mut Vec<Live>,
+    room: u32,
+    fuel: &mut u32,
+    pool: &mut Pool,
+) -> Result<Live, Stop>
+    requires { AreKnown (length pool.old) (bindings scope.now.args.now env.old.items) }
+    ensures value { (last : List Value) → IsGrown pool.new last → IsReached last result fuel.new (limited (step_of scope.now.spec.now (value_within scope.now.spec.now room) (Let (expr_of a.now) (expr_of b.now)) (bound_in last scope.now.args.now env.old.items) fuel.old)) }
+    ensures env { OnOk result (env.new.items ≡ env.old.items) }
+    ensures grown { IsGrown pool.old pool.new }
+{
+    let x = enter(scope, a, env, room, fuel, pool)?;
+    env.push(x)?;
+    let y = enter(scope, b, env, room, fuel, pool)?;
+    let _ = env.pop();
+    Ok(y)
+}
+
+// `with`
+#[cycle(eval)]
+fn with(
+    scope: &Scope,
+    a: &ExprTree,
+    cases: &CaseList,
+    env: &mut Vec<Live>,
+    room: u32,
+    fuel: &mut u32,
+    pool: &mut Pool,
+) -> Result<Live, Stop>
+    requires { AreKnown (length pool.old) (bindings scope.now.args.now env.old.items) }
+    ensures value { (last : List Value) → IsGrown pool.new last → IsReached last result fuel.new (limited (step_of scope.now.spec.now (value_within scope.now.spec.now room) (With (expr_of a.now) (cases_of cases.now)) (bound_in last scope.now.args.now env.old.items) fuel.old)) }
+    ensures env { OnOk result (env.new.items ≡ env.old.items) }
+    ensures grown { IsGrown pool.old pool.new }
+{
+    let x = enter(scope, a, env, room, fuel, pool)?;
+    first_match(scope, x, cases, env, room, fuel, pool)
+}
+
+// the first case whose pattern matches, else the default
+#[cycle(eval)]
+fn first_match(
+    scope: &Scope,
+    x: Live,
+    cases: &CaseList,
+    env: &mut Vec<Live>,
+    room: u32,
+    fuel: &mut u32,
+    pool: &mut Pool,
+) -> Result<Live, Stop>
+    requires usable { IsUsable pool.old x }
+    requires known { AreKnown (length pool.old) (bindings scope.now.args.now env.old.items) }
+    ensures value { (last : List Value) → IsGrown pool.new last → IsReached last result fuel.new (first_case scope.now.spec.now (value_within scope.now.spec.now room) (value_in last x) (cases_of cases.now) (bound_in last scope.now.args.now env.old.items) fuel.old) }
+    ensures env { OnOk result (env.new.items ≡ env.old.items) }
+    ensures grown { IsGrown pool.old pool.new }
+{
+    let count = env.len();
+    let mut rest = cases;
+    while let CaseList::More(pattern, e, next) = rest {
+        if matches(scope.alloc, scope.spec, &pattern.tree, x, pool, env)? {
+            let y = enter(scope, e, env, room, fuel, pool)?;
+            env.truncate(count);
+            return Ok(y);
+        }
+        env.truncate(count);
+        rest = next;
+    }
+    match rest {
+        CaseList::Default(e) => enter(scope, e, env, room, fuel, pool),
+        _ => Err(Stop::Fault(FaultKind::NoMatch)),
+    }
+}
+
+// the values of a row of expressions, from left to right
+#[cycle(eval)]
+fn row(
+    scope: &Scope,
+    parts: &ExprList,
+    env: &mut Vec<Live>,
+    room: u32,
+    fuel: &mut u32,
+    pool: &mut Pool,
+) -> Result<Vec<Live>, Stop>
+    requires { AreKnown (length pool.old) (bindings scope.now.args.now env.old.items) }
+    ensures value { (last : List Value) → IsGrown pool.new last → MatchResult result (λ v. AreReached last v.items fuel.new (row_reached (value_within scope.now.spec.now room) [] (exprs_of parts.now) (bound_in last scope.now.args.now env.old.items) fuel.old)) (λ s. IsHalted s fuel.new (row_reached (value_within scope.now.spec.now room) [] (exprs_of parts.now) (bound_in last scope.now.args.now env.old.items) fuel.old)) }
+    ensures env { OnOk result (env.new.items ≡ env.old.items) }
+    ensures grown { IsGrown pool.old pool.new }
+{
+    let mut values = Vec::new(scope.alloc);
+    let mut rest = parts;
+    while let ExprList::More(e, next) = rest {
+        values.push(enter(scope, e, env, room, fuel, pool)?)?;
+        rest = next;
+    }
+    Ok(values)
 }
 
 // a literal
-fn constant(literal: &Literal) -> Result<Live, Stop>
-    ensures { (last : List Value) (left : ℕ) → IsReached last result left (limited (Gives (literal_of literal.now) left)) }
+fn constant(alloc: Global, literal: &Literal, pool: &mut Pool) -> Result<Live, Stop>
+    ensures value { (last : List Value) (left : ℕ) → IsGrown pool.new last → IsReached last result left (limited (Gives (literal_of literal.now) left)) }
+    ensures grown { IsGrown pool.old pool.new }
 {
     match literal {
         Literal::Truth(b) => Ok(Live::Truth(*b)),
         Literal::Number(n) => Ok(Live::Number(*n)),
-        Literal::Text(_) => Err(Stop::NoMemory),
+        Literal::Text(bytes) => text(Vec::from_slice(alloc, bytes.as_slice())?, pool),
     }
 }
 
@@ -132,40 +402,16 @@ fn named(scope: &Scope, env: &[Live], k: u32, pool: &Pool) -> Result<Live, Stop>
     match binding(scope, env, k) {
         Some(Live::Truth(b)) => Ok(Live::Truth(b)),
         Some(Live::Number(n)) => Ok(Live::Number(n)),
-        Some(Live::Kept(number)) => read(pool, number),
+        Some(Live::Kept(number)) => read(ValueId { number }, pool),
         None => Err(Stop::Fault(FaultKind::NoMatch)),
     }
 }
 
-// the value of a number
-fn read(pool: &Pool, number: usize) -> Result<Live, Stop>
-    requires { number < length pool.now }
-    ensures { (last : List Value) (left : ℕ) → IsGrown pool.now last → IsReached last result left (limited (Gives (value_at last number) left)) }
+// `[p]` and `<p>`
+fn made_of(scope: &Scope, kind: Made, p: PhylumId, pool: &mut Pool) -> Result<Live, Stop>
+    ensures value { (last : List Value) (left : ℕ) → IsGrown pool.new last → IsReached last result left (limited (Gives (made_value scope.now.spec.now kind p) left)) }
+    ensures grown { IsGrown pool.old pool.new }
 {
-    let id = ValueId { number };
-    match pool.entry(id) {
-        Entry::Bool(b) => Ok(Live::Truth(*b)),
-        Entry::Int(n) => Ok(Live::Number(*n)),
-        Entry::Fault(kind) => Err(Stop::Fault(*kind)),
-        _ => {
-            if pool.size(id) <= SIZE_LIMIT as u64 && pool.depth(id) <= DEPTH_LIMIT {
-                Ok(Live::Kept(number))
-            } else {
-                Err(Stop::Fault(FaultKind::Size))
-            }
-        }
-    }
-}
-
-// a strict operator on its operands
-fn combined(sign: Sign, x: Live, y: Live) -> Result<Live, Stop>
-    ensures { (last : List Value) (left : ℕ) → IsReached last result left (limited (Gives (combined_of sign (value_in last x) (value_in last y)) left)) }
-{
-    match (sign, x, y) {
-        (Sign::Add, Live::Number(m), Live::Number(n)) => match m.checked_add(n) {
-            Some(sum) => Ok(Live::Number(sum)),
-            None => Err(Stop::Fault(FaultKind::Overflow)),
-        },
-        _ => Err(Stop::NoMemory),
-    }
+    let value = made(scope.alloc, scope.spec, kind, p)?;
+    put(&value, pool)
 }

@@ -4,9 +4,15 @@
 mod eval;
 mod evaluator;
 mod journal;
+pub mod laws;
 mod live;
+mod numbers;
+mod operators;
+mod patterns;
 #[cfg(test)]
 mod tests;
+mod texts;
+mod trees;
 
 pub use evaluator::Evaluator;
 pub use journal::{Instance, Journal};
