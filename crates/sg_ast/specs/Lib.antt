@@ -1,0 +1,12 @@
+pub mod Patterns
+pub mod Expressions
+pub mod Declarations
+pub mod Chains
+pub mod View
+pub mod Levels
+pub mod Spelling
+pub mod Grouped
+pub mod Readers
+pub mod Reading
+pub mod Spells
+pub mod FirstFault
