@@ -1,0 +1,12 @@
+use Rattle.std.proofs.Common.{◌≡◌, ◌-◌, length}
+use Rattle.sg_text.specs.declared.symbols.Symbol.TheVariants as sign
+use Rattle.sg_ast.specs.Readers.{is_sign, sees}
+use Rattle.sg_ast.specs.Reading.{scheme}
+use Rattle.sg_ast.specs.Readers.{more}
+use Rattle.sg_reader.specs.Left.{left_of}
+use Rattle.sg_reader.proofs.schemes.schemes_behind.Given as goal
+
+abbrev pub invariant-loop-turn : goal.invariant-loop-turn
+invariant-loop-turn l =
+    more (sees (is_sign sign.LeftBracket)) scheme (length (left_of l.fn.tokens)) l.fn.found.items (left_of l.fn.tokens)
+    ≡ more (sees (is_sign sign.LeftBracket)) scheme (l._turn-end - l._turn) l.found.items (left_of l.tokens)
