@@ -1,0 +1,15 @@
+pub mod Matching
+pub mod Marking
+pub mod Holding
+pub mod Flags
+pub mod LongestSoFar
+pub mod Answering
+pub mod LiteralTexts
+pub mod Trying
+pub mod InText
+pub mod Runs
+pub mod Spelt
+pub mod Forms
+pub mod Emitting
+pub mod Defaults
+pub mod Worked

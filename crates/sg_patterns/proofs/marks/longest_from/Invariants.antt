@@ -1,0 +1,7 @@
+use Rattle.sg_kinds.specs.Lexemes.{Lexeme}
+use Rattle.sg_patterns.specs.Programs.{IsProgram}
+use Rattle.sg_patterns.proofs.LongestSoFar.{Matched}
+use Rattle.sg_patterns.proofs.marks.longest_from.Given as goal
+
+abbrev pub invariant-loop-place : goal.invariant-loop-place
+invariant-loop-place l = (p : Lexeme) (h : IsProgram l.program p) → Matched l.text h.tree l.finals l.at l.place l.longest

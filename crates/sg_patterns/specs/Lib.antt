@@ -1,0 +1,11 @@
+pub mod Leaves
+pub mod Trees
+pub mod Programs
+pub mod Marks
+pub mod LongestMatch
+pub mod Lexemes
+pub mod Scan
+pub mod Kinds
+pub mod Spelling
+pub mod Machine
+pub mod Readers

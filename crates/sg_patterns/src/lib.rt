@@ -1,0 +1,19 @@
+//! Patterns of lexemes: their reading, the longest match at a place of a text, and the scanning of a whole text.
+#![tactic(auto)]
+
+mod kinds;
+mod lexemes;
+mod longest_match;
+mod marks;
+mod program;
+mod reader;
+mod reading;
+mod scanning;
+
+pub use lexemes::Lexemes;
+pub use longest_match::{longest, matches_empty};
+pub use reading::{PatternFault, read};
+pub use scanning::{InToken, ScanFault, scan};
+
+#[cfg(test)]
+mod tests;

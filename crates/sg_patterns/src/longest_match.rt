@@ -1,0 +1,103 @@
+//! The longest match at a place, over many patterns.
+ghost use Rattle.std.specs.Prelude.{◌≡◌, ◌+◌, ◌<◌, ◌^◌, ◌++◌, ◌↔◌, [], List, map, length, IfOk, IsTrue};
+ghost use Rattle.sg_kinds.specs.Lexemes as plain;
+ghost use Rattle.sg_kinds.specs.Matches.{Matches};
+ghost use Rattle.sg_patterns.specs.LongestMatch.{Terminal, Pattern, IsAnswer, len_of};
+ghost use Rattle.sg_patterns.specs.Programs.{ArePrograms, AreOrdered, HaveRoom};
+
+use crate::marks::longest_from;
+use crate::program::Program;
+use sg_kinds::lexeme::Lexeme;
+use sg_kinds::memory::NoMemory;
+use std::alloc::Global;
+
+/// The length of a match that was found, and 0 where none was.
+pub fn len_of(found: Option<(usize, usize)>) -> usize
+    ensures { result ≡ len_of found }
+{
+    match found {
+        Some((_, len)) => len,
+        None => 0,
+    }
+}
+
+/// The programs of patterns.
+pub fn programs_of(alloc: Global, all: &[Lexeme]) -> Result<Vec<Program>, NoMemory>
+    ensures { IfOk result (λ ps. ArePrograms ps.items all.now) }
+{
+    let mut programs = Vec::with_capacity(alloc, all.len())?;
+    for lexeme in all {
+        programs.push(Program::new(alloc, lexeme)?)?;
+    }
+    Ok(programs)
+}
+
+/// How many flags each of the programs needs at most.
+pub fn room_of(programs: &[Program]) -> usize
+    ensures { HaveRoom programs.now result }
+{
+    let mut room = 0;
+    for program in programs {
+        room = program.nodes.len().max(room);
+    }
+    room
+}
+
+/// The longest match at a place, where the best before the programs is known, and `number` terminals stand before them.
+pub fn longest_among(
+    programs: &[Program],
+    text: &[u8],
+    at: usize,
+    begins: &mut [bool],
+    finals: &mut [bool],
+    number: usize,
+    before: Option<(usize, usize)>,
+) -> Option<(usize, usize)>
+    requires ordered { AreOrdered programs.now }
+    requires begins_room { HaveRoom programs.now (length begins.old) }
+    requires finals_room { HaveRoom programs.now (length finals.old) }
+    requires few { number + length programs.now < 2 ^ 64 }
+    ensures { (ts : List Terminal) (ps : List plain.Lexeme) → length ts ≡ number → ArePrograms programs.now ps → IsAnswer ts text.now at before → IsAnswer (ts ++ map Pattern ps) text.now at result }
+{
+    let mut best = before;
+    for (k, program) in programs.iter().enumerate() {
+        let len = longest_from(program, text, at, begins, finals);
+        if len > len_of(best) {
+            best = Some((number + k, len));
+        }
+    }
+    best
+}
+
+/// The number of the pattern with the longest match at a place, the first of several, and the length of that match; None
+/// exactly where no pattern matches a byte. It costs at most the size of the patterns times the rest of the text.
+pub fn longest(
+    alloc: Global,
+    all: &[Lexeme],
+    text: &[u8],
+    at: usize,
+) -> Result<Option<(usize, usize)>, NoMemory>
+    ensures { IfOk result (λ found. IsAnswer (map Pattern all.now) text.now at found) }
+{
+    let programs = programs_of(alloc, all)?;
+    let room = room_of(programs.as_slice());
+    let mut begins = vec![in alloc; false; room]?;
+    let mut finals = vec![in alloc; false; room]?;
+    Ok(longest_among(
+        programs.as_slice(),
+        text,
+        at,
+        &mut begins,
+        &mut finals,
+        0,
+        None,
+    ))
+}
+
+/// Whether the pattern matches the empty text.
+pub fn matches_empty(alloc: Global, lexeme: &Lexeme) -> Result<bool, NoMemory>
+    ensures { IfOk result (λ empty. IsTrue empty ↔ Matches lexeme.now []) }
+{
+    let program = Program::new(alloc, lexeme)?;
+    Ok(program.matches_empty())
+}

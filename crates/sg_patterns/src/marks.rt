@@ -1,0 +1,113 @@
+//! Matching by marks: which leaves of a pattern end a match of what stands before them.
+ghost use Rattle.std.specs.Prelude.{◌≡◌, ℕ, ◌<◌, ◌≤◌, false, length, vec_len};
+ghost use Rattle.sg_kinds.specs.Lexemes as plain;
+ghost use Rattle.sg_patterns.specs.LongestMatch.{IsLength, Pattern};
+ghost use Rattle.sg_patterns.specs.Marks.{begin_value, HasBegins, final_value, HasFinalsTo, is_leaf, IsDead};
+ghost use Rattle.std.specs.Bool.{OnFalse};
+ghost use Rattle.sg_patterns.specs.Programs.{flag_at, IsOrdered, IsProgram};
+
+use crate::program::{Above, Node, Program, flag};
+
+/// Takes the first `count` flags down.
+fn clear(count: usize, flags: &mut [bool])
+    requires { count ≤ length flags.old }
+    ensures { (k : ℕ) → k < count → flag_at flags.new k ≡ false }
+{
+    for k in 0..count {
+        flags[k] = false;
+    }
+}
+
+/// Whether a match of the node k may begin, where that is known of the nodes behind it.
+fn begins_at(program: &Program, starts: bool, finals: &[bool], begins: &[bool], k: usize) -> bool
+    requires { k < vec_len program.now.above }
+    ensures { result ≡ begin_value program.now starts finals.now begins.now k }
+{
+    match program.above[k] {
+        Above::Top => starts,
+        Above::Same(node) => flag(begins, node),
+        Above::After(node, first) => (flag(begins, node) & flag(&program.empties, first))
+            | flag(finals, first),
+        Above::Again(node) => flag(begins, node) | flag(finals, k),
+    }
+}
+
+/// Says of each node whether a match of it may begin here, from the last node to the first.
+fn mark_begins(program: &Program, starts: bool, finals: &[bool], begins: &mut [bool])
+    requires ordered { IsOrdered program.now }
+    requires room { vec_len program.now.nodes ≤ length begins.old }
+    ensures { HasBegins program.now starts finals.now begins.new }
+{
+    let mut k = program.above.len();
+    while k > 0 {
+        k -= 1;
+        begins[k] = begins_at(program, starts, finals, begins, k);
+    }
+}
+
+/// Whether the node k is final after a byte, where that is known of its parts.
+fn final_at(program: &Program, byte: u8, begins: &[bool], finals: &[bool], k: usize) -> bool
+    requires { k < vec_len program.now.nodes }
+    ensures { result ≡ final_value program.now byte begins.now finals.now k }
+{
+    match &program.nodes[k] {
+        Node::Nothing => false,
+        Node::Leaf(leaf) => flag(begins, k) && leaf.passes(byte),
+        Node::Then(first, second) => (flag(finals, *first) & flag(&program.empties, *second))
+            | flag(finals, *second),
+        Node::Either(first, second) => flag(finals, *first) | flag(finals, *second),
+        Node::Over(part) => flag(finals, *part),
+    }
+}
+
+/// Whether the node is a leaf.
+fn is_leaf(node: &Node) -> bool
+    ensures { result ≡ is_leaf node.now }
+{
+    matches!(node, Node::Leaf(_))
+}
+
+/// Goes over a byte: says of each node whether a match of it ends behind the byte, from the first node to the last.
+/// Returns whether a leaf is marked.
+fn step(program: &Program, byte: u8, begins: &[bool], finals: &mut [bool]) -> bool
+    requires ordered { IsOrdered program.now }
+    requires room { vec_len program.now.nodes ≤ length finals.old }
+    ensures finals { HasFinalsTo program.now (vec_len program.now.nodes) byte begins.now finals.new }
+    ensures dead { OnFalse result (IsDead program.now (vec_len program.now.nodes) finals.new) }
+{
+    let mut alive = false;
+    for k in 0..program.nodes.len() {
+        let last = final_at(program, byte, begins, finals, k);
+        finals[k] = last;
+        alive = alive | (last & is_leaf(&program.nodes[k]));
+    }
+    alive
+}
+
+/// The length of the longest match from a place on that has a byte, or 0 where there is none. The flags are room for
+/// those of the program's nodes.
+pub fn longest_from(
+    program: &Program,
+    text: &[u8],
+    at: usize,
+    begins: &mut [bool],
+    finals: &mut [bool],
+) -> usize
+    requires ordered { IsOrdered program.now }
+    requires begins_room { vec_len program.now.nodes ≤ length begins.old }
+    requires finals_room { vec_len program.now.nodes ≤ length finals.old }
+    ensures { (p : plain.Lexeme) → IsProgram program.now p → IsLength (Pattern p) text.now at result }
+{
+    clear(program.nodes.len(), finals);
+    let mut longest = 0;
+    for place in at..text.len() {
+        mark_begins(program, place == at, finals, begins);
+        if !step(program, text[place], begins, finals) {
+            return longest;
+        }
+        if flag(finals, program.root) {
+            longest = place + 1 - at;
+        }
+    }
+    longest
+}
