@@ -1,0 +1,16 @@
+pub mod Below
+pub mod Numbers
+pub mod Framed
+pub mod Ranges
+pub mod Families
+pub mod Related
+pub mod Spreads
+pub mod Gathers
+pub mod Closed
+pub mod Directs
+pub mod Slotted
+pub mod Sound
+pub mod Whole
+pub mod RoundSteps
+pub mod Reports
+pub mod Saturated
