@@ -1,0 +1,14 @@
+pub mod NamesView
+pub mod View
+pub mod Walk
+pub mod Names
+pub mod TableView
+pub mod References
+pub mod Equations
+pub mod EquationsView
+pub mod Schemes
+pub mod WritingView
+pub mod Record
+pub mod FirstFault
+pub mod SpecOf
+pub mod Showable
