@@ -1,0 +1,8 @@
+pub mod Upwards
+pub mod Finds
+pub mod Shows
+pub mod Pages
+pub mod Rules
+pub mod Visits
+mod Worked
+pub mod Calc

@@ -1,0 +1,6 @@
+pub mod Cells
+pub mod Page
+pub mod FirstScreen
+pub mod Upward
+pub mod Found
+pub mod Calc

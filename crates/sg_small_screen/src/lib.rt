@@ -1,0 +1,12 @@
+//! The first screen of a small specification.
+#![tactic(auto)]
+
+mod cells;
+mod found;
+mod page;
+mod showing;
+#[cfg(test)]
+mod tests;
+mod visit;
+
+pub use showing::show;
