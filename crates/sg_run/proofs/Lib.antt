@@ -1,0 +1,7 @@
+pub mod Laws
+pub mod Endings
+pub mod Requests
+pub mod Opened
+pub mod Exits
+pub mod Fronts
+pub mod Worked

@@ -1,0 +1,20 @@
+// The text that ends a run.
+ghost use Rattle.sg_run.specs.Statuses.{IsEnd};
+ghost use Rattle.sg_run.specs.World.{sink_state};
+ghost use Rattle.sg_run.specs.Parts.{Finished};
+
+use crate::Status;
+use sg_outside::{Sink, SinkError};
+
+/// Puts the text that ends the run with that status. A put that is refused gives its own status in its place.
+pub fn finish<K: Sink>(sink: &mut K, text: &[u8], status: Status) -> Status
+    requires { IsEnd status }
+    ensures { Finished status text.now (sink_state (K.written sink.old) (K.faults sink.old) (K.puts sink.old)) result
+        (sink_state (K.written sink.new) (K.faults sink.new) (K.puts sink.new)) }
+{
+    match sink.put(text) {
+        Ok(()) => status,
+        Err(SinkError::Failed) => Status::SinkFault,
+        Err(SinkError::NoMemory) => Status::Memory,
+    }
+}

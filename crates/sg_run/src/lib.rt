@@ -1,0 +1,16 @@
+//! A whole run: from the words of the command line, over a shelf of files and a sink of bytes, to
+//! the blocks that are written and the status at the end.
+#![tactic(auto)]
+
+mod finishing;
+mod opening;
+mod playing;
+mod running;
+mod status;
+mod words;
+
+pub use running::{Outcome, run};
+pub use status::Status;
+
+#[cfg(test)]
+mod tests;
