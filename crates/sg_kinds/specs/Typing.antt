@@ -18,12 +18,12 @@ is_textual spec p = nat_eq p texts || has_shape spec.phyla is_lexical_shape p
 abbrev pub agree : Spec → ℕ → ℕ → Bool
 agree spec p q = nat_eq p q || (is_textual spec p && is_textual spec q)
 
--- a phylum that is there and is not WHITESPACE, which nothing uses
+-- a phylum that is there and is not the lexeme phylum WHITESPACE, which nothing uses
 abbrev pub whitespace : Bytes
 whitespace = 87 ∷ 72 ∷ 73 ∷ 84 ∷ 69 ∷ 83 ∷ 80 ∷ 65 ∷ 67 ∷ 69 ∷ []
 
 abbrev pub is_usable : Spec → ℕ → Bool
-is_usable spec p = unwrap_or (option_map (λ (x : Phylum). not (bytes_eq x.name whitespace)) (slice_get spec.phyla p)) false
+is_usable spec p = unwrap_or (option_map (λ (x : Phylum). not (is_lexical_shape x.shape && bytes_eq x.name whitespace)) (slice_get spec.phyla p)) false
 
 abbrev pub only_if : Bool → ℕ → Option ℕ
 only_if b p = cond b (Some p) None
