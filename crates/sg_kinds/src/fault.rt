@@ -65,12 +65,12 @@ pub enum PrintedVertex {
 #[derive(Drop)]
 pub enum SpecFault {
     TooLong,
-    /// a line, as in the next three
+    /// a line, as in the next four
     Byte(u32),
     Unclosed(u32),
     LongNumber(u32),
     LongName(u32),
-    Syntax(Position),
+    Syntax(u32),
     Limit(Counted, usize),
     Duplicate(Position, Text),
     UnknownName(Position, Text),

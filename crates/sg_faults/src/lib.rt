@@ -1,0 +1,11 @@
+//! The line as which a static fault is printed.
+#![tactic(auto)]
+
+mod cycle;
+mod grammar;
+mod line;
+#[cfg(test)]
+mod tests;
+mod words;
+
+pub use line::fault_line;
