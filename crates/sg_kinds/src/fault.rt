@@ -1,6 +1,11 @@
 // The static faults of a specification.
+ghost use Rattle.std.specs.Prelude.{◌≡◌};
+ghost use Rattle.sg_kinds.specs.declared.fault.SpecFault.TheVariants as fault;
+
+use crate::memory::NoMemory as OutOfMemory;
 use crate::row::Row;
 use crate::text::Text;
+use std::alloc::{AllocError, AllocFailed};
 
 /// A place in a specification: the number of a token, counted from 0, and its line, counted from 1.
 #[derive(Clone, Copy, PartialEq, Eq)]
@@ -103,4 +108,28 @@ pub enum SpecFault {
     /// the line of the first declaration that is not built yet
     Unbuilt(u32),
     NoMemory,
+}
+
+impl From<OutOfMemory> for SpecFault {
+    ghost from_gives = { λ _ e. e ≡ fault.NoMemory };
+
+    fn from(_: OutOfMemory) -> SpecFault {
+        SpecFault::NoMemory
+    }
+}
+
+impl From<AllocError> for SpecFault {
+    ghost from_gives = { λ _ e. e ≡ fault.NoMemory };
+
+    fn from(_: AllocError) -> SpecFault {
+        SpecFault::NoMemory
+    }
+}
+
+impl<T: Drop> From<AllocFailed<T>> for SpecFault {
+    ghost from_gives = { λ _ e. e ≡ fault.NoMemory };
+
+    fn from(_: AllocFailed<T>) -> SpecFault {
+        SpecFault::NoMemory
+    }
 }

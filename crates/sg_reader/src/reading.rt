@@ -53,6 +53,7 @@ fn each(alloc: Global, bytes: &[u8], tokens: &[Token]) -> Result<Vec<DeclTree>, 
 /// The trees of a text with these tokens: one for each of its declarations.
 pub fn read(alloc: Global, bytes: &[u8], tokens: &[Token]) -> Result<Vec<DeclTree>, ReadFault>
     requires short { length tokens.now < 2 ^ 32 }
+    ensures reading { Answers (λ ds. trees_of ds.items) (read_from 0 (declarations bytes.now tokens.now)) result }
     // Each tree is spelled by its declaration, and its places are those of the tokens.
     ensures found { IfOk result (λ ds. EachSpells (declarations bytes.now tokens.now) (trees_of ds.items)) }
     // Where trees spell all declarations, they are read, and no others.
