@@ -1,0 +1,8 @@
+use Rattle.std.proofs.Common.{◌≡◌, take}
+use Rattle.std.specs.List.{flat_map}
+use Rattle.sg_ast.specs.View.{trees_of}
+use Rattle.sg_counts.specs.Limits.{arities_of}
+use Rattle.sg_counts.proofs.limits.arities.Given as goal
+
+abbrev pub invariant-loop-decl : goal.invariant-loop-decl
+invariant-loop-decl l = l.found.items ≡ flat_map arities_of (trees_of (take l.decl-index l.decls))
