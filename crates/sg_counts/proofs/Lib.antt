@@ -1,3 +1,5 @@
 pub mod Seen
 pub mod Walks
 pub mod Names
+pub mod Clashing
+pub mod SameKeys

@@ -3,4 +3,6 @@
 #![tactic(auto)]
 
 mod crowds;
+mod definitions;
+pub mod duplicates;
 pub mod limits;

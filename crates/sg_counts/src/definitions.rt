@@ -1,0 +1,189 @@
+//! What declarations define, each at its token.
+ghost use Rattle.std.specs.Prelude.{◌≡◌, ◌++◌, flat_map, map, IfOk, OnOk};
+ghost use Rattle.sg_ast.specs.View.{tree_of, trees_of};
+ghost use Rattle.sg_counts.specs.Definitions as spec;
+ghost use Rattle.sg_counts.specs.declared.definitions.Form.TheVariants as form;
+ghost use Rattle.sg_counts.specs.Duplicates.{definitions_in, definitions_of, given, before_text, defined};
+ghost use Rattle.sg_counts.specs.DefinitionsView.{space_of, definition_of, seen_of};
+
+use sg_ast::decl::{Alt, AttrDecl, Decl};
+use sg_ast::name::{Name, Typed};
+use sg_kinds::fault::Position;
+use sg_kinds::memory::NoMemory;
+use std::alloc::Global;
+
+/// A space of names, in which a name is defined once, or its definitions add up.
+#[derive(Clone, Copy, PartialEq, Eq, PartialOrd, Ord)]
+pub(crate) enum Space<'a> {
+    /// Phyla, lexeme phyla and nonterminals.
+    Phyla,
+    /// Operators, functions and the builtins.
+    Callables,
+    /// What `list` and `optional` speak of.
+    Listings,
+    /// The attributes of an owner.
+    Attributes(&'a [u8]),
+    /// The locals of an operator of a phylum.
+    Locals(&'a [u8], &'a [u8]),
+    /// The operators of a phylum that have schemes, in the ordinary view or in that with a name.
+    Schemes(&'a [u8], Option<&'a [u8]>),
+}
+
+/// A name of a space.
+#[derive(Clone, Copy, PartialEq, Eq, PartialOrd, Ord)]
+pub(crate) struct Key<'a> {
+    pub space: Space<'a>,
+    pub name: &'a [u8],
+}
+
+/// How a name is defined.
+#[derive(Clone, Copy, PartialEq, Eq)]
+pub(crate) enum Form {
+    Operators,
+    Productions,
+    Alone,
+}
+
+/// A definition, and the place of its token.
+#[derive(Clone, Copy)]
+pub(crate) struct Definition<K> {
+    pub key: K,
+    pub form: Form,
+    pub place: Position,
+}
+
+/// The definition by a name's token.
+fn define<'a>(as_form: Form, space: Space<'a>, name: &'a Name) -> Definition<Key<'a>>
+    ensures { definition_of result ≡ defined as_form (space_of space.entry) name.now }
+{
+    Definition {
+        key: Key {
+            space,
+            name: name.text.as_slice(),
+        },
+        form: as_form,
+        place: name.place,
+    }
+}
+
+/// The definition of a name that is there before each text.
+fn give<'a>(space: Space<'a>, name: &'a [u8]) -> Definition<Key<'a>>
+    ensures { definition_of result ≡ before_text (space_of space.entry) name.now }
+{
+    Definition {
+        key: Key { space, name },
+        form: Form::Alone,
+        place: Position { token: 0, line: 0 },
+    }
+}
+
+/// Puts the operators of a phylum last.
+fn add_operators<'a>(found: &mut Vec<Definition<Key<'a>>>, alts: &'a [Alt]) -> Result<(), NoMemory>
+    ensures { OnOk result (seen_of found.new.items ≡ seen_of found.old.items ++ map (λ a. defined form.Alone spec.Callables a.name) alts.now) }
+{
+    for alt in alts {
+        found.push(define(Form::Alone, Space::Callables, &alt.name))?;
+    }
+    Ok(())
+}
+
+/// Puts the attributes of an owner last.
+fn add_attributes<'a>(
+    found: &mut Vec<Definition<Key<'a>>>,
+    owner: &'a Name,
+    attrs: &'a [AttrDecl],
+) -> Result<(), NoMemory>
+    ensures { OnOk result (seen_of found.new.items ≡ seen_of found.old.items ++ map (λ a. defined form.Alone (spec.Attributes owner.now.text) a.name) attrs.now) }
+{
+    for attr in attrs {
+        let space = Space::Attributes(owner.text.as_slice());
+        found.push(define(Form::Alone, space, &attr.name))?;
+    }
+    Ok(())
+}
+
+/// Puts the locals of an operator of a phylum last.
+fn add_locals<'a>(
+    found: &mut Vec<Definition<Key<'a>>>,
+    phylum: &'a Name,
+    op: &'a Name,
+    locals: &'a [Typed],
+) -> Result<(), NoMemory>
+    ensures { OnOk result (seen_of found.new.items ≡ seen_of found.old.items ++ map (λ l. defined form.Alone (spec.Locals phylum.now.text op.now.text) l.name) locals.now) }
+{
+    for local in locals {
+        let space = Space::Locals(phylum.text.as_slice(), op.text.as_slice());
+        found.push(define(Form::Alone, space, &local.name))?;
+    }
+    Ok(())
+}
+
+/// The space of the operators of a phylum that have schemes in a view.
+fn schemes_of<'a>(phylum: &'a Name, view: &'a Option<Name>) -> Space<'a>
+    ensures { space_of result ≡ spec.Schemes phylum.now.text (spec.view_name view.now) }
+{
+    match view {
+        Some(view) => Space::Schemes(phylum.text.as_slice(), Some(view.text.as_slice())),
+        None => Space::Schemes(phylum.text.as_slice(), None),
+    }
+}
+
+/// Puts what a declaration defines last.
+fn add<'a>(found: &mut Vec<Definition<Key<'a>>>, decl: &'a Decl) -> Result<(), NoMemory>
+    ensures { OnOk result (seen_of found.new.items ≡ seen_of found.old.items ++ definitions_of (tree_of decl.now)) }
+{
+    match decl {
+        Decl::Listed(phylum) | Decl::Optional(_, phylum) => {
+            found.push(define(Form::Alone, Space::Listings, phylum))?;
+        }
+        Decl::Operators(phylum, alts) => {
+            found.push(define(Form::Operators, Space::Phyla, phylum))?;
+            add_operators(found, alts.as_slice())?;
+        }
+        Decl::Lexeme(phylum, _) => found.push(define(Form::Alone, Space::Phyla, phylum))?,
+        Decl::Attributes(owner, attrs) => add_attributes(found, owner, attrs.as_slice())?,
+        Decl::Equations(phylum, op, locals, _) => {
+            add_locals(found, phylum, op, locals.as_slice())?;
+        }
+        Decl::Schemes(phylum, op, view, _) => {
+            found.push(define(Form::Alone, schemes_of(phylum, view), op))?;
+        }
+        Decl::Function(_, name, _, _) => {
+            found.push(define(Form::Alone, Space::Callables, name))?;
+        }
+        Decl::Productions(name, _) => {
+            found.push(define(Form::Productions, Space::Phyla, name))?;
+        }
+        Decl::Root(_) | Decl::Transform(..) | Decl::Entry(..) | Decl::Levels(..) => {}
+    }
+    Ok(())
+}
+
+/// The base phyla and the builtins.
+fn given<'a>(alloc: Global) -> Result<Vec<Definition<Key<'a>>>, NoMemory>
+    ensures { IfOk result (λ v. seen_of v.items ≡ given) }
+{
+    let mut found = Vec::new(alloc);
+    found.push(give(Space::Phyla, b"BOOL".as_slice()))?;
+    found.push(give(Space::Phyla, b"INT".as_slice()))?;
+    found.push(give(Space::Phyla, b"STR".as_slice()))?;
+    found.push(give(Space::Callables, b"STRtoINT".as_slice()))?;
+    found.push(give(Space::Callables, b"INTtoSTR".as_slice()))?;
+    found.push(give(Space::Callables, b"STRlen".as_slice()))?;
+    Ok(found)
+}
+
+/// What is defined before and by the declarations, in the order of the text.
+#[tactic(auto, using(crate::proofs::Walks::one_more))]
+pub(crate) fn definitions(
+    alloc: Global,
+    decls: &[Decl],
+) -> Result<Vec<Definition<Key<'_>>>, NoMemory>
+    ensures { IfOk result (λ v. seen_of v.items ≡ definitions_in (trees_of decls.now)) }
+{
+    let mut found = given(alloc)?;
+    for decl in decls {
+        add(&mut found, decl)?;
+    }
+    Ok(found)
+}
