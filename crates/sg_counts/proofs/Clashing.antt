@@ -1,8 +1,8 @@
 -- The last form of each name tells which definitions clash, as long as none does.
-use Rattle.std.proofs.Common.{◌≡◌, ℕ, suc, ◌+◌, ◌<◌, Bool, true, false, cond, not, ◌&&◌, ◌||◌, List, [], ◌∷◌, ◌++◌, length, take, drop, get_or, Option, Some, None, refl, sym, ap, ◌∙◌, arith, add-one}
+use Rattle.std.proofs.Common.{◌≡◌, ℕ, ◌+◌, ◌<◌, Bool, true, false, cond, not, ◌&&◌, ◌||◌, List, [], ◌∷◌, ◌++◌, length, take, drop, get_or, Option, Some, None, refl, sym, ap, ◌∙◌, add-one}
 use Rattle.std.specs.List.{list_any}
 use Rattle.std.specs.Cmp.{IsEquivalence}
-use Rattle.sg_ast.specs.FirstFault.{or_else, first_repeat, repeat_from}
+use Rattle.sg_ast.specs.FirstFault.{or_else, repeat_from}
 use Rattle.sg_kinds.proofs.Kids.{take_more, drop_more}
 use Rattle.sg_counts.specs.declared.definitions.Form.{Form}
 use Rattle.sg_counts.specs.declared.definitions.Form.TheVariants.{Operators, Productions, Alone}

@@ -1,5 +1,5 @@
 -- Keys that are equal by their order are the same.
-use Rattle.std.proofs.Common.{◌≡◌, ℕ, Bool, true, false, not, ◌&&◌, List, [], ◌∷◌, map, bytes_eq, nat_eq, Option, Some, None, option_map, slice_get, refl, sym, ap, ◌∙◌}
+use Rattle.std.proofs.Common.{◌≡◌, ℕ, true, false, not, ◌&&◌, List, [], bytes_eq, Some, None, option_map, slice_get, refl, ap, ◌∙◌}
 use Rattle.std.specs.Borrow.{Bor}
 use Rattle.std.specs.BTreeMap.{is_at}
 use Rattle.std.specs.Cmp.Lexicographic.{slice_cmp}
@@ -7,8 +7,7 @@ use Rattle.std.specs.Ordering.{nat_cmp, is_eq}
 use Rattle.std.specs.declared.cmp.Ordering.{Ordering}
 use Rattle.std.proofs.lemmas.Option.{slice_get-map}
 use Rattle.sg_ast.specs.FirstFault.{first_repeat}
-use Rattle.sg_counts.specs.Definitions as plain
-use Rattle.sg_counts.specs.Definitions.{is_same_key, is_same_space, is_same_view, clashes, adds_up}
+use Rattle.sg_counts.specs.Definitions.{is_same_key, is_same_space, clashes, adds_up}
 use Rattle.sg_counts.specs.DefinitionsView.{space_of, key_of, definition_of, seen_of}
 use Rattle.sg_counts.specs.declared.definitions.Space.{Space}
 use Rattle.sg_counts.specs.declared.definitions.Space.TheVariants.{Phyla, Callables, Listings, Attributes, Locals, Schemes}

@@ -1,5 +1,5 @@
 -- What is defined, and which definitions clash.
-use Rattle.std.specs.Prelude.{Bool, true, false, not, ◌&&◌, List, bytes_eq, Option, Some, None, option_map}
+use Rattle.std.specs.Prelude.{Bool, true, false, not, ◌&&◌, bytes_eq, Option, Some, None, option_map}
 use Rattle.sg_kinds.specs.Values.{Bytes}
 use Rattle.sg_ast.specs.declared.name.Name.{Name}
 use Rattle.sg_counts.specs.declared.definitions.Form.{Form}

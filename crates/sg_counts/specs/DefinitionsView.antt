@@ -1,5 +1,5 @@
 -- The definitions of the code, as those of the definitions here.
-use Rattle.std.specs.Prelude.{ℕ, List, map, Option, option_map}
+use Rattle.std.specs.Prelude.{ℕ, List, map, option_map}
 use Rattle.std.specs.Borrow.{Bor}
 use Rattle.sg_counts.specs.Definitions as plain
 use Rattle.sg_counts.specs.declared.definitions.Space.{Space}

@@ -1,5 +1,5 @@
 -- The counts of a specification that are over their limits.
-use Rattle.std.specs.Prelude.{ℕ, Bool, true, false, not, ◌&&◌, List, [], ◌∷◌, map, length, filter, flat_map, count_by, bytes_eq, Option, Some, None, option_map}
+use Rattle.std.specs.Prelude.{ℕ, Bool, true, false, not, ◌&&◌, List, [], ◌∷◌, map, length, filter, flat_map, count_by, bytes_eq, Option, option_map}
 use Rattle.std.specs.List.{list_any}
 use Rattle.sg_kinds.specs.Values.{Bytes}
 use Rattle.sg_kinds.specs.Sound.{base_names}

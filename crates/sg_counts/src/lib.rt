@@ -6,3 +6,5 @@ mod crowds;
 mod definitions;
 pub mod duplicates;
 pub mod limits;
+#[cfg(test)]
+mod tests;

@@ -1,5 +1,4 @@
 use Rattle.std.proofs.Common.{◌≡◌, ◌++◌, map, take}
-use Rattle.sg_ast.specs.declared.decl.Decl.TheVariants.{Attributes}
 use Rattle.sg_counts.specs.OwnersView.{names_of}
 use Rattle.sg_counts.proofs.limits.add_attributes.Given as goal
 
