@@ -1,12 +1,12 @@
 -- What a closed relation joins, and what paths join.
 use Rattle.std.specs.Prelude.{◌≡◌, ◌↔◌, ◌⊎◌, ℕ, Bool, List}
-use Rattle.std.proofs.Common.{sym, subst, inl, inr}
+use Rattle.std.proofs.Common.{subst, inl, inr}
 use Rattle.sg_sets.specs.Paths.{Path, IsTransitive}
 use Rattle.sg_sets.specs.Rows.{Holds}
 use Rattle.sg_sets.proofs.CloseLemmas.{Holds-path}
 use Rattle.sg_orders.specs.Frames.{Spot}
 use Rattle.sg_orders.specs.Induced.{relation_at}
-use Rattle.sg_orders.specs.Rounds.{IsMet, IsJoined}
+use Rattle.sg_orders.specs.Rounds.{IsJoined}
 
 pub record IsClosureOf (rows closed : List (List Bool)) : Type 0 where
   pub contains : (a b : ℕ) → Holds rows a b → Holds closed a b

@@ -1,7 +1,7 @@
 -- How the equations' pairs make the direct dependencies.
-use Rattle.std.specs.Prelude.{◌≡◌, ◌↔◌, ◌⊎◌, ℕ, zero, suc, ◌+◌, ◌<◌, ◌≤◌, ◌^◌, Bool, true, false, List, [], ◌∷◌, length, map, replicate, Option, None, Some, slice_get, option_map, unwrap_or, Contains, All}
+use Rattle.std.specs.Prelude.{◌≡◌, ◌↔◌, ◌⊎◌, ℕ, zero, suc, ◌+◌, ◌<◌, ◌≤◌, ◌^◌, Bool, true, false, List, [], length, map, replicate, None, Some, slice_get, option_map, unwrap_or, Contains, All}
 use Rattle.std.proofs.Common.{refl, sym, ◌∙◌, ap, subst, get_or, set, arith, inl, inr, length-set}
-use Rattle.std.proofs.lemmas.Bool.{cases_lt, cases_eq, false≢true}
+use Rattle.std.proofs.lemmas.Bool.{cases_lt, false≢true}
 use Rattle.std.proofs.lemmas.List.{get_or_default, get_or-map, get_or-replicate, get_or_past, length-map, length-replicate}
 use Rattle.std.proofs.lemmas.List.Elements.{Contains-get_or, All-contains}
 use Rattle.std.proofs.lemmas.Option.{slice_get_past, get_or_from_slice_get}
@@ -12,13 +12,13 @@ use Rattle.sg_kinds.specs.declared.spec.Rules.{Rules}
 use Rattle.sg_kinds.specs.declared.spec.Rule.{Rule}
 use Rattle.sg_kinds.specs.declared.spec.Operator.{Operator}
 use Rattle.sg_kinds.specs.declared.spec.Occurrence.{Occurrence}
-use Rattle.sg_kinds.specs.Specification.{args_of, locals_of}
+use Rattle.sg_kinds.specs.Specification.{locals_of}
 use Rattle.sg_kinds.specs.Instances.{attr_count}
 use Rattle.sg_kinds.specs.Dependencies.{phylum_there, Direct, occurrence}
 use Rattle.sg_kinds.specs.Visits.{vertex}
 use Rattle.sg_kinds.specs.ValidPlans.{vertices}
-use Rattle.sg_orders.specs.Vertices.{IsVertex, locals_there, AreInRange, Numbered, AreRowsOf}
-use Rattle.sg_orders.specs.Frames.{Frame, frame_of, frames_of, number_in, spots_of}
+use Rattle.sg_orders.specs.Vertices.{IsVertex, AreInRange, Numbered, AreRowsOf}
+use Rattle.sg_orders.specs.Frames.{Frame, frame_of, frames_of, number_in}
 use Rattle.sg_orders.specs.Induced.{relation_at}
 use Rattle.sg_orders.specs.Rounds.{no_pairs, IsNumberedBelow, IsNamed}
 use Rattle.sg_orders.proofs.Ranges.{vertices_small}

@@ -1,9 +1,8 @@
 -- Families of relations, of which one is replaced.
-use Rattle.std.specs.Prelude.{◌≡◌, ℕ, ◌<◌, ◌⊎◌, Bool, List, [], length}
-use Rattle.std.proofs.Common.{refl, sym, ap, ◌∙◌, subst, get_or, set, arith, inl, inr, length-set}
+use Rattle.std.specs.Prelude.{◌≡◌, ℕ, ◌<◌, Bool, List, [], length}
+use Rattle.std.proofs.Common.{refl, sym, ◌∙◌, subst, set, inl, inr, length-set}
 use Rattle.std.proofs.lemmas.Bool.{cases_eq}
 use Rattle.std.proofs.lemmas.List.{get_or-set_same, get_or-set_other}
-use Rattle.sg_sets.specs.Rows.{Holds}
 use Rattle.sg_orders.specs.Induced.{relation_at}
 use Rattle.sg_orders.specs.Rounds.{AreAlike}
 

@@ -1,5 +1,5 @@
 -- How the frame of an operator is put together.
-use Rattle.std.specs.Prelude.{◌≡◌, ℕ, zero, suc, ◌+◌, ◌<◌, ◌≤◌, ◌^◌, List, [], ◌∷◌, ◌++◌, map, length, Option, Some, None, slice_get, unwrap_or, option_map}
+use Rattle.std.specs.Prelude.{◌≡◌, ℕ, suc, ◌+◌, ◌<◌, ◌^◌, List, [], ◌∷◌, ◌++◌, map, length, Option, Some, slice_get, unwrap_or, option_map}
 use Rattle.std.proofs.Common.{refl, sym, ap, ◌∙◌, get_or, arith, add-one}
 use Rattle.std.proofs.lemmas.Option.{slice_get_read}
 use Rattle.sg_kinds.specs.declared.spec.Rules.{Rules}

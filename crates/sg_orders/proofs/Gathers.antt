@@ -1,5 +1,5 @@
 -- How the pairs of an operator's vertices are added to its phyla.
-use Rattle.std.specs.Prelude.{◌≡◌, ◌↔◌, ◌⊎◌, ℕ, ◌+◌, ◌<◌, ◌≤◌, Bool, true, false, cond, List, [], length, sum_by, Contains}
+use Rattle.std.specs.Prelude.{◌≡◌, ◌↔◌, ◌⊎◌, ℕ, ◌+◌, ◌<◌, ◌≤◌, Bool, true, false, cond, List, [], length, sum_by}
 use Rattle.std.specs.Bool.{OnFalse}
 use Rattle.std.proofs.Common.{refl, sym, ◌∙◌, ap, subst, get_or, set, arith, inl, inr}
 use Rattle.std.proofs.lemmas.Bool.{cases_lt}

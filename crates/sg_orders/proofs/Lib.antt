@@ -14,3 +14,12 @@ pub mod Whole
 pub mod RoundSteps
 pub mod Reports
 pub mod Saturated
+pub mod Rising
+pub mod Least
+pub mod Layered
+pub mod Unique
+pub mod Pushed
+pub mod Later
+pub mod Layerings
+pub mod Extends
+pub mod Refused

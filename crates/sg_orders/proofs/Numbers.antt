@@ -1,17 +1,17 @@
 -- The numbers of an operator's vertices.
-use Rattle.std.specs.Prelude.{◌≡◌, ℕ, zero, suc, ◌+◌, ◌-◌, ◌<◌, ◌≤◌, ◌^◌, ◌⊎◌, Bool, true, false, cond, ◌&&◌, nat_eq, nat_le, List, [], ◌∷◌, map, length, Option, Some, None, slice_get, unwrap_or}
-use Rattle.std.proofs.Common.{refl, sym, ap, ◌∙◌, subst, get_or, arith, inl, inr, leb}
+use Rattle.std.specs.Prelude.{◌≡◌, ℕ, zero, suc, ◌+◌, ◌-◌, ◌<◌, ◌≤◌, ◌⊎◌, cond, ◌&&◌, nat_eq, nat_le, length, Option, Some, None}
+use Rattle.std.proofs.Common.{refl, sym, ap, ◌∙◌, get_or, arith, inl, inr}
 use Rattle.std.proofs.lemmas.Bool.{cases_lt, cases_order, cond-true, cond-false, and_left, and_right, and_from, lt-leb, le-leb}
 use Rattle.std.proofs.lemmas.Option.{slice_get_past}
 use Rattle.std.proofs.Math.Dec.{eqb-suc-zero}
 use Rattle.sg_kinds.specs.declared.spec.Rules.{Rules}
 use Rattle.sg_kinds.specs.declared.spec.Occurrence.{Occurrence}
 use Rattle.sg_kinds.specs.Specification.{args_of, locals_of}
-use Rattle.sg_kinds.specs.Instances.{attr_count, below}
+use Rattle.sg_kinds.specs.Instances.{attr_count}
 use Rattle.sg_kinds.specs.Dependencies.{phylum_there, occurrence, IsAttr}
 use Rattle.sg_kinds.specs.Visits.{attrs_before, attrs_here, vertex}
 use Rattle.sg_kinds.specs.ValidPlans.{vertices}
-use Rattle.sg_orders.specs.Vertices.{IsVertex, locals_there}
+use Rattle.sg_orders.specs.Vertices.{IsVertex}
 use Rattle.sg_orders.specs.Frames.{Spot, Frame, spot_of, spots_of, frame_of, frames_of, no_spot, spot_at, number_in}
 use Rattle.sg_orders.proofs.Below.{get_or-map-below, length-map-below}
 

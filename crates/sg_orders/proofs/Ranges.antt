@@ -1,6 +1,6 @@
 -- What follows where the numbers of equations are in range.
-use Rattle.std.specs.Prelude.{◌≡◌, ℕ, zero, suc, ◌+◌, ◌*◌, ◌<◌, ◌≤◌, ◌^◌, List, [], length, Option, None, Some, slice_get, option_map, unwrap_or, All}
-use Rattle.std.proofs.Common.{refl, sym, ◌∙◌, ap, subst, get_or, arith, inl, inr}
+use Rattle.std.specs.Prelude.{◌≡◌, ℕ, zero, suc, ◌*◌, ◌<◌, ◌≤◌, ◌^◌, List, [], length, Option, None, Some, slice_get, option_map, unwrap_or, All}
+use Rattle.std.proofs.Common.{sym, ◌∙◌, ap, subst, get_or, arith, inl, inr}
 use Rattle.std.proofs.lemmas.Option.{slice_get_cases}
 use Rattle.sg_kinds.specs.declared.spec.Rules.{Rules}
 use Rattle.sg_kinds.specs.declared.spec.Phylum.{Phylum}
@@ -28,6 +28,9 @@ module _ (rules : Rules) (ranges : AreInRange rules) where
         let none : length (attrs_of rules.phyla X) ≡ 0 = ap (λ o. length (unwrap_or (option_map (λ (x : Phylum). x.attrs) o) [])) past.1 in
         omega (arith, none)
   ]
+
+  pub attrs_small : (X : ℕ) → length (attrs_of rules.phyla X) < 2 ^ 20
+  attrs_small X = let s = attr_count_small (Some X) in omega (arith, s)
 
   attrs_before_small : (p k : ℕ) → attrs_before rules p k ≤ k * 1048576
   attrs_before_small p zero = omega arith

@@ -1,6 +1,6 @@
 -- How one equation's pairs are added.
-use Rattle.std.specs.Prelude.{◌≡◌, ◌↔◌, ◌⊎◌, ℕ, ◌+◌, ◌<◌, Bool, List, length}
-use Rattle.std.proofs.Common.{sym, ◌∙◌, ap, subst, get_or, arith, inl, inr}
+use Rattle.std.specs.Prelude.{◌≡◌, ◌↔◌, ◌⊎◌, ℕ, ◌+◌, Bool, List}
+use Rattle.std.proofs.Common.{sym, ◌∙◌, ap, get_or, arith, inl, inr}
 use Rattle.std.proofs.lemmas.Bool.{cases_lt}
 use Rattle.sg_sets.specs.Rows.{Holds}
 use Rattle.sg_kinds.specs.declared.spec.Rule.{Rule}

@@ -1,6 +1,6 @@
 -- What the first cycle of rows of bits says of the relations that they hold.
-use Rattle.std.specs.Prelude.{◌≡◌, ◌↔◌, ◌⊎◌, ℕ, ◌<◌, Bool, List, [], ◌∷◌, length}
-use Rattle.std.proofs.Common.{sym, subst, arith}
+use Rattle.std.specs.Prelude.{◌≡◌, ℕ, ◌<◌, Bool, List, [], ◌∷◌, length}
+use Rattle.std.proofs.Common.{subst, arith}
 use Rattle.sg_sets.specs.Rows.{Holds}
 use Rattle.sg_sets.specs.Paths.{Path}
 use Rattle.sg_sets.specs.Cycles.{HasNoCycle}

@@ -1,16 +1,16 @@
 -- How a round goes over the operators.
-use Rattle.std.specs.Prelude.{◌≡◌, ◌↔◌, ◌⊎◌, ℕ, ◌+◌, ◌<◌, ◌≤◌, Bool, true, false, cond, List, [], length, sum_by, Contains, All}
+use Rattle.std.specs.Prelude.{◌≡◌, ◌↔◌, ◌⊎◌, ℕ, ◌+◌, ◌<◌, ◌≤◌, Bool, true, false, cond, List, length, sum_by, All}
 use Rattle.std.specs.Bool.{OnFalse}
-use Rattle.std.proofs.Common.{refl, sym, ◌∙◌, ap, subst, get_or, set, arith, inl, inr}
-use Rattle.std.proofs.lemmas.Bool.{cases_lt, cases_eq}
+use Rattle.std.proofs.Common.{sym, ◌∙◌, ap, subst, get_or, set, arith, inl, inr}
+use Rattle.std.proofs.lemmas.Bool.{cases_eq}
 use Rattle.sg_sets.specs.Rows.{Holds, all_missing}
 use Rattle.sg_sets.specs.Paths.{Path}
 use Rattle.sg_kinds.specs.declared.spec.Rules.{Rules}
 use Rattle.sg_kinds.specs.Dependencies.{InOperator}
 use Rattle.sg_orders.specs.Vertices.{AreInRange, Numbered}
-use Rattle.sg_orders.specs.Frames.{Spot, Frame, frames_of, spots_of, frame_of}
+use Rattle.sg_orders.specs.Frames.{Spot, Frame, frames_of, spots_of}
 use Rattle.sg_orders.specs.Induced.{relation_at}
-use Rattle.sg_orders.specs.Rounds.{Fits, IsSpread, IsJoined, IsPlaced, IsSettled, AreSound, AreAlike, AreFitting, AreSettled, StaySound, frame_at, no_frame}
+use Rattle.sg_orders.specs.Rounds.{Fits, IsSpread, IsJoined, IsSettled, AreSound, AreAlike, AreFitting, StaySound, frame_at, no_frame}
 use Rattle.sg_orders.proofs.Families.{at_same, at_other, at_each, alike_itself, alike_set}
 use Rattle.sg_orders.proofs.Numbers.{frame_there, frames_count}
 use Rattle.sg_orders.proofs.Sound.{spread_sound, joined_sound}

@@ -1,5 +1,5 @@
 -- The saturated relations are the dependencies.
-use Rattle.std.specs.Prelude.{◌≡◌, ◌↔◌, ℕ, zero, suc, ◌+◌, ◌<◌, ◌≤◌, ◌^◌, ◌∷◌, Bool, true, false, List, [], length, map, replicate, Option, None, Some, slice_get, option_map, unwrap_or, All}
+use Rattle.std.specs.Prelude.{◌≡◌, ℕ, zero, suc, ◌<◌, ◌∷◌, Bool, true, false, List, [], length, map, replicate, Option, Some, slice_get, option_map, unwrap_or}
 use Rattle.std.proofs.Common.{refl, sym, ◌∙◌, ap, subst, get_or, arith, inl, inr}
 use Rattle.std.proofs.lemmas.Bool.{cases_lt, false≢true}
 use Rattle.std.proofs.lemmas.List.{get_or_past, length-map, length-replicate}
@@ -15,7 +15,7 @@ use Rattle.sg_kinds.specs.Dependencies.{phylum_there, Direct, InOperator, direct
 use Rattle.sg_kinds.specs.Visits.{vertex}
 use Rattle.sg_kinds.specs.ValidPlans.{vertices}
 use Rattle.sg_orders.specs.Vertices.{AreInRange, Numbered, AreRowsOf}
-use Rattle.sg_orders.specs.Frames.{Spot, Frame, spot_of, spots_of, frame_of, frames_of}
+use Rattle.sg_orders.specs.Frames.{Frame, spot_of, spots_of, frames_of}
 use Rattle.sg_orders.specs.Induced.{relation_at, AreInduced, AreRowsOfPhylum}
 use Rattle.sg_orders.specs.Rounds.{no_pairs, Fits, IsSettled, AreSound, AreAlike, AreFitting, AreSettled, StaySound, frame_at, no_frame}
 use Rattle.sg_orders.specs.declared.dependencies.Dependencies.{Dependencies}
@@ -28,11 +28,19 @@ use Rattle.sg_orders.proofs.Whole.{phylum_whole, operator_whole}
 no_operator : Operator
 no_operator = record { name = []; phylum = 0; args = []; locals = []; schemes = [] }
 
+-- each phylum has a relation on its attributes
+pub record AreSized (rules : Rules) (phyla : List (List (List Bool))) : Type 0 where
+  pub count : length phyla ≡ length rules.phyla
+  pub sizes : (X : ℕ) → X < length rules.phyla → length (relation_at phyla X) ≡ length (attrs_of rules.phyla X)
+
 -- no attributes are related at first
 pub record AreBare (rules : Rules) (phyla : List (List (List Bool))) : Type 0 where
   pub count : length phyla ≡ length rules.phyla
   pub sizes : (X : ℕ) → length (relation_at phyla X) ≡ length (attrs_of rules.phyla X)
   pub none : (X a b : ℕ) → Holds (relation_at phyla X) a b → ⊥
+
+pub bare_sized : (rules : Rules) (phyla : List (List (List Bool))) → AreBare rules phyla → AreSized rules phyla
+bare_sized rules phyla bare = record { count = bare.count; sizes = λ X low. bare.sizes X }
 
 attrs_in : Option Phylum → ℕ
 attrs_in o = length (unwrap_or (option_map (λ (x : Phylum). x.attrs) o) [])
@@ -55,16 +63,16 @@ bare_phyla rules phyla made =
     }
 
 -- each occurrence's phylum and vertices are there
-spot_fits : (rules : Rules) → AreInRange rules → (p k size : ℕ) (phyla : List (List (List Bool))) → p < length rules.ops → k < suc (length (args_of rules.ops p)) → size ≡ vertices rules p → AreBare rules phyla → Fits size phyla (spot_of rules p k)
-spot_fits rules ranges p k size phyla op low long bare =
+spot_fits : (rules : Rules) → AreInRange rules → (p k size : ℕ) (phyla : List (List (List Bool))) → p < length rules.ops → k < suc (length (args_of rules.ops p)) → size ≡ vertices rules p → AreSized rules phyla → Fits size phyla (spot_of rules p k)
+spot_fits rules ranges p k size phyla op low long sized =
     let there = phylum_at_all rules p k op low in
     let attrs : attr_count rules (phylum_there rules p k) ≡ length (attrs_of rules.phyla there.0) = ap (attr_count rules) there.1 in
     let same : unwrap_or (phylum_there rules p k) 0 ≡ there.0 = ap (λ o. unwrap_or o 0) there.1 in
     let under = attrs_under rules p k low in
     let small = vertices_small rules ranges p in
     record {
-      phylum = let h = phylum_in rules ranges p k there.0 there.1 in let c = bare.count in omega (arith, h, c, same);
-      attrs = ap (λ X. length (relation_at phyla X)) same ∙ bare.sizes there.0 ∙ sym attrs;
+      phylum = let h = phylum_in rules ranges p k there.0 there.1 in let c = sized.count in omega (arith, h, c, same);
+      attrs = ap (λ X. length (relation_at phyla X)) same ∙ sized.sizes there.0 (phylum_in rules ranges p k there.0 there.1) ∙ sym attrs;
       room = omega (arith, under, long);
       small = omega (arith, under, small);
     }
@@ -73,15 +81,15 @@ spot_fits rules ranges p k size phyla op low long bare =
     phylum_at_all rules p zero op low = ((get_or rules.ops p no_operator).phylum, ap (option_map (λ (x : Operator). x.phylum)) (slice_get-get_or rules.ops p no_operator op))
     phylum_at_all rules p (suc k) op low = (get_or (args_of rules.ops p) k 0, slice_get-get_or (args_of rules.ops p) k 0 (omega (arith, low)))
 
-pub fitting_first : (rules : Rules) (frames : List Frame) (operators phyla : List (List (List Bool))) → AreInRange rules → frames ≡ frames_of rules → length operators ≡ length rules.ops → ((p : ℕ) → p < length rules.ops → length (relation_at operators p) ≡ vertices rules p) → AreBare rules phyla
+pub fitting_first : (rules : Rules) (frames : List Frame) (operators phyla : List (List (List Bool))) → AreInRange rules → frames ≡ frames_of rules → length operators ≡ length rules.ops → ((p : ℕ) → p < length rules.ops → length (relation_at operators p) ≡ vertices rules p) → AreSized rules phyla
     → AreFitting frames operators phyla
-fitting_first rules frames operators phyla ranges same long sizes bare = record {
+fitting_first rules frames operators phyla ranges same long sizes sized = record {
   count = omega (arith, long, ap length same, frames_count rules);
   fits = λ p low k d under.
       let op : p < length rules.ops = omega (arith, low, ap length same, frames_count rules) in
       let spots : (frame_at frames p).spots ≡ spots_of rules p = ap (λ (f : Frame). f.spots) (ap (λ fs. frame_at fs p) same ∙ frame_there rules p no_frame op) in
       let inside : k < suc (length (args_of rules.ops p)) = omega (arith, under, ap length spots, spots_count rules p) in
-      subst (Fits (length (relation_at operators p)) phyla) (sym (ap (λ xs. get_or xs k d) spots ∙ spot_there rules p k d inside)) (spot_fits rules ranges p k (length (relation_at operators p)) phyla op inside (sizes p op) bare);
+      subst (Fits (length (relation_at operators p)) phyla) (sym (ap (λ xs. get_or xs k d) spots ∙ spot_there rules p k d inside)) (spot_fits rules ranges p k (length (relation_at operators p)) phyla op inside (sizes p op) sized);
 }
 
 direct_wider : (rules : Rules) (p m n : ℕ) → Numbered rules p (Direct rules p) m n → Numbered rules p (InOperator rules p) m n

@@ -1,11 +1,10 @@
 -- The vertices of an operator by its record.
-use Rattle.std.specs.Prelude.{◌≡◌, ◌↔◌, ◌⊎◌, ℕ, zero, suc, ◌+◌, ◌-◌, ◌<◌, ◌≤◌, true, false, List, [], length, Option, None, Some, slice_get, option_map, unwrap_or}
-use Rattle.std.proofs.Common.{refl, sym, ◌∙◌, ap, subst, arith, inl, inr}
+use Rattle.std.specs.Prelude.{◌≡◌, ◌↔◌, ℕ, zero, suc, ◌+◌, ◌<◌, true, false, [], length, None, Some, slice_get, option_map, unwrap_or}
+use Rattle.std.proofs.Common.{sym, ◌∙◌, ap, subst, arith}
 use Rattle.std.proofs.lemmas.Bool.{false≢true}
 use Rattle.sg_kinds.specs.declared.spec.Rules.{Rules}
 use Rattle.sg_kinds.specs.declared.spec.Operator.{Operator}
 use Rattle.sg_kinds.specs.declared.spec.Occurrence.{Occurrence}
-use Rattle.sg_kinds.specs.Specification.{args_of, locals_of}
 use Rattle.sg_kinds.specs.Instances.{attr_count}
 use Rattle.sg_kinds.specs.Dependencies.{phylum_there}
 use Rattle.sg_orders.specs.Vertices.{IsVertex, locals_there}

@@ -1,6 +1,6 @@
 -- What a round adds is dependencies.
-use Rattle.std.specs.Prelude.{◌≡◌, ◌↔◌, ◌⊎◌, ℕ, zero, suc, ◌+◌, ◌<◌, Bool, List, [], ◌∷◌, length, Option, Some, unwrap_or, Contains}
-use Rattle.std.proofs.Common.{refl, sym, ◌∙◌, ap, subst, get_or, arith, inl, inr}
+use Rattle.std.specs.Prelude.{◌≡◌, ℕ, suc, ◌+◌, ◌<◌, Bool, List, [], ◌∷◌, length, Some, unwrap_or, Contains}
+use Rattle.std.proofs.Common.{sym, ◌∙◌, ap, subst, get_or, arith}
 use Rattle.std.proofs.lemmas.List.Elements.{All-contains}
 use Rattle.sg_sets.specs.Rows.{Holds}
 use Rattle.sg_sets.specs.Paths.{Leads, Path}
@@ -10,19 +10,19 @@ use Rattle.sg_kinds.specs.declared.spec.Occurrence.{Occurrence}
 use Rattle.sg_kinds.specs.Specification.{args_of}
 use Rattle.sg_kinds.specs.Instances.{attr_count}
 use Rattle.sg_kinds.specs.Dependencies.{phylum_there, IsAttr, occurrence, Direct, InOperator, Chain, InPhylum, direct, induced, one, more, joined}
-use Rattle.sg_kinds.specs.Visits.{attrs_before, vertex}
+use Rattle.sg_kinds.specs.Visits.{vertex}
 use Rattle.sg_orders.specs.Vertices.{IsVertex, AreInRange, Numbered}
 use Rattle.sg_orders.specs.Frames.{Spot, spot_of, spots_of}
 use Rattle.sg_orders.specs.Induced.{relation_at}
-use Rattle.sg_orders.specs.Rounds.{IsPlaced, IsMet, IsSpread, IsJoined}
-use Rattle.sg_orders.proofs.Numbers.{number_attr, some_attr, HasAttr, same_vertex, spot_there, spots_count}
+use Rattle.sg_orders.specs.Rounds.{IsSpread, IsJoined}
+use Rattle.sg_orders.proofs.Numbers.{number_attr, some_attr, same_vertex, spot_there, spots_count}
 
 -- what is related are vertices
 pub record AreVertices (rules : Rules) (p : ℕ) (u v : Occurrence) : Type 0 where
   pub from : IsVertex rules p u
   pub to : IsVertex rules p v
 
-attr_vertex : (rules : Rules) (p k X a : ℕ) → phylum_there rules p k ≡ Some X → IsAttr rules X a → IsVertex rules p (occurrence k a)
+pub attr_vertex : (rules : Rules) (p k X a : ℕ) → phylum_there rules p k ≡ Some X → IsAttr rules X a → IsVertex rules p (occurrence k a)
 attr_vertex rules p k X a is attr =
     let count : attr_count rules (phylum_there rules p k) ≡ attr_count rules (Some X) = ap (attr_count rules) is in
     omega (arith, count, attr)

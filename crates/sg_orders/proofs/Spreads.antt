@@ -1,10 +1,10 @@
 -- How a phylum's pairs are added at the occurrences of an operator.
-use Rattle.std.specs.Prelude.{◌≡◌, ◌↔◌, ◌⊎◌, ℕ, ◌+◌, ◌<◌, ◌≤◌, Bool, List, length, Contains}
+use Rattle.std.specs.Prelude.{◌≡◌, ◌↔◌, ◌⊎◌, ℕ, ◌+◌, ◌<◌, ◌≤◌, Bool, List, length}
 use Rattle.std.proofs.Common.{refl, sym, ◌∙◌, ap, subst, get_or, arith, inl, inr}
 use Rattle.std.proofs.lemmas.Bool.{cases_lt}
 use Rattle.std.proofs.lemmas.List.{get_or_default}
 use Rattle.sg_sets.specs.Rows.{Holds}
-use Rattle.sg_orders.specs.Frames.{Spot, no_spot, spot_at}
+use Rattle.sg_orders.specs.Frames.{Spot}
 use Rattle.sg_orders.specs.Induced.{relation_at}
 use Rattle.sg_orders.specs.Rounds.{IsPlaced, IsSpread}
 

@@ -1,26 +1,22 @@
 -- Where nothing is to be added, every dependency is there.
-use Rattle.std.specs.Prelude.{◌≡◌, ◌↔◌, ◌⊎◌, ℕ, zero, suc, ◌+◌, ◌<◌, ◌≤◌, Bool, List, [], ◌∷◌, length, Option, None, Some, slice_get, option_map, unwrap_or, Contains}
-use Rattle.std.proofs.Common.{refl, sym, ◌∙◌, ap, subst, get_or, arith, inl, inr}
-use Rattle.std.proofs.lemmas.Bool.{cases_lt}
-use Rattle.std.proofs.lemmas.Option.{slice_get_past}
+use Rattle.std.specs.Prelude.{◌≡◌, ℕ, suc, ◌+◌, ◌<◌, Bool, List, [], length, Some, unwrap_or, Contains}
+use Rattle.std.proofs.Common.{sym, ap, subst, arith}
 use Rattle.sg_sets.specs.Rows.{Holds}
 use Rattle.sg_sets.specs.Paths.{Path}
 use Rattle.sg_sets.proofs.PathsLemmas.{Path-append}
 use Rattle.sg_kinds.specs.declared.spec.Rules.{Rules}
-use Rattle.sg_kinds.specs.declared.spec.Operator.{Operator}
 use Rattle.sg_kinds.specs.declared.spec.Occurrence.{Occurrence}
 use Rattle.sg_kinds.specs.Specification.{args_of}
 use Rattle.sg_kinds.specs.Instances.{attr_count}
 use Rattle.sg_kinds.specs.Dependencies.{phylum_there, IsAttr, occurrence, Direct, InOperator, InPhylum, direct, induced}
 use Rattle.sg_kinds.specs.Visits.{attrs_before, vertex}
 use Rattle.sg_kinds.proofs.Least.{least_in_phylum}
-use Rattle.sg_orders.specs.Vertices.{IsVertex, AreInRange}
-use Rattle.sg_orders.specs.Frames.{Spot, spot_of, spots_of}
+use Rattle.sg_orders.specs.Vertices.{AreInRange}
+use Rattle.sg_orders.specs.Frames.{spot_of, spots_of}
 use Rattle.sg_orders.specs.Induced.{relation_at}
-use Rattle.sg_orders.specs.Rounds.{IsPlaced, IsMet, IsSpread, IsJoined, IsSettled}
+use Rattle.sg_orders.specs.Rounds.{IsSettled}
 use Rattle.sg_orders.proofs.Numbers.{number_attr, attr_there, spot_there, spots_count}
 use Rattle.sg_orders.proofs.Directs.{op_there}
-use Rattle.sg_orders.proofs.Sound.{operator_vertices, phylum_attrs}
 
 module _ (rules : Rules) (ranges : AreInRange rules) (operators phyla : List (List (List Bool)))
     (has_direct : (p : ℕ) (u v : Occurrence) → Direct rules p u v → Holds (relation_at operators p) (vertex rules p u) (vertex rules p v))

@@ -5,3 +5,7 @@ pub mod Induced
 pub mod Faults
 pub mod Frames
 pub mod Rounds
+pub mod StrictOrders
+pub mod LeastLayers
+pub mod Layerings
+pub mod Extensions

@@ -1,5 +1,5 @@
 -- The steps from the direct dependencies to all of them.
-use Rattle.std.specs.Prelude.{◌≡◌, ◌↔◌, ◌⊎◌, ℕ, ◌+◌, ◌<◌, ◌≤◌, ◌^◌, Bool, false, List, [], length, map, replicate, slice_index_or, Contains, All}
+use Rattle.std.specs.Prelude.{◌≡◌, ◌↔◌, ◌⊎◌, ℕ, ◌+◌, ◌<◌, ◌≤◌, ◌^◌, Bool, false, List, [], length, replicate, slice_index_or, Contains, All}
 use Rattle.sg_sets.specs.Rows.{Holds}
 use Rattle.sg_sets.specs.Paths.{Path}
 use Rattle.sg_sets.specs.Cycles.{HasNoCycle}
@@ -104,3 +104,8 @@ AreSettled frames operators phyla = (p : ℕ) → p < length frames → IsSettle
 -- dependencies stay so, for whatever equations these are the frames
 abbrev pub StaySound : List Frame → List (List (List Bool)) → List (List (List Bool)) → List (List (List Bool)) → List (List (List Bool)) → Type 0
 StaySound frames operators phyla new_operators new_phyla = (rules : Rules) → AreInRange rules → frames ≡ frames_of rules → AreSound rules operators phyla → AreSound rules new_operators new_phyla
+
+-- each operator's relation gains what the phyla relate at its spots
+pub record AreExtended (frames : List Frame) (operators new_operators phyla : List (List (List Bool))) : Type 0 where
+  pub alike : AreAlike operators new_operators
+  pub gains : (p m n : ℕ) → p < length frames → Holds (relation_at new_operators p) m n ↔ (Holds (relation_at operators p) m n ⊎ IsSpread (frame_at frames p).spots phyla m n)

@@ -14,6 +14,8 @@ pub enum OrderFault {
     Direct(OpId, Row<usize>),
     /// of the induced dependencies
     Induced(OpId, Row<usize>),
+    /// of the induced dependencies and those on all attributes of earlier evaluated layers
+    Ordered(OpId, Row<usize>),
     NoMemory,
 }
 

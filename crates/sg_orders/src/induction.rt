@@ -12,7 +12,7 @@ use crate::cycles::first_cycle;
 use crate::dependencies::Dependencies;
 use crate::direct::direct;
 use crate::fault::OrderFault;
-use crate::frame::{Frame, frames};
+use crate::frame::Frame;
 use crate::rounds::saturate;
 use sg_kinds::ids::OpId;
 use sg_kinds::memory::NoMemory;
@@ -24,18 +24,18 @@ use std::alloc::Global;
 /// and define, else the first that has one in its induced dependencies.
 ///
 /// The dependencies are induced by the rules of Kastens, "Ordered attributed grammars" (1980), from the direct ones.
-pub fn induce(alloc: Global, rules: &Rules) -> Result<Dependencies, OrderFault>
-    requires { AreInRange rules.now }
+pub fn induce(alloc: Global, rules: &Rules, frames: &[Frame]) -> Result<Dependencies, OrderFault>
+    requires range { AreInRange rules.now }
+    requires frames { frames.now ≡ frames_of rules.now }
     ensures exact { IfOk result (AreInduced rules.now) }
     ensures acyclic { OnOk result (AreAcyclic rules.now (InOperator rules.now)) }
     ensures fault { IfErr result (IsFault rules.now) }
 {
-    let frames = frames(alloc, rules)?;
-    let operators = direct(alloc, rules, &frames)?;
+    let operators = direct(alloc, rules, frames)?;
     if let Some(found) = first_cycle(alloc, &operators)? {
         return Err(OrderFault::Direct(operator_id(found.place), found.cycle));
     }
-    let induced = closed(alloc, rules, &frames, operators)?;
+    let induced = closed(alloc, rules, frames, operators)?;
     if let Some(found) = first_cycle(alloc, &induced.operators)? {
         return Err(OrderFault::Induced(operator_id(found.place), found.cycle));
     }
@@ -43,7 +43,7 @@ pub fn induce(alloc: Global, rules: &Rules) -> Result<Dependencies, OrderFault>
 }
 
 /// The operator at a place.
-fn operator_id(place: usize) -> OpId
+pub fn operator_id(place: usize) -> OpId
     requires { place < 2 ^ 32 }
     ensures { result ≡ place }
 {

@@ -90,7 +90,7 @@ fn gather(phylum: &mut Relation, spot: Spot, closed: &Relation) -> bool
 }
 
 /// Relates the vertices of an operator as its phyla relate their attributes.
-fn spread_all(relation: &mut Relation, spots: &[Spot], phyla: &[Relation])
+pub fn spread_all(relation: &mut Relation, spots: &[Spot], phyla: &[Relation])
     requires { All (Fits (length relation.old) phyla.now) spots.now }
     ensures spreads { (m n : ℕ) → Holds relation.new m n ↔ (Holds relation.old m n ⊎ IsSpread spots.now phyla.now m n) }
     ensures size { length relation.new ≡ length relation.old }

@@ -1,5 +1,5 @@
 //! Small languages, with the cycle that is reported where they have one.
-use super::{OrderFault, induce, is_in_range};
+use super::{OrderFault, is_in_range, order};
 use sg_kinds::ids::{ExprId, OpId, PhylumId};
 use sg_kinds::marks::{Shape, Way};
 use sg_kinds::memory::NoMemory;
@@ -28,13 +28,14 @@ enum Expected {
     Found,
     Direct(u32, &'static [usize]),
     Induced(u32, &'static [usize]),
+    Ordered(u32, &'static [usize]),
 }
 
 const I: Way = Way::Inherited;
 
 const S: Way = Way::Synthesized;
 
-const LANGUAGES: [Language; 8] = [
+const LANGUAGES: [Language; 9] = [
     // no operator at all
     Language {
         phyla: &[&[S]],
@@ -63,6 +64,20 @@ const LANGUAGES: [Language; 8] = [
             (1, (0, 2), &[(0, 0)]),
             (1, (0, 3), &[(0, 1)]),
             (0, (1, 0), &[(2, 2)]),
+            (0, (1, 1), &[]),
+            (0, (2, 0), &[]),
+            (0, (2, 1), &[(1, 3)]),
+        ],
+        expected: Expected::Ordered(0, &[0, 3, 5, 6]),
+    },
+    // the same, where one of the two ways is cut
+    Language {
+        phyla: &[&[], &[I, I, S, S]],
+        ops: &[(0, &[1, 1], 0), (1, &[], 0)],
+        equations: &[
+            (1, (0, 2), &[(0, 0)]),
+            (1, (0, 3), &[(0, 1)]),
+            (0, (1, 0), &[]),
             (0, (1, 1), &[]),
             (0, (2, 0), &[]),
             (0, (2, 1), &[(1, 3)]),
@@ -224,6 +239,9 @@ fn is_expected(fault: &OrderFault, expected: &Expected) -> bool {
         (OrderFault::Induced(op, cycle), Expected::Induced(place, vertices)) => {
             is_cycle(op, cycle, *place, vertices)
         }
+        (OrderFault::Ordered(op, cycle), Expected::Ordered(place, vertices)) => {
+            is_cycle(op, cycle, *place, vertices)
+        }
         _ => false,
     }
 }
@@ -233,7 +251,7 @@ fn languages_with_their_cycles(rt: HostRuntime) -> Result<(), Fail> {
     for (k, language) in LANGUAGES.iter().enumerate() {
         let rules = record_of(rt.alloc(), language)?;
         assert!(rt; is_in_range(&rules), "language {k}");
-        match induce(rt.alloc(), &rules) {
+        match order(rt.alloc(), &rules) {
             Ok(_) => assert!(rt;
                 matches!(language.expected, Expected::Found),
                 "language {k}"

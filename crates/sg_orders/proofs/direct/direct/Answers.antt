@@ -1,9 +1,5 @@
-use Rattle.std.specs.Prelude.{◌≡◌, ◌<◌, ◌^◌, length, All}
-use Rattle.std.proofs.Common.{sym, ap, ◌∙◌, subst, get_or, arith, rules}
-use Rattle.std.proofs.lemmas.List.{get_or_default}
-use Rattle.sg_kinds.specs.ValidPlans.{vertices}
-use Rattle.sg_orders.specs.Frames.{frame_of}
-use Rattle.sg_orders.specs.Rounds.{IsNumberedBelow}
+use Rattle.std.specs.Prelude.{◌<◌, length}
+use Rattle.std.proofs.Common.{ap, arith, rules}
 use Rattle.sg_orders.proofs.Numbers.{frames_count}
 use Rattle.sg_orders.proofs.Directs.{direct_none, direct_all, at_rule, at_step, target_below, args_below, step_more}
 use Rattle.sg_orders.proofs.direct.direct.Goals as goal

@@ -1,4 +1,4 @@
-use Rattle.std.proofs.Common.{◌≡◌, ◌∙◌, ap, get_or}
+use Rattle.std.proofs.Common.{◌∙◌, ap, get_or}
 use Rattle.std.proofs.lemmas.List.{get_or_default}
 use Rattle.sg_orders.specs.Frames.{number_in}
 use Rattle.sg_orders.proofs.Related.{named_more}

@@ -1,17 +1,16 @@
-use Rattle.std.specs.Prelude.{◌≡◌, ℕ, ◌<◌, List, Bool, length}
+use Rattle.std.specs.Prelude.{ℕ, ◌<◌, length}
 use Rattle.std.proofs.Common.{sym, ap, ◌∙◌, subst}
 use Rattle.std.proofs.lemmas.List.{with_items_is}
 use Rattle.sg_orders.specs.Induced.{relation_at}
 use Rattle.sg_kinds.specs.Dependencies.{Direct}
-use Rattle.sg_kinds.specs.ValidPlans.{vertices}
 use Rattle.sg_orders.specs.Vertices.{AreRowsOf}
 use Rattle.sg_orders.specs.Rounds.{AreFitting}
-use Rattle.sg_orders.proofs.Saturated.{AreBare, AreSaturated, bare_phyla, fitting_first, induced_all, induced_of}
+use Rattle.sg_orders.proofs.Saturated.{AreBare, AreSaturated, bare_phyla, bare_sized, fitting_first, induced_all, induced_of}
 use Rattle.sg_orders.proofs.induction.closed.Goals as goal
 
 pub saturate-requires : goal.saturate-requires
 saturate-requires c =
-    let fit = fitting_first c.args.rules.now c.args.frames.now c.args.operators.items c.in_ok-phyla.phyla.items c.requires.rules c.requires.frames c.requires.count (λ p low. (c.requires.direct p low).size) (bare_phyla c.args.rules.now c.in_ok-phyla.phyla.items c.in_ok-phyla.ensures) in
+    let fit = fitting_first c.args.rules.now c.args.frames.now c.args.operators.items c.in_ok-phyla.phyla.items c.requires.rules c.requires.frames c.requires.count (λ p low. (c.requires.direct p low).size) (bare_sized c.args.rules.now c.in_ok-phyla.phyla.items (bare_phyla c.args.rules.now c.in_ok-phyla.phyla.items c.in_ok-phyla.ensures)) in
     subst (λ xs. AreFitting c.args.frames.now xs c.as_mut_slice-2.result.now) (sym c.as_mut_slice.ensures.value) (subst (λ xs. AreFitting c.args.frames.now c.args.operators.items xs) (sym c.as_mut_slice-2.ensures.value) fit)
 
 pub returns : goal.returns

@@ -1,5 +1,5 @@
 use Rattle.std.specs.Prelude.{◌≡◌, ◌↔◌, ◌⊎◌, ℕ, ◌+◌, ◌<◌, ◌≤◌, [], length, slice_set}
-use Rattle.std.proofs.Common.{refl, sym, ap, ◌∙◌, subst, get_or, arith}
+use Rattle.std.proofs.Common.{refl, ap, ◌∙◌, subst, get_or, arith}
 use Rattle.std.proofs.lemmas.List.{get_or_default}
 use Rattle.sg_sets.specs.Rows.{Holds, all_missing}
 use Rattle.sg_orders.specs.Frames.{Spot, no_spot}

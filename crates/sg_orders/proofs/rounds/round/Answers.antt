@@ -1,4 +1,4 @@
-use Rattle.std.specs.Prelude.{◌≡◌, ◌↔◌, ◌⊎◌, ℕ, ◌<◌, [], true, false, length, All}
+use Rattle.std.specs.Prelude.{◌≡◌, ◌↔◌, ◌⊎◌, ℕ, ◌<◌, [], length, All}
 use Rattle.std.proofs.Common.{sym, ap, ◌∙◌, subst, get_or, arith}
 use Rattle.std.proofs.lemmas.List.{get_or_default}
 use Rattle.sg_sets.specs.Paths.{Path}

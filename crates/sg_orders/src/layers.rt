@@ -1,0 +1,79 @@
+//! The layers of a phylum's attributes.
+ghost use Rattle.std.specs.Prelude.{◌≡◌, ℕ, ◌+◌, ◌*◌, ◌%◌, ◌<◌, ◌≤◌, ◌^◌, nat_eq, length, slice_index, IfOk};
+ghost use Rattle.sg_sets.specs.Rows.{Holds};
+ghost use Rattle.sg_kinds.specs.Specification.{is_way_inherited};
+ghost use Rattle.sg_orders.specs.LeastLayers.{AreLeastLayers};
+ghost use Rattle.sg_orders.specs.StrictOrders.{IsStrictOrder, all_predecessors};
+
+use sg_kinds::marks::Way;
+use sg_kinds::memory::NoMemory;
+use sg_kinds::spec::Attr;
+use sg_sets::Relation;
+use std::alloc::Global;
+
+/// Returns the layer of each attribute under a relation that holds what follows from it: synthesized attributes have odd
+/// layers and inherited ones even layers, and each is as low as those of the attributes that depend on it allow.
+pub fn layers(alloc: Global, attrs: &[Attr], relation: &Relation) -> Result<Vec<usize>, NoMemory>
+    requires size { length relation.now ≡ length attrs.now }
+    requires few { length attrs.now < 2 ^ 32 }
+    requires order { IsStrictOrder relation.now }
+    ensures { IfOk result (λ v. AreLeastLayers attrs.now relation.now v.items) }
+{
+    let before = predecessors(alloc, relation)?;
+    let count = attrs.len();
+    let mut layers = vec![in alloc; 0usize; count]?;
+    for passed in 0..count {
+        let rank = count - 1 - passed;
+        for a in 0..count {
+            if before[a] == rank {
+                let low = greatest_after(relation, a, layers.as_slice());
+                layers[a] = layer_from(attrs[a].way, low);
+            }
+        }
+    }
+    Ok(layers)
+}
+
+/// How many vertices are related to each.
+pub fn predecessors(alloc: Global, relation: &Relation) -> Result<Vec<usize>, NoMemory>
+    ensures { IfOk result (λ v. v.items ≡ all_predecessors relation.now) }
+{
+    let mut counts = Vec::new(alloc);
+    for b in 0..relation.size() {
+        counts.push(relation.predecessors(b))?;
+    }
+    Ok(counts)
+}
+
+/// The greatest layer of the attributes to which one is related.
+fn greatest_after(relation: &Relation, a: usize, layers: &[usize]) -> usize
+    requires { length relation.now ≡ length layers.now }
+    ensures above { (b : ℕ) → Holds relation.now a b → slice_index layers.now b ≤ result }
+    ensures least { (m : ℕ) → ((b : ℕ) → Holds relation.now a b → slice_index layers.now b ≤ m) → result ≤ m }
+{
+    let mut greatest = 0;
+    for b in 0..layers.len() {
+        if relation.holds(a, b) {
+            greatest = greatest.max(layers[b]);
+        }
+    }
+    greatest
+}
+
+/// The least layer of an attribute's kind that is not below another one.
+fn layer_from(way: Way, low: usize) -> usize
+    requires { low < 2 ^ 63 }
+    ensures positive { 1 ≤ result }
+    ensures kind { is_way_inherited way ≡ nat_eq (result % 2) 0 }
+    ensures above { low ≤ result }
+    ensures least { (m : ℕ) → 1 ≤ m → is_way_inherited way ≡ nat_eq (m % 2) 0 → low ≤ m → result ≤ m }
+    ensures near { result ≤ low + 2 }
+{
+    match way {
+        Way::Synthesized => low + (low + 1) % 2,
+        Way::Inherited => {
+            let low = low.max(1);
+            low + low % 2
+        }
+    }
+}
