@@ -3,4 +3,8 @@
 
 mod grammar;
 
+mod named;
+mod numbering;
+
 pub use grammar::{Grammar, Made, Production};
+pub use numbering::make;

@@ -1,0 +1,211 @@
+//! The grammar of a specification.
+ghost use Rattle.std.specs.Prelude.{◌≡◌, ◌+◌, ◌≤◌, ◌<◌, ◌^◌, ℕ, map, length, bytes_eq, IfOk, OnOk};
+ghost use Rattle.std.specs.List.{position_or_len};
+ghost use Rattle.sg_patterns.specs.Lexemes.{with_text, literals_in, literals_of};
+ghost use Rattle.sg_grammar.specs.Numbered.{first_literal, first_lexeme, first_nonterminal, lexeme_number, symbol_number, rule_of, starts_of, grammar_of, start_of};
+
+use crate::grammar::{Grammar, MOST, Made, Production};
+use crate::named::{named_by, named_over};
+use indexmap::IndexSet;
+use sg_kinds::marks::Shape;
+use sg_kinds::memory::NoMemory;
+use sg_kinds::row::Row;
+use sg_kinds::spec::{Entry, Phylum, Production as Written, Spec, Symbol};
+use std::alloc::Global;
+
+/// The literals of a specification, by first occurrence.
+#[derive(Drop)]
+struct Numbering<'a> {
+    spec: &'a Spec,
+    literals: IndexSet<Vec<u8>>,
+    ghost known: { map (λ v. v.items) literals.keys ≡ literals_of spec.now.productions },
+    ghost few: { (length spec.now.entries ≤ 2 ^ 30) × (length literals.keys ≤ 2 ^ 30) × (length spec.now.lexemes ≤ 2 ^ 30) },
+}
+
+/// The number, where it is one of a symbol.
+fn number(n: usize) -> Result<u32, NoMemory>
+    ensures { IfOk result (λ m. m ≡ n) }
+{
+    if n <= u32::MAX as usize {
+        Ok(n as u32)
+    } else {
+        Err(NoMemory)
+    }
+}
+
+/// Puts a text behind the others, unless it is among them.
+fn add(literals: &mut IndexSet<Vec<u8>>, text: Vec<u8>) -> Result<(), NoMemory>
+    ensures { OnOk result (map (λ v. v.items) literals.new.keys ≡ with_text (map (λ v. v.items) literals.old.keys) text.items) }
+{
+    literals.insert(text)?;
+    Ok(())
+}
+
+/// The place of a text among the others, or their number where it is not among them.
+fn place_of(literals: &IndexSet<Vec<u8>>, text: &[u8]) -> usize
+    ensures place { result ≡ position_or_len (bytes_eq text.now) (map (λ v. v.items) literals.now.keys) }
+    ensures within { result ≤ length literals.now.keys }
+{
+    match literals.get_index_of(text) {
+        Some(place) => place,
+        None => literals.len(),
+    }
+}
+
+/// Puts the literals of symbols behind those that were found.
+fn add_all(alloc: Global, literals: &mut IndexSet<Vec<u8>>, symbols: &[Symbol]) -> Result<(), NoMemory>
+    ensures { OnOk result (map (λ v. v.items) literals.new.keys ≡ literals_in (map (λ v. v.items) literals.old.keys) symbols.now) }
+{
+    for symbol in symbols {
+        if let Symbol::Quoted(text) = symbol {
+            add(literals, Vec::from_slice(alloc, text.as_slice())?)?;
+        }
+    }
+    Ok(())
+}
+
+/// The literals of productions by their first occurrence.
+fn literals_of(alloc: Global, productions: &[Written]) -> Result<IndexSet<Vec<u8>>, NoMemory>
+    ensures { IfOk result (λ s. map (λ v. v.items) s.keys ≡ literals_of productions.now) }
+{
+    let mut literals = IndexSet::new(alloc);
+    for production in productions {
+        add_all(alloc, &mut literals, production.right.as_slice())?;
+    }
+    Ok(literals)
+}
+
+impl<'a> Numbering<'a> {
+    fn new(alloc: Global, spec: &'a Spec) -> Result<Numbering<'a>, NoMemory>
+        ensures { IfOk result (λ n. n.spec.now ≡ spec.now) }
+    {
+        let literals = literals_of(alloc, spec.productions.as_slice())?;
+        if spec.entries.len() > MOST || literals.len() > MOST || spec.lexemes.len() > MOST {
+            return Err(NoMemory);
+        }
+        Ok(Numbering { spec, literals })
+    }
+
+    fn first_literal(&self) -> usize
+        ensures number { result ≡ first_literal self.now.spec.now }
+        ensures few { result ≤ 2 ^ 30 + 1 }
+    {
+        self.spec.entries.len() + 1
+    }
+
+    fn first_lexeme(&self) -> usize
+        ensures number { result ≡ first_lexeme self.now.spec.now }
+        ensures few { result ≤ 2 ^ 31 + 1 }
+    {
+        self.first_literal() + self.literals.len()
+    }
+
+    fn first_nonterminal(&self) -> usize
+        ensures number { result ≡ first_nonterminal self.now.spec.now }
+        ensures few { result ≤ 2 ^ 32 }
+    {
+        self.first_lexeme() + self.spec.lexemes.len()
+    }
+
+    /// The number of a literal.
+    fn literal(&self, text: &[u8]) -> Result<u32, NoMemory>
+        ensures { IfOk result (λ n. n ≡ first_literal self.now.spec.now + position_or_len (bytes_eq text.now) (literals_of self.now.spec.now.productions)) }
+    {
+        number(self.first_literal() + place_of(&self.literals, text))
+    }
+
+    /// The number of the lexeme of a phylum, or that of the end where it has none.
+    fn lexeme(&self, phylum: &Phylum) -> Result<u32, NoMemory>
+        ensures { IfOk result (λ n. n ≡ lexeme_number self.now.spec.now phylum.now.shape) }
+    {
+        match phylum.shape {
+            Shape::Lexemes(place) if (place as usize) < self.spec.lexemes.len() => {
+                number(self.first_lexeme() + place as usize)
+            }
+            _ => Ok(0),
+        }
+    }
+
+    /// The number of a symbol.
+    fn symbol(&self, symbol: &Symbol) -> Result<u32, NoMemory>
+        ensures { IfOk result (λ n. n ≡ symbol_number self.now.spec.now symbol.now) }
+    {
+        match symbol {
+            Symbol::Quoted(text) => self.literal(text.as_slice()),
+            Symbol::Lexical(p) => match self.spec.phyla.place(p.number) {
+                Some(phylum) => self.lexeme(phylum),
+                None => Ok(0),
+            },
+            Symbol::Nonterminal(n) => number(self.first_nonterminal() + *n as usize),
+        }
+    }
+
+    fn rule(&self, alloc: Global, production: &Written) -> Result<Production, NoMemory>
+        ensures { IfOk result (λ r. r ≡ rule_of self.now.spec.now production.now) }
+    {
+        let mut right = Vec::with_capacity(alloc, production.right.len())?;
+        for symbol in production.right.as_slice() {
+            right.push(self.symbol(symbol)?)?;
+        }
+        let left = number(self.first_nonterminal() + production.left as usize)?;
+        Ok(Production {
+            left,
+            right: Row::new(right),
+            made: Made::Outcome(production.expr),
+        })
+    }
+
+    fn start(&self, alloc: Global, place: usize, entry: &Entry) -> Result<Production, NoMemory>
+        requires { place < 2 ^ 63 }
+        ensures { IfOk result (λ r. r ≡ start_of self.now.spec.now place entry.now) }
+    {
+        let mut right = Vec::with_capacity(alloc, 2)?;
+        right.push(number(place + 1)?)?;
+        right.push(number(self.first_nonterminal() + entry.nonterminal as usize)?)?;
+        Ok(Production {
+            left: 0,
+            right: Row::new(right),
+            made: Made::Same,
+        })
+    }
+
+    fn rules(&self, alloc: Global) -> Result<Vec<Production>, NoMemory>
+        ensures { IfOk result (λ v. v.items ≡ map (rule_of self.now.spec.now) self.now.spec.now.productions) }
+    {
+        let mut rules = Vec::with_capacity(alloc, self.spec.productions.len())?;
+        for production in self.spec.productions.as_slice() {
+            rules.push(self.rule(alloc, production)?)?;
+        }
+        Ok(rules)
+    }
+
+    fn starts(&self, alloc: Global) -> Result<Vec<Production>, NoMemory>
+        ensures { IfOk result (λ v. v.items ≡ starts_of self.now.spec.now 0 self.now.spec.now.entries) }
+    {
+        let mut starts = Vec::with_capacity(alloc, self.spec.entries.len())?;
+        for (place, entry) in self.spec.entries.as_slice().iter().enumerate() {
+            starts.push(self.start(alloc, place, entry)?)?;
+        }
+        Ok(starts)
+    }
+}
+
+/// The grammar of a specification: the productions in their order, and for each entry a start production of its marker and
+/// its nonterminal. The symbols are, in this order, the end, the markers, the literals by first occurrence, the lexemes and
+/// the nonterminals. `NoMemory` is also the answer where there are more of them than their numbers reach.
+pub fn make(alloc: Global, spec: &Spec) -> Result<Grammar, NoMemory>
+    ensures { IfOk result (λ g. g ≡ grammar_of spec.now) }
+{
+    let numbering = Numbering::new(alloc, spec)?;
+    let rules = Row::new(numbering.rules(alloc)?);
+    let entries = Row::new(numbering.starts(alloc)?);
+    let first = numbering.first_nonterminal();
+    let written = named_over(spec.productions.as_slice());
+    let entered = named_by(spec.entries.as_slice());
+    let terminals = number(first)?;
+    let symbols = number(first + written.max(entered))?;
+    match Grammar::new(rules, entries, terminals, symbols) {
+        Some(grammar) => Ok(grammar),
+        None => Err(NoMemory),
+    }
+}
