@@ -1,3 +1,4 @@
 pub mod Grammar
 pub mod WellFormed
 pub mod Numbered
+pub mod Derives

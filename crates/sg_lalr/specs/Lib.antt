@@ -1,0 +1,2 @@
+pub mod ValidItems
+pub mod Least
