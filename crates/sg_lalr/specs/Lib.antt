@@ -1,2 +1,4 @@
-pub mod ValidItems
+pub mod Closure
+pub mod Items
 pub mod Least
+pub mod ValidItems

@@ -1,7 +1,11 @@
 //! Exact LALR(1) tables of a grammar, or its least conflict.
 #![tactic(auto)]
 
+mod closure;
+pub mod items;
 mod least_set;
+mod moves;
+mod productive;
 
 /// Want of memory, while tables are made.
 type NoMemory = std::alloc::AllocError;

@@ -1,0 +1,174 @@
+-- Lemmas on left corners, and on what a kernel opens.
+use Rattle.std.proofs.Common.{◌≡◌, ℕ, zero, suc, ◌+◌, ◌<◌, ◌≤◌, ◌⊎◌, inl, inr, Bool, true, false, List, [], ◌∷◌, ◌++◌, length, get_or, take, refl, sym, ap, ◌∙◌, subst, arith, Option, Some, None}
+use Rattle.std.specs.Prelude.{◌↔◌, slice_get, Contains}
+use Rattle.std.proofs.lemmas.Bool.{cases_eq, cases_lt}
+use Rattle.std.proofs.lemmas.List.{take_more, take_all}
+use Rattle.std.proofs.lemmas.List.Elements.{Contains-push, Contains-push_cases, Contains-append_left}
+use Rattle.std.proofs.lemmas.Option.{slice_get_within, same_Some, none-some}
+use Rattle.sg_grammar.specs.declared.grammar.Production.{Production}
+use Rattle.sg_grammar.specs.Grammar.{Grammar}
+use Rattle.sg_sets.specs.Members.{Has}
+use Rattle.sg_sets.specs.Rows.{Holds}
+use Rattle.sg_sets.specs.Paths.{Leads, Path, IsTransitive}
+use Rattle.sg_lalr.specs.Items.{Item, symbol_of}
+use Rattle.sg_lalr.specs.Closure.{HasLeft, LeadsTo, Corner, same, further, Opens, OpensAt}
+
+-- row a has gained the numbers below n that pass
+abbrev pub Gained : List (List Bool) → List (List Bool) → ℕ → ℕ → (ℕ → Type 0) → Type 0
+Gained old now a n P = (x y : ℕ) → Holds now x y ↔ (Holds old x y ⊎ ((x ≡ a) × (y < n) × P y))
+
+pub gained-more : (old now next : List (List Bool)) (a n : ℕ) (P : ℕ → Type 0) → Gained old now a n P → P n → ((x y : ℕ) → Holds next x y ↔ (Holds now x y ⊎ ((x ≡ a) × (y ≡ n)))) → Gained old next a (n + 1) P
+gained-more old now next a n P g p gains x y = (
+  λ h. elim ((gains x y).0 h) [
+    | inl was ↦ elim ((g x y).0 was) [
+      | inl older ↦ inl older
+      | inr newer ↦ inr (newer.0, (let l = newer.1 in omega (arith, l)), newer.2)
+    ]
+    | inr new ↦ inr (new.0, (let e = new.1 in omega (arith, e)), subst P (sym new.1) p)
+  ],
+  λ h. elim h [
+    | inl older ↦ (gains x y).1 (inl ((g x y).1 (inl older)))
+    | inr newer ↦ elim (cases_lt y n) [
+      | inl low ↦ (gains x y).1 (inl ((g x y).1 (inr (newer.0, low, newer.2))))
+      | inr high ↦ (gains x y).1 (inr (newer.0, (let l = newer.1 in omega (arith, l, high))))
+    ]
+  ],
+)
+
+pub gained-same : (old now : List (List Bool)) (a n : ℕ) (P : ℕ → Type 0) → Gained old now a n P → (P n → ⊥) → Gained old now a (n + 1) P
+gained-same old now a n P g none x y = (
+  λ h. elim ((g x y).0 h) [
+    | inl older ↦ inl older
+    | inr newer ↦ inr (newer.0, (let l = newer.1 in omega (arith, l)), newer.2)
+  ],
+  λ h. elim h [
+    | inl older ↦ (g x y).1 (inl older)
+    | inr newer ↦ elim (cases_lt y n) [
+      | inl low ↦ (g x y).1 (inr (newer.0, low, newer.2))
+      | inr high ↦ absurd (none (subst P (let l = newer.1 in let e : y ≡ n = omega (arith, l, high) in e) newer.2))
+    ]
+  ],
+)
+
+pub gained-all : (old now : List (List Bool)) (a n : ℕ) (P : ℕ → Type 0) → Gained old now a n P → ((y : ℕ) → P y → y < n) → (x y : ℕ) → Holds now x y ↔ (Holds old x y ⊎ ((x ≡ a) × P y))
+gained-all old now a n P g few x y = (
+  λ h. elim ((g x y).0 h) [ inl older ↦ inl older | inr newer ↦ inr (newer.0, newer.2) ],
+  λ h. elim h [ inl older ↦ (g x y).1 (inl older) | inr newer ↦ (g x y).1 (inr (newer.0, few y newer.1, newer.1)) ],
+)
+
+pub HasLeft-within : (rules : List Production) (X y : ℕ) → HasLeft rules X y → y < length rules
+HasLeft-within rules X y h = slice_get_within rules y h.0 h.1
+
+pub HasLeft-at : (rules : List Production) (X n : ℕ) (r : Production) → slice_get rules n ≡ Some r → HasLeft rules X n → X ≡ r.left
+HasLeft-at rules X n r is h = h.2 ∙ ap (λ (s : Production). s.left) (same_Some h.0 r (sym h.1 ∙ is))
+
+-- a production leads to itself and to those of its first symbol
+abbrev Led : List (List Bool) → List (List Bool) → ℕ → (ℕ → Type 0) → Type 0
+Led old now a P = (x y : ℕ) → Holds now x y ↔ (Holds old x y ⊎ ((x ≡ a) × P y))
+
+pub led-some : (rules : List Production) (old mid new : List (List Bool)) (a X : ℕ) (r : Production) → slice_get rules a ≡ Some r → slice_get r.right 0 ≡ Some X → ((x y : ℕ) → Holds mid x y ↔ (Holds old x y ⊎ ((x ≡ a) × (y ≡ a)))) → Led mid new a (HasLeft rules X) → Led old new a (LeadsTo rules a)
+led-some rules old mid new a X r is first own lefts x y = (
+  λ h. elim ((lefts x y).0 h) [
+    | inl was ↦ elim ((own x y).0 was) [ inl older ↦ inl older | inr itself ↦ inr (itself.0, inl itself.1) ]
+    | inr left ↦ inr (left.0, inr (r, X, is, first, left.1))
+  ],
+  λ h. elim h [
+    | inl older ↦ (lefts x y).1 (inl ((own x y).1 (inl older)))
+    | inr led ↦ elim (led.1) [
+      | inl itself ↦ (lefts x y).1 (inl ((own x y).1 (inr (led.0, itself))))
+      | inr left ↦
+          let rule : left.0 ≡ r = same_Some left.0 r (sym left.2 ∙ is) in
+          let symbol : left.1 ≡ X = same_Some left.1 X (sym left.3 ∙ ap (λ (s : Production). slice_get s.right 0) rule ∙ first) in
+          (lefts x y).1 (inr (led.0, subst (λ Z. HasLeft rules Z y) symbol left.4))
+    ]
+  ],
+)
+
+pub led-none : (rules : List Production) (old new : List (List Bool)) (a : ℕ) (r : Production) → slice_get rules a ≡ Some r → slice_get r.right 0 ≡ None → ((x y : ℕ) → Holds new x y ↔ (Holds old x y ⊎ ((x ≡ a) × (y ≡ a)))) → Led old new a (LeadsTo rules a)
+led-none rules old new a r is first own x y = (
+  λ h. elim ((own x y).0 h) [ inl older ↦ inl older | inr itself ↦ inr (itself.0, inl itself.1) ],
+  λ h. elim h [
+    | inl older ↦ (own x y).1 (inl older)
+    | inr led ↦ elim (led.1) [
+      | inl itself ↦ (own x y).1 (inr (led.0, itself))
+      | inr left ↦ absurd (none-some left.1 (sym first ∙ ap (λ (s : Production). slice_get s.right 0) (same_Some r left.0 (sym is ∙ left.2)) ∙ left.3))
+    ]
+  ],
+)
+
+-- the relation of leading, closed, is that of left corners
+module _ (rules : List Production) (start closed : List (List Bool)) (leads : (x y : ℕ) → Holds start x y ↔ ((x < length rules) × LeadsTo rules x y))
+  (contains : (a b : ℕ) → Holds start a b → Holds closed a b) (transitive : IsTransitive (Holds closed)) (least : (a b : ℕ) → Holds closed a b → Path (Holds start) a b) where
+  there : (a : ℕ) → a < length rules → (r : Production) × (slice_get rules a ≡ Some r)
+  there a low = by rules a low
+    where
+      by : (rs : List Production) (a : ℕ) → a < length rs → (r : Production) × (slice_get rs a ≡ Some r)
+      by [] a low = absurd (omega (arith, low))
+      by (r ∷ rs) zero low = (r, refl)
+      by (r ∷ rs) (suc a) low = by rs a (omega (arith, low))
+
+  corner-step : (a b c : ℕ) → Corner rules a b → Holds start b c → Corner rules a c
+  corner-step a b c corner h = elim (((leads b c).0 h).1) [
+    | inl itself ↦ subst (Corner rules a) (sym itself) corner
+    | inr left ↦ further a b c left.1 left.0 corner left.2 left.3 left.4
+  ]
+
+  corner-along : (a b c : ℕ) (via : List ℕ) → Corner rules a b → Leads (Holds start) b via c → Corner rules a c
+  corner-along a b c [] corner h = corner-step a b c corner h
+  corner-along a b c (v ∷ via) corner h = corner-along a v c via (corner-step a b v corner h.0) h.1
+
+  starts-below : (a c : ℕ) (via : List ℕ) → Leads (Holds start) a via c → a < length rules
+  starts-below a c [] h = ((leads a c).0 h).0
+  starts-below a c (v ∷ via) h = ((leads a v).0 h.0).0
+
+  pub corner-from : (a b : ℕ) → Holds closed a b → Corner rules a b
+  corner-from a b h =
+      let path = least a b h in
+      let r = there a (starts-below a b path.0 path.1) in
+      corner-along a a b path.0 (same a r.0 r.1) path.1
+
+  pub corner-holds : (a b : ℕ) → Corner rules a b → Holds closed a b
+  corner-holds _ _ (same a r is) = contains a a ((leads a a).1 (slice_get_within rules a r is, inl refl))
+  corner-holds _ _ (further a b c X r corner is first left) =
+      transitive a b c (corner-holds a b corner) (contains b c ((leads b c).1 (slice_get_within rules b r is, inr (r, X, is, first, left))))
+
+-- what one item more opens
+abbrev pub OpenedBy : Grammar → List Bool → List Bool → List Item → Type 0
+OpenedBy g old now items = (q : ℕ) → Has now q ↔ (Has old q ⊎ ((i : Item) × Contains items i × OpensAt g i q))
+
+pub opened-more : (g : Grammar) (old now next : List Bool) (kernel : List Item) (n X : ℕ) (i : Item) → n < length kernel → i ≡ get_or kernel n i → symbol_of g i ≡ Some X → OpenedBy g old now (take n kernel) → ((q : ℕ) → Has next q ↔ (Has now q ⊎ Opens g.rules X q)) → OpenedBy g old next (take (n + 1) kernel)
+opened-more g old now next kernel n X i low is reads o gains q =
+    let more : take (n + 1) kernel ≡ take n kernel ++ i ∷ [] = take_more kernel n i low ∙ ap (λ j. take n kernel ++ j ∷ []) (sym is) in (
+      λ h. elim ((gains q).0 h) [
+        | inl was ↦ elim ((o q).0 was) [
+          | inl older ↦ inl older
+          | inr by ↦ inr (by.0, subst (λ l. Contains l by.0) (sym more) (Contains-append_left (take n kernel) (i ∷ []) by.0 by.1), by.2)
+        ]
+        | inr opens ↦ inr (i, subst (λ l. Contains l i) (sym more) (Contains-push (take n kernel) i), (X, reads, opens))
+      ],
+      λ h. elim h [
+        | inl older ↦ (gains q).1 (inl ((o q).1 (inl older)))
+        | inr by ↦ elim (Contains-push_cases (take n kernel) i by.0 (subst (λ l. Contains l by.0) more by.1)) [
+          | inl before ↦ (gains q).1 (inl ((o q).1 (inr (by.0, before, by.2))))
+          | inr itself ↦
+              let symbol : by.2.0 ≡ X = same_Some by.2.0 X (sym by.2.1 ∙ ap (symbol_of g) (sym itself) ∙ reads) in
+              (gains q).1 (inr (subst (λ Y. Opens g.rules Y q) symbol by.2.2))
+        ]
+      ],
+    )
+
+pub opened-same : (g : Grammar) (old now : List Bool) (kernel : List Item) (n : ℕ) (i : Item) → n < length kernel → i ≡ get_or kernel n i → symbol_of g i ≡ None → OpenedBy g old now (take n kernel) → OpenedBy g old now (take (n + 1) kernel)
+opened-same g old now kernel n i low is reads o q =
+    let more : take (n + 1) kernel ≡ take n kernel ++ i ∷ [] = take_more kernel n i low ∙ ap (λ j. take n kernel ++ j ∷ []) (sym is) in (
+      λ h. elim ((o q).0 h) [
+        | inl older ↦ inl older
+        | inr by ↦ inr (by.0, subst (λ l. Contains l by.0) (sym more) (Contains-append_left (take n kernel) (i ∷ []) by.0 by.1), by.2)
+      ],
+      λ h. elim h [
+        | inl older ↦ (o q).1 (inl older)
+        | inr by ↦ elim (Contains-push_cases (take n kernel) i by.0 (subst (λ l. Contains l by.0) more by.1)) [
+          | inl before ↦ (o q).1 (inr (by.0, before, by.2))
+          | inr itself ↦ absurd (none-some by.2.0 (sym reads ∙ ap (symbol_of g) itself ∙ by.2.1))
+        ]
+      ],
+    )

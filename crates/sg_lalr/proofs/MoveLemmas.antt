@@ -1,0 +1,91 @@
+-- Lemmas on the symbols behind the dots of items.
+use Rattle.std.proofs.Common.{◌≡◌, ℕ, zero, suc, ◌+◌, ◌^◌, ◌<◌, ◌≤◌, ◌⊎◌, inl, inr, Bool, true, false, cond, List, [], ◌∷◌, ◌++◌, length, get_or, take, map, refl, sym, ap, ◌∙◌, subst, arith, Option, Some, None}
+use Rattle.std.specs.Prelude.{◌↔◌, Contains, All, slice_get, option_map, unwrap_or, nat_eq, filter, IfSome}
+use Rattle.std.proofs.lemmas.Bool.{cases_lt}
+use Rattle.std.proofs.lemmas.List.{take_more, take_all}
+use Rattle.std.proofs.lemmas.List.Elements.{All-append, Contains-push_cases, Contains-append_left, Contains-push}
+use Rattle.std.proofs.lemmas.Option.{slice_get_within, same_Some, none-some}
+use Rattle.sg_grammar.specs.declared.grammar.Production.{Production}
+use Rattle.sg_grammar.specs.Grammar.{Grammar, right_of, symbol_at}
+use Rattle.sg_grammar.specs.WellFormed.{IsRight, IsRule, IsWellFormed}
+use Rattle.sg_lalr.specs.Items.{Item, item, symbol_of, HasNext, moved, advance, is_before}
+
+slice_get-in : {X : Type 0} (P : X → Type 0) (xs : List X) (n : ℕ) (x : X) → All P xs → slice_get xs n ≡ Some x → P x
+slice_get-in P [] n x h is = absurd (none-some x is)
+slice_get-in P (y ∷ xs) zero x h is = subst P (same_Some y x is) (h 0 y (omega arith))
+slice_get-in P (y ∷ xs) (suc n) x h is = slice_get-in P xs n x (λ k d l. h (suc k) d (omega (arith, l))) is
+
+-- a right side of a grammar is in range
+rights : (g : Grammar) → IsWellFormed g → All (λ (r : Production). IsRight g.symbols r.right) (g.rules ++ g.entries)
+rights g w = All-append (λ (r : Production). IsRight g.symbols r.right) g.rules g.entries (λ k d l. (w.rules k d l).2) w.entries
+
+right_of-fits : (g : Grammar) (p : ℕ) → IsWellFormed g → IsRight g.symbols (right_of g p)
+right_of-fits g p w = by (slice_get (g.rules ++ g.entries) p) refl
+  where
+    by : (o : Option Production) → slice_get (g.rules ++ g.entries) p ≡ o → IsRight g.symbols (unwrap_or (option_map (λ (r : Production). r.right) o) [])
+    by None e = (omega arith, λ k d l. absurd (omega (arith, l)))
+    by (Some r) e = slice_get-in (λ (s : Production). IsRight g.symbols s.right) (g.rules ++ g.entries) p r (rights g w) e
+
+pub symbol-within : (g : Grammar) → IsWellFormed g → (p d X : ℕ) → symbol_at g p d ≡ Some X → X < g.symbols
+symbol-within g w p d X is = slice_get-in (λ Y. Y < g.symbols) (right_of g p) d X (right_of-fits g p w).1 is
+
+pub dot-within : (g : Grammar) → IsWellFormed g → (p d X : ℕ) → symbol_at g p d ≡ Some X → d < 2 ^ 30
+dot-within g w p d X is = let f = (right_of-fits g p w).0 in let l = slice_get_within (right_of g p) d X is in omega (arith, f, l)
+
+pub if_some : {A : Type 0} (o : Option A) (P : A → Type 0) → ((x : A) → o ≡ Some x → P x) → IfSome o P
+if_some None P h = tt
+if_some (Some x) P h = h x refl
+
+-- the least symbol so far from a bound on, or none
+pub record IsLeast (g : Grammar) (items : List Item) (bound best : ℕ) : Type 0 where
+  pub least : (X : ℕ) → bound ≤ X → HasNext g items X → best ≤ X
+  pub next : best < g.symbols → HasNext g items best
+  pub above : best < g.symbols → bound ≤ best
+  pub within : best ≤ g.symbols
+
+has-later : (g : Grammar) (items : List Item) (i : Item) (X : ℕ) → HasNext g items X → HasNext g (items ++ i ∷ []) X
+has-later g items i X h = (h.0, Contains-append_left items (i ∷ []) h.0 h.1, h.2)
+
+has-cases : (g : Grammar) (items : List Item) (i : Item) (X : ℕ) → HasNext g (items ++ i ∷ []) X → (symbol_of g i ≡ Some X) ⊎ HasNext g items X
+has-cases g items i X h = elim (Contains-push_cases items i h.0 h.1) [ inl old ↦ inr (h.0, old, h.2) | inr e ↦ inl (ap (symbol_of g) e ∙ h.2) ]
+
+pub least-taken : (g : Grammar) (items : List Item) (i : Item) (bound best X : ℕ) → symbol_of g i ≡ Some X → bound ≤ X → X < best → IsLeast g items bound best → IsLeast g (items ++ i ∷ []) bound X
+least-taken g items i bound best X is low less l = record {
+  least = λ Y b h. elim (has-cases g items i Y h) [ inl e ↦ (let s : X ≡ Y = same_Some X Y (sym is ∙ e) in omega (arith, s)) | inr old ↦ (let k = l.least Y b old in omega (arith, k, less)) ];
+  next = λ b. (i, Contains-push items i, is);
+  above = λ b. low;
+  within = let k = l.within in omega (arith, k, less);
+}
+
+pub least-kept : (g : Grammar) (items : List Item) (i : Item) (bound best : ℕ) → ((X : ℕ) → symbol_of g i ≡ Some X → bound ≤ X → best ≤ X) → IsLeast g items bound best → IsLeast g (items ++ i ∷ []) bound best
+least-kept g items i bound best none l = record {
+  least = λ Y b h. elim (has-cases g items i Y h) [ inl e ↦ none Y e b | inr old ↦ l.least Y b old ];
+  next = λ b. has-later g items i best (l.next b);
+  above = l.above;
+  within = l.within;
+}
+
+pub take-next : (items : List Item) (n : ℕ) (d : Item) → n < length items → take (n + 1) items ≡ take n items ++ get_or items n d ∷ []
+take-next items n d low = take_more items n d low
+
+-- one item more
+filter-by : (p : Item → Bool) (x : Item) (xs ys rest : List Item) → rest ≡ filter p xs ++ ys → (b : Bool) → cond b (x ∷ rest) rest ≡ cond b (x ∷ filter p xs) (filter p xs) ++ ys
+filter-by p x xs ys rest e true = ap (λ l. x ∷ l) e
+filter-by p x xs ys rest e false = e
+
+filter-append : (p : Item → Bool) (xs ys : List Item) → filter p (xs ++ ys) ≡ filter p xs ++ filter p ys
+filter-append p [] ys = refl
+filter-append p (x ∷ xs) ys = filter-by p x xs (filter p ys) (filter p (xs ++ ys)) (filter-append p xs ys) (p x)
+
+map-append : (xs ys : List Item) → map moved (xs ++ ys) ≡ map moved xs ++ map moved ys
+map-append [] ys = refl
+map-append (x ∷ xs) ys = ap (λ l. moved x ∷ l) (map-append xs ys)
+
+pub advance-append : (g : Grammar) (X : ℕ) (xs ys : List Item) → advance g X (xs ++ ys) ≡ advance g X xs ++ advance g X ys
+advance-append g X xs ys = ap (map moved) (filter-append (λ i. is_before X (symbol_of g i)) xs ys) ∙ map-append (filter (λ i. is_before X (symbol_of g i)) xs) (filter (λ i. is_before X (symbol_of g i)) ys)
+
+pub advance-one : (g : Grammar) (X : ℕ) (i : Item) → is_before X (symbol_of g i) ≡ true → advance g X (i ∷ []) ≡ moved i ∷ []
+advance-one g X i e = ap (λ b. map moved (cond b (i ∷ []) [])) e
+
+pub advance-none : (g : Grammar) (X : ℕ) (i : Item) → is_before X (symbol_of g i) ≡ false → advance g X (i ∷ []) ≡ []
+advance-none g X i e = ap (λ b. map moved (cond b (i ∷ []) [])) e

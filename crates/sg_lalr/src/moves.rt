@@ -1,0 +1,75 @@
+//! Moves of a state: the symbols behind the dots of its items, and the kernels that lie behind them.
+ghost use Rattle.std.specs.Prelude.{◌≡◌, ℕ, ◌+◌, ◌^◌, ◌<◌, ◌≤◌, ◌++◌, ◌∷◌, [], length, All, IfOk, IfSome, OnOk};
+ghost use Rattle.sg_lalr.specs.Items.{HasNext, symbol_of, advance};
+ghost use Rattle.sg_lalr.specs.Closure.{InRange};
+
+use crate::NoMemory;
+use crate::items::Item;
+use sg_grammar::grammar::Grammar;
+use std::alloc::Global;
+
+/// The symbol behind an item's dot.
+pub(crate) fn symbol_of(g: &Grammar, item: Item) -> Option<u32>
+    requires { InRange g.now item }
+    ensures symbol { result ≡ symbol_of g.now item }
+    ensures within { IfSome result (λ X. X < g.now.symbols) }
+    ensures short { IfSome result (λ _. item.dot < 2 ^ 30) }
+{
+    g.sound();
+    g.symbol_at(item.production, item.dot)
+}
+
+/// The least symbol behind a dot from a bound on, or the number of symbols where there is none.
+pub(crate) fn next_symbol(g: &Grammar, items: &[Item], bound: u32) -> u32
+    requires { All (InRange g.now) items.now }
+    ensures least { (X : ℕ) → bound ≤ X → HasNext g.now items.now X → result ≤ X }
+    ensures next { result < g.now.symbols → HasNext g.now items.now result }
+    ensures bound { result < g.now.symbols → bound ≤ result }
+    ensures within { result ≤ g.now.symbols }
+{
+    let mut best = g.symbols();
+    for item in items {
+        if let Some(x) = symbol_of(g, *item)
+            && bound <= x
+            && x < best
+        {
+            best = x;
+        }
+    }
+    best
+}
+
+/// Puts an item with its dot behind the symbol after the others, where its dot is before it.
+fn push_moved(g: &Grammar, x: u32, item: Item, kernel: &mut Vec<Item>) -> Result<(), NoMemory>
+    requires { InRange g.now item }
+    ensures { OnOk result (kernel.new.items ≡ kernel.old.items ++ advance g.now x (item ∷ [])) }
+{
+    match symbol_of(g, item) {
+        Some(y) if y == x => {
+            let moved = Item {
+                production: item.production,
+                dot: item.dot + 1,
+            };
+            kernel.push(moved)?;
+            Ok(())
+        }
+        _ => Ok(()),
+    }
+}
+
+/// The items that have their dot before a symbol, with their dots behind it.
+pub(crate) fn advance(
+    alloc: Global,
+    g: &Grammar,
+    x: u32,
+    items: &[Item],
+) -> Result<Vec<Item>, NoMemory>
+    requires { All (InRange g.now) items.now }
+    ensures { IfOk result (λ v. v.items ≡ advance g.now x items.now) }
+{
+    let mut kernel = Vec::new(alloc);
+    for item in items {
+        push_moved(g, x, *item, &mut kernel)?;
+    }
+    Ok(kernel)
+}
