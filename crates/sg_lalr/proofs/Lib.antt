@@ -5,3 +5,5 @@ pub mod RisingLemmas
 pub mod MergeLemmas
 pub mod ClosureLemmas
 pub mod MoveLemmas
+pub mod KernelLemmas
+pub mod PartLemmas

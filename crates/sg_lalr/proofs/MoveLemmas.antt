@@ -49,20 +49,12 @@ has-later g items i X h = (h.0, Contains-append_left items (i ∷ []) h.0 h.1, h
 has-cases : (g : Grammar) (items : List Item) (i : Item) (X : ℕ) → HasNext g (items ++ i ∷ []) X → (symbol_of g i ≡ Some X) ⊎ HasNext g items X
 has-cases g items i X h = elim (Contains-push_cases items i h.0 h.1) [ inl old ↦ inr (h.0, old, h.2) | inr e ↦ inl (ap (symbol_of g) e ∙ h.2) ]
 
-pub least-taken : (g : Grammar) (items : List Item) (i : Item) (bound best X : ℕ) → symbol_of g i ≡ Some X → bound ≤ X → X < best → IsLeast g items bound best → IsLeast g (items ++ i ∷ []) bound X
-least-taken g items i bound best X is low less l = record {
-  least = λ Y b h. elim (has-cases g items i Y h) [ inl e ↦ (let s : X ≡ Y = same_Some X Y (sym is ∙ e) in omega (arith, s)) | inr old ↦ (let k = l.least Y b old in omega (arith, k, less)) ];
-  next = λ b. (i, Contains-push items i, is);
-  above = λ b. low;
-  within = let k = l.within in omega (arith, k, less);
-}
-
-pub least-kept : (g : Grammar) (items : List Item) (i : Item) (bound best : ℕ) → ((X : ℕ) → symbol_of g i ≡ Some X → bound ≤ X → best ≤ X) → IsLeast g items bound best → IsLeast g (items ++ i ∷ []) bound best
-least-kept g items i bound best none l = record {
-  least = λ Y b h. elim (has-cases g items i Y h) [ inl e ↦ none Y e b | inr old ↦ l.least Y b old ];
-  next = λ b. has-later g items i best (l.next b);
-  above = l.above;
-  within = l.within;
+pub least-more : (g : Grammar) (items : List Item) (i : Item) (bound best next : ℕ) → ((X : ℕ) → symbol_of g i ≡ Some X → bound ≤ X → next ≤ X) → next ≤ best → (next ≡ best) ⊎ ((symbol_of g i ≡ Some next) × (bound ≤ next)) → IsLeast g items bound best → IsLeast g (items ++ i ∷ []) bound next
+least-more g items i bound best next low below either l = record {
+  least = λ Y b h. elim (has-cases g items i Y h) [ inl e ↦ low Y e b | inr old ↦ (let k = l.least Y b old in omega (arith, k, below)) ];
+  next = λ b. elim either [ inl e ↦ subst (HasNext g (items ++ i ∷ [])) (sym e) (has-later g items i best (l.next (omega (arith, b, e)))) | inr new ↦ (i, Contains-push items i, new.0) ];
+  above = λ b. elim either [ inl e ↦ (let k = l.above (omega (arith, b, e)) in omega (arith, k, e)) | inr new ↦ new.1 ];
+  within = let k = l.within in omega (arith, k, below);
 }
 
 pub take-next : (items : List Item) (n : ℕ) (d : Item) → n < length items → take (n + 1) items ≡ take n items ++ get_or items n d ∷ []

@@ -1,3 +1,4 @@
+pub mod Automaton
 pub mod Closure
 pub mod Items
 pub mod Least

@@ -6,6 +6,7 @@ pub mod items;
 mod least_set;
 mod moves;
 mod productive;
+mod states;
 
 /// Want of memory, while tables are made.
 type NoMemory = std::alloc::AllocError;

@@ -1,5 +1,5 @@
 //! Moves of a state: the symbols behind the dots of its items, and the kernels that lie behind them.
-ghost use Rattle.std.specs.Prelude.{◌≡◌, ℕ, ◌+◌, ◌^◌, ◌<◌, ◌≤◌, ◌++◌, ◌∷◌, [], length, All, IfOk, IfSome, OnOk};
+ghost use Rattle.std.specs.Prelude.{◌≡◌, ℕ, ◌+◌, ◌^◌, ◌<◌, ◌≤◌, ◌⊎◌, ◌++◌, ◌∷◌, [], length, All, IfOk, IfSome, OnOk};
 ghost use Rattle.sg_lalr.specs.Items.{HasNext, symbol_of, advance};
 ghost use Rattle.sg_lalr.specs.Closure.{InRange};
 
@@ -19,6 +19,18 @@ pub(crate) fn symbol_of(g: &Grammar, item: Item) -> Option<u32>
     g.symbol_at(item.production, item.dot)
 }
 
+/// The lesser of the best symbol and of one that is at least the bound.
+fn lesser(symbol: Option<u32>, bound: u32, best: u32) -> u32
+    ensures least { (X : ℕ) → symbol ≡ Some X → bound ≤ X → result ≤ X }
+    ensures below { result ≤ best }
+    ensures either { (result ≡ best) ⊎ ((symbol ≡ Some result) × (bound ≤ result)) }
+{
+    match symbol {
+        Some(x) if bound <= x && x < best => x,
+        _ => best,
+    }
+}
+
 /// The least symbol behind a dot from a bound on, or the number of symbols where there is none.
 pub(crate) fn next_symbol(g: &Grammar, items: &[Item], bound: u32) -> u32
     requires { All (InRange g.now) items.now }
@@ -29,12 +41,7 @@ pub(crate) fn next_symbol(g: &Grammar, items: &[Item], bound: u32) -> u32
 {
     let mut best = g.symbols();
     for item in items {
-        if let Some(x) = symbol_of(g, *item)
-            && bound <= x
-            && x < best
-        {
-            best = x;
-        }
+        best = lesser(symbol_of(g, *item), bound, best);
     }
     best
 }

@@ -1,0 +1,88 @@
+-- The automaton, and how much of it was found so far.
+use Rattle.std.specs.Prelude.{◌≡◌, ◌≢◌, ℕ, zero, suc, ◌+◌, ◌<◌, ◌≤◌, ◌⊎◌, if◌then◌else◌, nat_eq, List, [], ◌∷◌, ◌++◌, map, length, slice_index_or, All, AllPairs, Contains}
+use Rattle.sg_grammar.specs.Grammar.{Grammar}
+use Rattle.sg_lalr.specs.declared.states.Move.{Move}
+use Rattle.sg_lalr.specs.declared.states.Origin.{Origin}
+use Rattle.sg_lalr.specs.Items.{Item, item, HasNext, advance}
+use Rattle.sg_lalr.specs.Closure.{IsKernel, IsClosure}
+
+-- the items of a state
+abbrev pub row_at : List (List Item) → ℕ → List Item
+row_at rows s = slice_index_or rows s []
+
+abbrev pub moves_at : List (List Move) → ℕ → List Move
+moves_at moves s = slice_index_or moves s []
+
+-- where a move on the symbol leads
+abbrev pub target_of : List Move → ℕ → ℕ
+target_of [] X = 0
+target_of (m ∷ ms) X = if nat_eq m.symbol X then m.target else target_of ms X
+
+abbrev pub goto : List (List Move) → ℕ → ℕ → ℕ
+goto moves s X = target_of (moves_at moves s) X
+
+-- the items with which the entries begin
+abbrev pub starts_from : ℕ → ℕ → List Item
+starts_from p zero = []
+starts_from p (suc n) = item p 0 ∷ starts_from (suc p) n
+
+abbrev pub start_items : Grammar → List Item
+start_items g = starts_from (length g.rules) (length g.entries)
+
+abbrev pub origin : ℕ → ℕ → Origin
+origin s X = record { state = s; symbol = X }
+
+abbrev pub Earlier : Origin → Origin → Type 0
+Earlier o p = (o.state < p.state) ⊎ ((o.state ≡ p.state) × (o.symbol < p.symbol))
+
+abbrev pub NotLater : Origin → Origin → Type 0
+NotLater o p = Earlier o p ⊎ ((o.state ≡ p.state) × (o.symbol ≡ p.symbol))
+
+-- state v is behind the symbol in the state with this core
+abbrev pub IsBehind : Grammar → List (List Item) → List Item → ℕ → ℕ → Type 0
+IsBehind g kernels core X v = (v < length kernels) × (row_at kernels v ≡ advance g X core)
+
+abbrev pub origin_at : List Origin → ℕ → Origin
+origin_at origins k = slice_index_or origins k (origin 0 0)
+
+-- state suc k was found first from an earlier state
+pub record ComesFrom (g : Grammar) (kernels cores : List (List Item)) (k : ℕ) (o : Origin) : Type 0 where
+  pub earlier : o.state ≤ k
+  pub expanded : o.state < length cores
+  pub next : HasNext g (row_at cores o.state) o.symbol
+  pub behind : row_at kernels (suc k) ≡ advance g o.symbol (row_at cores o.state)
+
+-- the kernels that were found, the cores of the first of them, the moves of the first of these, and from where all but the first state came
+pub record IsPart (g : Grammar) (kernels cores : List (List Item)) (moves : List (List Move)) (origins : List Origin) : Type 0 where
+  pub some : 0 < length kernels
+  pub first : row_at kernels 0 ≡ start_items g
+  pub kernel : (v : ℕ) → v < length kernels → IsKernel g (row_at kernels v)
+  pub few : length cores ≤ length kernels
+  pub closed : (s : ℕ) → s < length cores → IsClosure g (row_at kernels s) (row_at cores s)
+  pub expanded : length moves ≤ length cores
+  pub leads : (s X : ℕ) → s < length moves → HasNext g (row_at cores s) X → IsBehind g kernels (row_at cores s) X (goto moves s X)
+  pub count : length kernels ≡ suc (length origins)
+  pub comes : (k : ℕ) → k < length origins → ComesFrom g kernels cores k (origin_at origins k)
+  pub distinct : AllPairs ◌≢◌ kernels
+  pub rising : AllPairs Earlier origins
+  pub earliest : (s X k : ℕ) → s < length moves → HasNext g (row_at cores s) X → goto moves s X ≡ suc k → NotLater (origin_at origins k) (origin s X)
+
+-- the kernels with one more
+abbrev pub Entered : List (List Item) → List (List Item) → List Origin → List Origin → List Item → Origin → ℕ → Type 0
+Entered old new origins more kernel o v =
+    ((new ≡ old) × (more ≡ origins) × (v < length old) × (row_at old v ≡ kernel))
+    ⊎ ((new ≡ old ++ kernel ∷ []) × (more ≡ origins ++ o ∷ []) × (v ≡ length old) × (Contains old kernel → ⊥))
+
+-- a state has a move to a kernel that is not among as many as there may be
+pub record Overflows (g : Grammar) : Type 0 where
+  pub kernels : List (List Item)
+  pub cores : List (List Item)
+  pub moves : List (List Move)
+  pub origins : List Origin
+  pub part : IsPart g kernels cores moves origins
+  pub full : length kernels ≡ 65536
+  pub state : ℕ
+  pub symbol : ℕ
+  pub expanded : state < length cores
+  pub next : HasNext g (row_at cores state) symbol
+  pub absent : Contains kernels (advance g symbol (row_at cores state)) → ⊥

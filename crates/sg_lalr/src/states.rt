@@ -1,0 +1,143 @@
+//! The states of the automaton, found by breadth in the order of symbols.
+ghost use Rattle.std.specs.Prelude.{◌≡◌, ℕ, ◌<◌, ◌≤◌, ◌++◌, ◌∷◌, [], suc, ◌↔◌, length, map, Contains, IfOk, OnOk, IfSome, IfNone};
+ghost use Rattle.std.specs.Bool.{OnTrue, OnFalse};
+ghost use Rattle.sg_sets.specs.Rows.{Holds};
+ghost use Rattle.sg_lalr.specs.Closure.{Corner, IsClosure};
+ghost use Rattle.sg_lalr.specs.Automaton.{row_at, Entered, IsPart, Overflows};
+
+use crate::NoMemory;
+use crate::closure::closure;
+use crate::items::Item;
+use crate::moves::{advance, next_symbol};
+use indexmap::IndexSet;
+use sg_grammar::grammar::Grammar;
+use sg_kinds::row::Row;
+use sg_sets::Relation;
+use std::alloc::Global;
+
+
+/// The most states.
+pub const MOST_STATES: usize = 65_536;
+
+/// A move of a state.
+#[derive(Clone, Copy)]
+pub struct Move {
+    pub symbol: u32,
+    pub target: u32,
+}
+
+/// The state and the symbol from which a state was found first.
+#[derive(Clone, Copy)]
+pub struct Origin {
+    pub state: u32,
+    pub symbol: u32,
+}
+
+/// The automaton: the kernels of its states, of the first of them the cores, of the first of these the moves, and of each
+/// state but the first its origin.
+#[derive(Drop)]
+pub struct Automaton {
+    kernels: IndexSet<Vec<Item>>,
+    cores: Vec<Row<Item>>,
+    moves: Vec<Row<Move>>,
+    origins: Vec<Origin>,
+}
+
+/// The number of a kernel.
+fn find(kernels: &IndexSet<Vec<Item>>, kernel: &[Item]) -> Option<usize>
+    ensures within { IfSome result (λ v. v < length (map (λ k. k.items) kernels.now.keys)) }
+    ensures some { IfSome result (λ v. row_at (map (λ k. k.items) kernels.now.keys) v ≡ kernel.now) }
+    ensures none { IfNone result (Contains (map (λ k. k.items) kernels.now.keys) kernel.now → ⊥) }
+{
+    kernels.get_index_of(kernel)
+}
+
+/// Puts a kernel that is not among the others behind them.
+fn add(kernels: &mut IndexSet<Vec<Item>>, kernel: Vec<Item>) -> Result<(), NoMemory>
+    requires { Contains (map (λ k. k.items) kernels.old.keys) kernel.items → ⊥ }
+    ensures { OnOk result (map (λ k. k.items) kernels.new.keys ≡ map (λ k. k.items) kernels.old.keys ++ kernel.items ∷ []) }
+{
+    kernels.insert(kernel)?;
+    Ok(())
+}
+
+/// The number of the state with a kernel, which is new where none has it, or None where there are too many.
+fn enter(
+    kernels: &mut IndexSet<Vec<Item>>,
+    origins: &mut Vec<Origin>,
+    kernel: Vec<Item>,
+    origin: Origin,
+) -> Result<Option<u32>, NoMemory>
+    requires { length kernels.old.keys ≤ MOST_STATES }
+    ensures few { OnOk result (length kernels.new.keys ≤ MOST_STATES) }
+    ensures entered { IfOk result (λ found. IfSome found (Entered (map (λ k. k.items) kernels.old.keys) (map (λ k. k.items) kernels.new.keys) origins.old.items origins.new.items kernel.items origin)) }
+    ensures full { IfOk result (λ found. IfNone found ((length kernels.old.keys ≡ MOST_STATES) × (Contains (map (λ k. k.items) kernels.old.keys) kernel.items → ⊥))) }
+{
+    if let Some(known) = find(kernels, kernel.as_slice()) {
+        return Ok(Some(known as u32));
+    }
+    let number = kernels.len();
+    if number == MOST_STATES {
+        return Ok(None);
+    }
+    add(kernels, kernel)?;
+    origins.push(origin)?;
+    Ok(Some(number as u32))
+}
+
+impl Automaton {
+    /// Finds the core and the moves of the next state, or answers false where there are too many states.
+    fn expand(&mut self, alloc: Global, g: &Grammar, corners: &Relation) -> Result<bool, NoMemory>
+        requires part { IsPart g.now (map (λ k. k.items) self.old.kernels.keys) self.old.cores.items self.old.moves.items self.old.origins.items }
+        requires moves { length self.old.moves.items ≡ length self.old.cores.items }
+        requires next { length self.old.cores.items < length self.old.kernels.keys }
+        requires few { length self.old.kernels.keys ≤ MOST_STATES }
+        requires size { length corners.now ≡ length g.now.rules }
+        requires exact { (x y : ℕ) → Holds corners.now x y ↔ Corner g.now.rules x y }
+        requires entries { 0 < length g.now.entries }
+        ensures part { IfOk result (λ whole. OnTrue whole (IsPart g.now (map (λ k. k.items) self.new.kernels.keys) self.new.cores.items self.new.moves.items self.new.origins.items)) }
+        ensures cores { IfOk result (λ whole. OnTrue whole (length self.new.cores.items ≡ suc (length self.old.cores.items))) }
+        ensures moves { IfOk result (λ whole. OnTrue whole (length self.new.moves.items ≡ length self.new.cores.items)) }
+        ensures few { IfOk result (λ whole. OnTrue whole (length self.new.kernels.keys ≤ MOST_STATES)) }
+        ensures full { IfOk result (λ whole. OnFalse whole (Overflows g.now)) }
+    {
+        let state = self.cores.len();
+        let core = self.core_of(alloc, g, corners, state)?;
+        let mut row = Vec::new(alloc);
+        let mut x = next_symbol(g, &core, 0);
+        'symbols: while x < g.symbols() {
+            let kernel = advance(alloc, g, x, &core)?;
+            let origin = Origin {
+                state: state as u32,
+                symbol: x,
+            };
+            let Some(target) = enter(&mut self.kernels, &mut self.origins, kernel, origin)? else {
+                return Ok(false);
+            };
+            row.push(Move { symbol: x, target })?;
+            x = next_symbol(g, &core, x + 1);
+        }
+        self.cores.push(Row::new(core))?;
+        self.moves.push(Row::new(row))?;
+        Ok(true)
+    }
+
+    /// The core of a state.
+    fn core_of(
+        &self,
+        alloc: Global,
+        g: &Grammar,
+        corners: &Relation,
+        state: usize,
+    ) -> Result<Vec<Item>, NoMemory>
+        requires part { IsPart g.now (map (λ k. k.items) self.now.kernels.keys) self.now.cores.items self.now.moves.items self.now.origins.items }
+        requires there { state < length self.now.kernels.keys }
+        requires size { length corners.now ≡ length g.now.rules }
+        requires exact { (x y : ℕ) → Holds corners.now x y ↔ Corner g.now.rules x y }
+        ensures { IfOk result (λ core. IsClosure g.now (row_at (map (λ k. k.items) self.now.kernels.keys) state) core.items) }
+    {
+        let kernel = self.kernels.get_index(state).unwrap();
+        let core = closure(alloc, g, corners, kernel.as_slice())?;
+        Ok(core)
+    }
+}
