@@ -1,6 +1,7 @@
 -- Lemmas on the places of kernels.
 use Rattle.std.proofs.Common.{◌≡◌, ℕ, zero, suc, ◌+◌, ◌<◌, ◌≤◌, ◌⊎◌, ◌||◌, ◌&&◌, inl, inr, Bool, true, false, cond, not, List, [], ◌∷◌, ◌++◌, length, get_or, map, refl, sym, ap, ◌∙◌, subst, arith, Option, Some, None, Decides, eqb}
-use Rattle.std.specs.Prelude.{Contains, IfSome, IfNone, position, nat_lt, nat_eq}
+use Rattle.std.specs.Prelude.{Contains, IfSome, IfNone, position, nat_lt, nat_eq, slice_get}
+use Rattle.std.proofs.lemmas.Option.{none-some, same_Some}
 use Rattle.std.specs.List.{position_or_len, list_any}
 use Rattle.std.specs.Cmp.Lexicographic.{pointwise}
 use Rattle.std.proofs.lemmas.Bool.{false≢true, ltb-false, cases_lt, or_cases, and_parts, eqb-true, eq-eqb, and_from, false_from_ne_true}
@@ -78,3 +79,9 @@ module _ (E : Item → Item → Bool) (decides : (i j : Item) → Decides (E i j
     added-last x same absent =
         let no : list_any (λ y. pointwise E kernel (f y)) keys ≡ false = false_from_ne_true (list_any (λ y. pointwise E kernel (f y)) keys) (λ e. absent (any-contains (map f keys) (sym (any-map f (pointwise E kernel) keys) ∙ e))) in
         ap (λ b. map f (cond b keys (keys ++ x ∷ []))) no ∙ map-push f keys x ∙ ap (λ k. map f keys ++ k ∷ []) same
+
+-- the kernel at a place
+pub kernel-at : {X : Type 0} (f : X → List Item) (keys : List X) (s : ℕ) (k : X) → slice_get keys s ≡ Some k → row_at (map f keys) s ≡ f k
+kernel-at f [] s k e = absurd (none-some k e)
+kernel-at f (x ∷ keys) zero k e = ap f (same_Some x k e)
+kernel-at f (x ∷ keys) (suc s) k e = kernel-at f keys s k e

@@ -81,3 +81,6 @@ advance-one g X i e = ap (λ b. map moved (cond b (i ∷ []) [])) e
 
 pub advance-none : (g : Grammar) (X : ℕ) (i : Item) → is_before X (symbol_of g i) ≡ false → advance g X (i ∷ []) ≡ []
 advance-none g X i e = ap (λ b. map moved (cond b (i ∷ []) [])) e
+
+pub next-within : (g : Grammar) → IsWellFormed g → (items : List Item) (X : ℕ) → HasNext g items X → X < g.symbols
+next-within g w items X h = symbol-within g w h.0.production h.0.dot X h.2

@@ -2,7 +2,7 @@
 use Rattle.std.proofs.Common.{◌≡◌, ◌≢◌, ℕ, zero, suc, ◌+◌, ◌<◌, ◌≤◌, ◌⊎◌, inl, inr, Bool, true, false, cond, List, [], ◌∷◌, ◌++◌, length, get_or, refl, sym, ap, ◌∙◌, subst, arith, Option, Some, None, eqb}
 use Rattle.std.specs.Prelude.{Contains, All, AllPairs, nat_eq, slice_index_or}
 use Rattle.std.proofs.lemmas.Bool.{cases_eq, cases_lt, eq-eqb, ne_eqb}
-use Rattle.std.proofs.lemmas.List.{get_or_append_left, get_or_push, length_push, length-append}
+use Rattle.std.proofs.lemmas.List.{get_or_append_left, get_or_push, get_or_default, length_push, length-append}
 use Rattle.std.proofs.lemmas.List.Elements.{All-push, All-contains, Contains-get_or}
 use Rattle.std.proofs.lemmas.List.Quantifiers.{all_pairs_push}
 use Rattle.sg_grammar.specs.Grammar.{Grammar}
@@ -10,7 +10,7 @@ use Rattle.sg_lalr.specs.declared.states.Move.{Move}
 use Rattle.sg_lalr.specs.declared.states.Origin.{Origin}
 use Rattle.sg_lalr.specs.Items.{Item, item, HasNext, symbol_of, advance, moved, IsRising}
 use Rattle.sg_lalr.specs.Closure.{InRange, IsKernel, IsClosure}
-use Rattle.sg_lalr.specs.Automaton.{row_at, moves_at, target_of, goto, origin, Earlier, NotLater, IsBehind, origin_at, ComesFrom, IsPart, Entered}
+use Rattle.sg_lalr.specs.Automaton.{row_at, moves_at, target_of, goto, origin, Earlier, NotLater, IsBehind, origin_at, ComesFrom, IsPart, Entered, Overflows}
 use Rattle.sg_lalr.proofs.RisingLemmas.{advance-from, advance-rising, All-contained}
 
 pub row_at-front : (rows : List (List Item)) (row : List Item) (s : ℕ) → s < length rows → row_at (rows ++ row ∷ []) s ≡ row_at rows s
@@ -201,3 +201,37 @@ module _ (g : Grammar) where
     where
       p : IsPart g kernels cores moves origins
       p = e.part
+
+-- the same with the core of state s as the last
+module _ (g : Grammar) (cores : List (List Item)) (core : List Item) (moves : List (List Move)) (s : ℕ) (here : length cores ≡ s) where
+  at : row_at (cores ++ core ∷ []) s ≡ core
+  at = row_at-last cores core s here
+
+  pub start-row : (kernels : List (List Item)) (origins : List Origin) (row : List Move) (x : ℕ) → IsPart g kernels cores moves origins → s < length kernels → IsClosure g (row_at kernels s) core → ((X : ℕ) → HasNext g core X → x ≤ X) → row ≡ [] → Expanding g kernels (cores ++ core ∷ []) moves origins row s x
+  start-row kernels origins row x p low c least none =
+      subst (λ r. Expanding g kernels (cores ++ core ∷ []) moves origins r s x) (sym none)
+      (expanding-none g kernels (cores ++ core ∷ []) moves origins s x
+      (part-core g kernels cores moves origins core p (omega (arith, low, here)) (subst (λ t. IsClosure g (row_at kernels t) core) (sym here) c))
+      (omega (arith, here, length_push cores core))
+      (λ X h. least X (subst (λ l. HasNext g l X) at h))
+      (λ k d l. subst (λ (o : Origin). o.state < s) (get_or_default origins k (origin 0 0) d l) (let e = (p.comes k l).expanded in omega (arith, e, here))))
+
+  pub more-row : (kernels more : List (List Item)) (origins others : List Origin) (row next : List Move) (kernel : List Item) (x y v : ℕ) → Expanding g kernels (cores ++ core ∷ []) moves origins row s x → HasNext g core x → x < y → ((X : ℕ) → suc x ≤ X → HasNext g core X → y ≤ X)
+      → kernel ≡ advance g x core → Entered kernels more origins others kernel (origin s x) v → next ≡ row ++ record { symbol = x; target = v } ∷ [] → Expanding g more (cores ++ core ∷ []) moves others next s y
+  more-row kernels more origins others row next kernel x y v e has less least is entered new =
+      subst (λ r. Expanding g more (cores ++ core ∷ []) moves others r s y) (sym new)
+      (expanding-more g kernels more (cores ++ core ∷ []) moves origins others row s x y v e (subst (λ l. HasNext g l x) (sym at) has) less (λ X l h. least X l (subst (λ r. HasNext g r X) at h))
+      (subst (λ k. Entered kernels more origins others k (origin s x) v) (is ∙ ap (advance g x) (sym at)) entered))
+
+  pub overflow-row : (kernels : List (List Item)) (origins : List Origin) (row : List Move) (kernel : List Item) (x : ℕ) → Expanding g kernels (cores ++ core ∷ []) moves origins row s x → HasNext g core x → kernel ≡ advance g x core → length kernels ≡ 65536 → (Contains kernels kernel → ⊥) → Overflows g
+  overflow-row kernels origins row kernel x e has is full absent = record {
+    kernels = kernels; cores = cores ++ core ∷ []; moves = moves; origins = origins;
+    part = e.part; full = full; state = s; symbol = x; expanded = e.here;
+    next = subst (λ l. HasNext g l x) (sym at) has;
+    absent = λ c. absent (subst (Contains kernels) (sym (is ∙ ap (advance g x) (sym at))) c);
+  }
+
+  pub end-row : (kernels : List (List Item)) (origins : List Origin) (row : List Move) (x : ℕ) → Expanding g kernels (cores ++ core ∷ []) moves origins row s x → length moves ≡ s → ((X : ℕ) → HasNext g core X → X < x) → IsPart g kernels (cores ++ core ∷ []) (moves ++ row ∷ []) origins
+  end-row kernels origins row x e long all =
+      part-row g kernels (cores ++ core ∷ []) moves origins row x (subst (λ t. Expanding g kernels (cores ++ core ∷ []) moves origins row t x) (sym long) e)
+      (λ X h. all X (subst (λ l. HasNext g l X) at (subst (λ t. HasNext g (row_at (cores ++ core ∷ []) t) X) long h)))

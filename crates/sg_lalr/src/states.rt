@@ -101,6 +101,7 @@ impl Automaton {
         ensures few { IfOk result (λ whole. OnTrue whole (length self.new.kernels.keys ≤ MOST_STATES)) }
         ensures full { IfOk result (λ whole. OnFalse whole (Overflows g.now)) }
     {
+        g.sound();
         let state = self.cores.len();
         let core = self.core_of(alloc, g, corners, state)?;
         let mut row = Vec::new(alloc);
