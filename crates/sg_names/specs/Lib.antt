@@ -1,0 +1,4 @@
+pub mod Names
+pub mod Lookups
+pub mod Meaning
+pub mod Indexed

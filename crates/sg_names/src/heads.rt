@@ -1,0 +1,11 @@
+//! The first definitions of phyla and nonterminals.
+use sg_kinds::fault::Position;
+use sg_kinds::text::Text;
+
+/// A phylum or nonterminal as it is first defined, and whether that is by a lexeme's pattern.
+#[derive(Drop)]
+pub(crate) struct Head {
+    pub name: Text,
+    pub place: Position,
+    pub lexical: bool,
+}

@@ -1,0 +1,7 @@
+//! What the names of a specification mean, and the faults of names and shapes.
+#![tactic(auto)]
+
+mod heads;
+mod index;
+pub mod names;
+pub mod table;
