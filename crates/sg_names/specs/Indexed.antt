@@ -1,5 +1,5 @@
 -- When indexes tell what the names of a table mean.
-use Rattle.std.specs.Prelude.{◌≡◌, ℕ, Bool, ◌&&◌, nat_lt, List, length, IsTrue}
+use Rattle.std.specs.Prelude.{◌≡◌, ℕ, Bool, ◌&&◌, nat_lt, List, true, length}
 use Rattle.std.specs.List.{list_all}
 use Rattle.sg_kinds.specs.Values.{Bytes}
 use Rattle.sg_kinds.specs.declared.spec.Phylum.{Phylum}
@@ -21,4 +21,4 @@ pub record IsIndexed (t : Table) (by_phylum : Index ℕ) (by_nonterminal : Index
   pub phyla : (n : Bytes) → meaning by_phylum n ≡ phylum_named t n
   pub nonterminals : (n : Bytes) → meaning by_nonterminal n ≡ nonterminal_named t n
   pub callables : (n : Bytes) → meaning by_callable n ≡ callable t n
-  pub numbered : IsTrue (is_numbered t)
+  pub numbered : is_numbered t ≡ true

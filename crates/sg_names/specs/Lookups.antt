@@ -1,5 +1,5 @@
 -- What a name means by a table: look-ups in its lists by position.
-use Rattle.std.specs.Prelude.{ℕ, zero, suc, ◌-◌, Bool, true, false, not, ◌&&◌, if◌then◌else◌, List, [], ◌∷◌, map, nat_eq, bytes_eq, codes, Option, Some, None, slice_get, option_map, option_and_then, unwrap_or}
+use Rattle.std.specs.Prelude.{ℕ, zero, suc, ◌-◌, Bool, true, false, not, ◌&&◌, if◌then◌else◌, List, [], ◌∷◌, map, find, nat_eq, bytes_eq, codes, Option, Some, None, slice_get, option_map, option_and_then, unwrap_or}
 use Rattle.std.specs.List.{position}
 use Rattle.sg_kinds.specs.Values.{Bytes}
 use Rattle.sg_kinds.specs.declared.spec.Phylum.{Phylum}
@@ -132,11 +132,11 @@ abbrev pub symbol : Bytes → List Part → Written → Option ℕ
 symbol left parts (Own place) = None
 symbol left parts (Named q k) = option_and_then not_left (chosen k (places (is_part q.text) (bytes_eq q.text left) parts))
 
--- the type of an attribute, among these
+-- the type of the first attribute of a name
 abbrev pub attr_type : List Attr → Bytes → Option ℕ
-attr_type attrs n = option_and_then (λ k. option_map (λ (a : Attr). a.of) (slice_get attrs k)) (slot_named attrs n)
+attr_type attrs n = option_map (λ (a : Attr). a.of) (find (λ (a : Attr). bytes_eq n a.name) attrs)
 
--- the type of an attribute of the nonterminal, or else of the phylum, of a name
+-- the attributes of the nonterminal, or else of the phylum, of a name
 abbrev pub symbol_attrs : Table → Bytes → List Attr
 symbol_attrs t q = unwrap_or
     (or_else (option_and_then (λ k. option_map (λ (x : Nonterminal). x.attrs) (slice_get t.nonterminals k)) (nonterminal_named t q))

@@ -20,6 +20,7 @@ use Rattle.sg_ast.specs.declared.decl.AttrDecl.{AttrDecl}
 use Rattle.sg_ast.specs.Declarations.{Decl, Root, Listed, Optional, Operators, LexemeOf, Attributes, Equations, Function, Productions}
 use Rattle.sg_ast.specs.FirstFault.{first}
 use Rattle.sg_names.specs.declared.heads.Head.{Head}
+use Rattle.sg_names.specs.Heads.{is_head, with_head, number_in, numbers_in, head_of}
 use Rattle.sg_names.specs.declared.table.Signature.{Signature}
 use Rattle.sg_names.specs.declared.table.Nonterminal.{Nonterminal}
 use Rattle.sg_names.specs.declared.table.Table.{Table}
@@ -33,19 +34,6 @@ map_from f k (x ∷ xs) = f k x ∷ map_from f (suc k) xs
 abbrev pub owned : {A : Type 0} → List (ℕ × A) → ℕ → List A
 owned pairs k = flat_map (λ x. if nat_eq x.0 k then x.1 ∷ [] else []) pairs
 
--- the first definitions of names, one more where its name is new
-abbrev pub is_head : Bytes → Head → Bool
-is_head n h = bytes_eq n h.name
-
-abbrev pub with_head : List Head → Head → List Head
-with_head heads h = if list_any (is_head h.name) heads then heads else heads ++ h ∷ []
-
-abbrev pub number_in : List Head → Bytes → ℕ
-number_in heads n = position_or_len (is_head n) heads
-
-abbrev pub numbers_in : List Head → List Name → List ℕ
-numbers_in heads names = map (λ (n : Name). number_in heads n.text) names
-
 -- BOOL, INT and STR are defined before the text
 abbrev pub base_head : Bytes → Head
 base_head n = record { name = n; place = record { token = 0; line = 0 }; lexical = false }
@@ -55,12 +43,12 @@ base_heads = base_head (codes "BOOL") ∷ base_head (codes "INT") ∷ base_head 
 
 -- what a declaration defines: a phylum with operators, or by a lexeme's pattern; a nonterminal
 abbrev pub phylum_defined : Decl → List Head
-phylum_defined (Operators n alts) = record { name = n.text; place = n.place; lexical = false } ∷ []
-phylum_defined (LexemeOf n s) = record { name = n.text; place = n.place; lexical = true } ∷ []
+phylum_defined (Operators n alts) = head_of n false ∷ []
+phylum_defined (LexemeOf n s) = head_of n true ∷ []
 phylum_defined d = []
 
 abbrev pub nonterminal_defined : Decl → List Head
-nonterminal_defined (Productions n rights) = record { name = n.text; place = n.place; lexical = false } ∷ []
+nonterminal_defined (Productions n rights) = head_of n false ∷ []
 nonterminal_defined d = []
 
 abbrev pub phyla_in : List Decl → List Head

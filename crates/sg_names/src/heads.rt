@@ -1,6 +1,14 @@
 //! The first definitions of phyla and nonterminals.
+ghost use Rattle.std.specs.Prelude.{◌≡◌, [], IfOk};
+ghost use Rattle.sg_names.specs.Heads as spec;
+
+use crate::index::Index;
+use sg_ast::name::Name;
 use sg_kinds::fault::Position;
+use sg_kinds::memory::NoMemory;
 use sg_kinds::text::Text;
+use std::alloc::Global;
+use std::marker::Model;
 
 /// A phylum or nonterminal as it is first defined, and whether that is by a lexeme's pattern.
 #[derive(Drop)]
@@ -8,4 +16,95 @@ pub(crate) struct Head {
     pub name: Text,
     pub place: Position,
     pub lexical: bool,
+}
+
+/// The first definitions, each with its number. Contracts see their list.
+#[derive(Drop)]
+pub(crate) struct Heads {
+    list: Vec<Head>,
+    count: u32,
+    index: Index<u32>,
+}
+
+impl Model for Heads {
+    ghost use Rattle.std.specs.Prelude.{List};
+    ghost use Rattle.sg_names.specs.declared.heads.Head.{Head};
+    ghost use Rattle.sg_names.specs.HeadViews.{IsCounted};
+
+    ghost Value = { List Head };
+
+    ghost view = { λ h. h.list.items };
+
+    ghost invariant = { λ h. IsCounted h.list.items h.count h.index };
+}
+
+impl Heads {
+    /// No definitions.
+    pub fn new(alloc: Global) -> Heads
+        ensures { result ≡ [] }
+    {
+        Heads {
+            list: Vec::new(alloc),
+            count: 0,
+            index: Index::new(alloc),
+        }
+    }
+
+    /// The definitions as a slice.
+    pub fn as_slice(&self) -> &[Head]
+        ensures { result.now ≡ self.now }
+    {
+        self.list.as_slice()
+    }
+
+    /// The number of a name, or how many definitions there are, where it is not there.
+    #[tactic(auto, using(crate::proofs::HeadLaws::number_there))]
+    pub fn number(&self, name: &Text) -> u32
+        ensures { result ≡ spec.number_in self.now name.now }
+    {
+        match self.index.get(name.as_slice()) {
+            Some(number) => number,
+            None => self.count,
+        }
+    }
+
+    /// These with a definition more, if its name is new.
+    #[tactic(auto, using(crate::proofs::HeadLaws::with_new, crate::proofs::HeadLaws::with_old, crate::proofs::HeadLaws::counted_push))]
+    fn with(self, alloc: Global, head: Head) -> Result<Heads, NoMemory>
+        ensures { IfOk result (λ h. h ≡ spec.with_head self head) }
+    {
+        if self.index.get(head.name.as_slice()).is_some() {
+            return Ok(self);
+        }
+        let Heads {
+            mut list,
+            count,
+            mut index,
+        } = self;
+        index.put(alloc, head.name.as_slice(), count)?;
+        list.push(head)?;
+        let Some(next) = count.checked_add(1) else {
+            return Err(NoMemory);
+        };
+        Ok(Heads {
+            list,
+            count: next,
+            index,
+        })
+    }
+
+    /// These with the definition of a name more, if it is new.
+    pub fn with_name(self, alloc: Global, name: &Name, lexical: bool) -> Result<Heads, NoMemory>
+        ensures { IfOk result (λ h. h ≡ spec.with_head self (spec.head_of name.now lexical)) }
+    {
+        let text = name.text.copy(alloc)?;
+        self.with(
+            alloc,
+            Head {
+                name: text,
+                place: name.place,
+                lexical,
+            },
+        )
+    }
 }

@@ -1,17 +1,21 @@
 //! The tables of names.
-ghost use Rattle.std.specs.Prelude.{◌≡◌, length, slice_get, IfOk};
+ghost use Rattle.std.specs.Prelude.{◌≡◌, ◌<◌, ◌≤◌, length, slice_get, bytes_eq, position, IfOk, IfSome};
 ghost use Rattle.sg_ast.specs.View.{trees_of};
+ghost use Rattle.sg_kinds.specs.Specification.{attrs_of, args_of, locals_of, has_shape, is_lexical_shape};
+ghost use Rattle.sg_kinds.specs.declared.spec.Local.{Local};
 ghost use Rattle.sg_names.specs.Lookups as spec;
 ghost use Rattle.sg_names.specs.Names.{names_of, op_named};
 
 use crate::index::Index;
+use crate::occurrences::{IsNamed, IsPhylum, chosen};
 use crate::table::{Callable, Operand, Table};
 use sg_ast::decl::{Decl, Part};
 use sg_ast::name::{Occurrence as Written, Reference};
+use sg_ast::number::Number;
 use sg_kinds::ids::{OpId, PhylumId};
-use sg_kinds::marks::Unary;
+use sg_kinds::marks::{Shape, Unary};
 use sg_kinds::memory::NoMemory;
-use sg_kinds::spec::Occurrence;
+use sg_kinds::spec::{Attr, Local, Occurrence, Operator};
 use sg_kinds::text::Text;
 use std::alloc::Global;
 use std::marker::Model;
@@ -38,11 +42,62 @@ fn result_of(builtin: Unary) -> PhylumId
     }
 }
 
+fn is(name: &Text, other: &[u8]) -> bool
+    ensures { result ≡ bytes_eq name.now other.now }
+{
+    name.as_slice() == other
+}
+
+/// The place of an attribute of a name.
+#[tactic(auto, using(crate::proofs::Firsts::from_zero, crate::proofs::Firsts::passes, crate::proofs::Firsts::fails, crate::proofs::Firsts::ends))]
+fn slot_of(attrs: &[Attr], name: &Text) -> Option<u32>
+    requires { length attrs.now < 4294967295 }
+    ensures { result ≡ spec.slot_named attrs.now name.now }
+{
+    for (place, attr) in attrs.iter().enumerate() {
+        if is(name, attr.name.as_slice()) {
+            return Some(place as u32);
+        }
+    }
+    None
+}
+
+/// The occurrence of a phylum with a number, or the only one.
+fn occurrence_of(operator: &Operator, number: Option<Number>, phylum: PhylumId) -> Option<usize>
+    ensures value { result ≡ spec.occurrence_of operator.now number phylum }
+    ensures within { IfSome result (λ at. at ≤ length operator.now.args) }
+{
+    let left = phylum.number == operator.phylum.number;
+    chosen(&IsPhylum(phylum), left, operator.args.as_slice(), number)
+}
+
+/// The type of the first attribute of a name.
+fn type_of(attrs: &[Attr], name: &Text) -> Option<PhylumId>
+    ensures { result ≡ spec.attr_type attrs.now name.now }
+{
+    let attr = attrs.iter().find(|attr| is(name, attr.name.as_slice()))?;
+    Some(attr.of)
+}
+
+/// The place of a local of a name.
+#[tactic(auto, using(crate::proofs::Firsts::from_zero, crate::proofs::Firsts::passes, crate::proofs::Firsts::fails, crate::proofs::Firsts::ends))]
+fn local_of(locals: &[Local], name: &Text) -> Option<u32>
+    requires { length locals.now < 4294967295 }
+    ensures { result ≡ position (λ (l : Local). bytes_eq name.now l.name) locals.now }
+{
+    for (place, local) in locals.iter().enumerate() {
+        if is(name, local.name.as_slice()) {
+            return Some(place as u32);
+        }
+    }
+    None
+}
+
 /// What the names of a specification mean, with an index of the names. Contracts see its table.
 #[derive(Drop)]
 pub struct Names {
     table: Table,
-    phyla: Index<PhylumId>,
+    phyla: Index<u32>,
     nonterminals: Index<u32>,
     callables: Index<Callable>,
 }
@@ -78,14 +133,19 @@ impl Names {
     pub fn phylum_named(&self, name: &Text) -> Option<PhylumId>
         ensures { result ≡ spec.phylum_named self.now name.now }
     {
-        self.phyla.get(name.as_slice())
+        let number = self.phyla.get(name.as_slice())?;
+        Some(PhylumId { number })
     }
 
     /// The phylum of a name that may be used, so not the lexeme phylum WHITESPACE.
     pub fn usable_named(&self, name: &Text) -> Option<PhylumId>
         ensures { result ≡ spec.usable_named self.now name.now }
     {
-        None
+        let phylum = self.phylum_named(name)?;
+        if is(name, b"WHITESPACE") && self.is_lexical(phylum) {
+            return None;
+        }
+        Some(phylum)
     }
 
     /// The nonterminal of a name, by its place in the table.
@@ -172,42 +232,150 @@ impl Names {
     pub fn operator_named(&self, phylum: PhylumId, name: &Text) -> Option<OpId>
         ensures { result ≡ spec.operator_named self.now phylum name.now }
     {
-        None
+        let op = self.op_named(name)?;
+        let operator = self.table.ops.place(op.number)?;
+        if operator.phylum.number == phylum.number {
+            Some(op)
+        } else {
+            None
+        }
+    }
+
+    /// Whether a phylum is a lexeme phylum.
+    pub fn is_lexical(&self, phylum: PhylumId) -> bool
+        ensures { result ≡ has_shape self.now.phyla is_lexical_shape phylum }
+    {
+        match self.table.phyla.place(phylum.number) {
+            Some(phylum) => matches!(phylum.shape, Shape::Lexemes(_)),
+            None => false,
+        }
+    }
+
+    /// The attributes of a phylum; none for a number out of range.
+    #[tactic(auto, using(crate::proofs::Shorts::attrs_short))]
+    pub fn attrs(&self, phylum: PhylumId) -> &[Attr]
+        ensures attrs { result.now ≡ attrs_of self.now.phyla phylum }
+        ensures short { length result.now < 4294967295 }
+    {
+        match self.table.phyla.place(phylum.number) {
+            Some(phylum) => phylum.attrs.as_slice(),
+            None => &[],
+        }
+    }
+
+    /// The arguments of an operator; none for a number out of range.
+    #[tactic(auto, using(crate::proofs::Shorts::args_short))]
+    pub fn args(&self, op: OpId) -> &[PhylumId]
+        ensures args { result.now ≡ args_of self.now.ops op }
+        ensures short { length result.now < 4294967295 }
+    {
+        match self.table.ops.place(op.number) {
+            Some(operator) => operator.args.as_slice(),
+            None => &[],
+        }
+    }
+
+    /// The locals of an operator; none for a number out of range.
+    #[tactic(auto, using(crate::proofs::Shorts::locals_short))]
+    pub fn locals(&self, op: OpId) -> &[Local]
+        ensures locals { result.now ≡ locals_of self.now.ops op }
+        ensures short { length result.now < 4294967295 }
+    {
+        match self.table.ops.place(op.number) {
+            Some(operator) => operator.locals.as_slice(),
+            None => &[],
+        }
     }
 
     /// The slot of an attribute of a phylum.
     pub fn attribute(&self, phylum: PhylumId, name: &Text) -> Option<u32>
         ensures { result ≡ spec.attribute self.now phylum name.now }
     {
-        None
+        slot_of(self.attrs(phylum), name)
     }
 
     /// The place of a local among those of its operator.
     pub fn local(&self, op: OpId, name: &Text) -> Option<u32>
         ensures { result ≡ spec.local self.now op name.now }
     {
-        None
+        local_of(self.locals(op), name)
     }
 
     /// An occurrence of an operator: 0 for the left side, k + 1 for argument k.
+    #[tactic(auto, using(crate::proofs::Shorts::args_short))]
     pub fn occurrence(&self, op: OpId, written: &Written) -> Option<u32>
         ensures { result ≡ spec.occurrence self.now op written.now }
     {
-        None
+        match written {
+            Written::Own(_) => Some(0),
+            Written::Named(name, number) => {
+                let phylum = self.phylum_named(&name.text)?;
+                let operator = self.table.ops.place(op.number)?;
+                let at = occurrence_of(operator, *number, phylum)?;
+                Some(at as u32)
+            }
+        }
     }
 
-    /// An attribute of an occurrence of an operator.
+    /// The phylum at an occurrence of an operator.
+    pub fn phylum_there(&self, op: OpId, at: u32) -> Option<PhylumId>
+        ensures { result ≡ spec.phylum_there self.now op at }
+    {
+        if at == 0 {
+            return Some(self.table.ops.place(op.number)?.phylum);
+        }
+        self.args(op).get((at - 1) as usize).copied()
+    }
+
+    /// An attribute of a name at an occurrence of an operator.
+    pub fn attribute_at(&self, op: OpId, at: u32, name: &Text) -> Option<Occurrence>
+        ensures { result ≡ spec.attribute_at self.now op at name.now }
+    {
+        let phylum = self.phylum_there(op, at)?;
+        let slot = self.attribute(phylum, name)?;
+        Some(Occurrence { at, slot })
+    }
+
+    /// The attributes of the nonterminal, or else of the phylum, of a name.
+    pub fn symbol_attrs(&self, name: &Text) -> &[Attr]
+        ensures { result.now ≡ spec.symbol_attrs self.now name.now }
+    {
+        if let Some(place) = self.nonterminals.get(name.as_slice()) {
+            if let Some(nonterminal) = self.table.nonterminals.place(place) {
+                return nonterminal.attrs.as_slice();
+            }
+        }
+        match self.phylum_named(name) {
+            Some(phylum) => self.attrs(phylum),
+            None => &[],
+        }
+    }
+
+    /// What a reference means in the equations of an operator: an attribute of an occurrence.
     pub fn reference(&self, op: OpId, reference: &Reference) -> Option<Occurrence>
         ensures { result ≡ spec.reference self.now op reference.now }
     {
-        None
+        let at = self.occurrence(op, &reference.of)?;
+        self.attribute_at(op, at, &reference.attr.text)
     }
 
     /// What a reference means in an input production: an attribute of a nonterminal, or the text of a lexeme.
     pub fn operand(&self, left: &Text, parts: &[Part], reference: &Reference) -> Option<Operand>
         ensures { result ≡ spec.operand self.now left.now parts.now reference.now }
     {
-        None
+        match &reference.of {
+            Written::Own(_) => None,
+            Written::Named(name, number) => {
+                let test = IsNamed(&name.text);
+                let left = is(&name.text, left.as_slice());
+                let at = chosen(&test, left, parts, *number)?;
+                if at == 0 {
+                    return None;
+                }
+                let of = type_of(self.symbol_attrs(&name.text), &reference.attr.text)?;
+                Some(Operand { at, of })
+            }
+        }
     }
 }
 

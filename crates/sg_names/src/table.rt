@@ -50,6 +50,6 @@ pub enum Callable {
 /// A symbol of an input production that a reference names: its place counted from 1, and the phylum of its result or text.
 #[derive(Clone, Copy, PartialEq, Eq)]
 pub struct Operand {
-    pub at: u32,
+    pub at: usize,
     pub of: PhylumId,
 }

@@ -1,0 +1,5 @@
+pub mod Indexes
+pub mod Shorts
+pub mod Firsts
+pub mod RowLaws
+pub mod HeadLaws

@@ -1,0 +1,6 @@
+-- What groups hold of an owner.
+use Rattle.std.specs.Prelude.{ℕ, List, [], Vec, Option, slice_get, option_map, unwrap_or}
+use Rattle.sg_names.specs.declared.groups.Groups.{Groups}
+
+abbrev pub row_at : {T : Type 0} → Groups T → ℕ → List T
+row_at groups k = unwrap_or (option_map (λ v. v.items) (slice_get groups.rows.items k)) []
