@@ -17,10 +17,10 @@ from_push p i (y ∷ ys) x =
     let e : (i + 1) + length ys ≡ i + suc (length ys) = omega arith in
     let h : position_from p (i + 1) (ys ++ x ∷ []) ≡ or_else (position_from p (i + 1) ys) (if p x then Some ((i + 1) + length ys) else None) = from_push p (i + 1) ys x in
     ap (λ o. cond (p y) (Some i) o) (h ∙ ap (λ n. or_else (position_from p (i + 1) ys) (if p x then Some n else None)) e) ∙ first_of_two (p y) i (position_from p (i + 1) ys) (if p x then Some (i + suc (length ys)) else None)
-    where
-      first_of_two : (b : Bool) (k : ℕ) (o q : Option ℕ) → cond b (Some k) (or_else o q) ≡ or_else (cond b (Some k) o) q
-      first_of_two true k o q = refl
-      first_of_two false k o q = refl
+  where
+    first_of_two : (b : Bool) (k : ℕ) (o q : Option ℕ) → cond b (Some k) (or_else o q) ≡ or_else (cond b (Some k) o) q
+    first_of_two true k o q = refl
+    first_of_two false k o q = refl
 
 -- the place of an element that is put last
 pub position_push : {A : Type 0} (p : A → Bool) (xs : List A) (x : A) → position p (xs ++ x ∷ []) ≡ or_else (position p xs) (if p x then Some (length xs) else None)

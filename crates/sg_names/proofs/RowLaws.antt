@@ -1,7 +1,6 @@
 -- Rows of owners, with one more row and with a row that is written.
 use Rattle.std.proofs.lemmas.Bool.Decides.{nat_tests}
-use Rattle.std.proofs.Common.{Bool, true, false, ◌≡◌, ◌≢◌, ℕ, zero, suc, ◌+◌, ◌<◌, List, [], ◌∷◌, ◌++◌, length, set, get_or, nat_eq, if◌then◌else◌, append-nil, Vec, Option, Some, None, slice_get, option_map, unwrap_or, refl, sym, ap, ◌∙◌, arith}
-
+use Rattle.std.proofs.Common.{Bool, true, false, ◌≡◌, ℕ, zero, suc, ◌<◌, List, [], ◌∷◌, ◌++◌, length, set, get_or, nat_eq, if◌then◌else◌, append-nil, Vec, slice_get, option_map, unwrap_or, refl, sym, ap, ◌∙◌, arith}
 
 -- one more empty row
 pub one_more : {T A : Type 0} (rows : List (Vec T A)) (v : Vec T A) (k : ℕ) → v.items ≡ [] → unwrap_or (option_map (λ (x : Vec T A). x.items) (slice_get (rows ++ v ∷ []) k)) [] ≡ unwrap_or (option_map (λ (x : Vec T A). x.items) (slice_get rows k)) []

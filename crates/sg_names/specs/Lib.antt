@@ -5,3 +5,4 @@ pub mod Indexed
 pub mod Rows
 pub mod Heads
 pub mod HeadViews
+pub mod Callables

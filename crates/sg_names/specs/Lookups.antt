@@ -1,5 +1,5 @@
 -- What a name means by a table: look-ups in its lists by position.
-use Rattle.std.specs.Prelude.{ℕ, zero, suc, ◌-◌, Bool, true, false, not, ◌&&◌, if◌then◌else◌, List, [], ◌∷◌, map, find, nat_eq, bytes_eq, codes, Option, Some, None, slice_get, option_map, option_and_then, unwrap_or}
+use Rattle.std.specs.Prelude.{ℕ, zero, suc, ◌-◌, Bool, false, ◌&&◌, if◌then◌else◌, List, [], ◌∷◌, find, nat_eq, bytes_eq, codes, Option, Some, None, slice_get, option_map, option_and_then, unwrap_or}
 use Rattle.std.specs.List.{position}
 use Rattle.sg_kinds.specs.Values.{Bytes}
 use Rattle.sg_kinds.specs.declared.spec.Phylum.{Phylum}
@@ -48,11 +48,16 @@ builtin_named n =
     else None
 
 -- what a name before parentheses means; an operator of a phylum
+abbrev pub function_named : List Signature → Bytes → Option ℕ
+function_named functions n = position (λ (f : Signature). bytes_eq n f.name) functions
+
+abbrev pub callable_in : List Operator → List Signature → Bytes → Option Callable
+callable_in ops functions n =
+    or_else (or_else (option_map callables.Operator (op_named ops n)) (option_map callables.Function (function_named functions n)))
+    (option_map callables.Builtin (builtin_named n))
+
 abbrev pub callable : Table → Bytes → Option Callable
-callable t n =
-    or_else (option_map callables.Operator (op_named t.ops n))
-    (or_else (option_map callables.Function (position (λ (f : Signature). bytes_eq n f.name) t.functions))
-    (option_map callables.Builtin (builtin_named n)))
+callable t n = callable_in t.ops t.functions n
 
 abbrev pub operator_named : Table → ℕ → Bytes → Option ℕ
 operator_named t p n = operator_of t.ops p n

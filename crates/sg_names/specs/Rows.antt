@@ -1,5 +1,5 @@
 -- What groups hold of an owner.
-use Rattle.std.specs.Prelude.{ℕ, List, [], Vec, Option, slice_get, option_map, unwrap_or}
+use Rattle.std.specs.Prelude.{ℕ, List, [], slice_get, option_map, unwrap_or}
 use Rattle.sg_names.specs.declared.groups.Groups.{Groups}
 
 abbrev pub row_at : {T : Type 0} → Groups T → ℕ → List T

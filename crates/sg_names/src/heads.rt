@@ -1,5 +1,6 @@
 //! The first definitions of phyla and nonterminals.
-ghost use Rattle.std.specs.Prelude.{◌≡◌, [], IfOk};
+ghost use Rattle.std.specs.Prelude.{◌≡◌, ℕ, List, [], position, IfOk};
+ghost use Rattle.sg_names.specs.Meaning.{meaning};
 ghost use Rattle.sg_names.specs.Heads as spec;
 
 use crate::index::Index;
@@ -38,6 +39,16 @@ impl Model for Heads {
     ghost invariant = { λ h. IsCounted h.list.items h.count h.index };
 }
 
+fn base_head(alloc: Global, name: &[u8]) -> Result<Head, NoMemory>
+    ensures { IfOk result (λ h. h ≡ spec.base_head name.now) }
+{
+    Ok(Head {
+        name: Text::from_slice(alloc, name)?,
+        place: Position { token: 0, line: 0 },
+        lexical: false,
+    })
+}
+
 impl Heads {
     /// No definitions.
     pub fn new(alloc: Global) -> Heads
@@ -50,11 +61,28 @@ impl Heads {
         }
     }
 
+    /// BOOL, INT and STR, which are defined before the text.
+    pub fn base(alloc: Global) -> Result<Heads, NoMemory>
+        ensures { IfOk result (λ h. h ≡ spec.base_heads) }
+    {
+        let heads = Heads::new(alloc).with(alloc, base_head(alloc, b"BOOL")?)?;
+        let heads = heads.with(alloc, base_head(alloc, b"INT")?)?;
+        heads.with(alloc, base_head(alloc, b"STR")?)
+    }
+
     /// The definitions as a slice.
     pub fn as_slice(&self) -> &[Head]
         ensures { result.now ≡ self.now }
     {
         self.list.as_slice()
+    }
+
+    /// The index of the numbers.
+    pub fn into_index(self) -> Index<u32>
+        ensures { (n : List ℕ) → meaning result n ≡ position (spec.is_head n) self }
+    {
+        let Heads { index, .. } = self;
+        index
     }
 
     /// The number of a name, or how many definitions there are, where it is not there.

@@ -1,21 +1,26 @@
 //! The tables of names.
-ghost use Rattle.std.specs.Prelude.{◌≡◌, ◌<◌, ◌≤◌, length, slice_get, bytes_eq, position, IfOk, IfSome};
-ghost use Rattle.sg_ast.specs.View.{trees_of};
+ghost use Rattle.std.specs.Prelude.{◌≡◌, ◌<◌, ◌≤◌, ◌&&◌, ℕ, List, length, slice_get, bytes_eq, position, IfOk, IfSome};
 ghost use Rattle.sg_kinds.specs.Specification.{attrs_of, args_of, locals_of, has_shape, is_lexical_shape};
+ghost use Rattle.std.specs.List.{list_all};
 ghost use Rattle.sg_kinds.specs.declared.spec.Local.{Local};
+ghost use Rattle.sg_kinds.specs.declared.spec.Phylum.{Phylum};
+ghost use Rattle.sg_kinds.specs.declared.spec.Operator.{Operator};
+ghost use Rattle.sg_names.specs.Indexed as indexed;
 ghost use Rattle.sg_names.specs.Lookups as spec;
-ghost use Rattle.sg_names.specs.Names.{names_of, op_named};
+ghost use Rattle.sg_names.specs.Meaning.{meaning};
+ghost use Rattle.sg_names.specs.Names.{op_named};
 
+use crate::callables;
 use crate::index::Index;
 use crate::occurrences::{IsNamed, IsPhylum, chosen};
 use crate::table::{Callable, Operand, Table};
-use sg_ast::decl::{Decl, Part};
+use sg_ast::decl::Part;
 use sg_ast::name::{Occurrence as Written, Reference};
 use sg_ast::number::Number;
 use sg_kinds::ids::{OpId, PhylumId};
 use sg_kinds::marks::{Shape, Unary};
 use sg_kinds::memory::NoMemory;
-use sg_kinds::spec::{Attr, Local, Occurrence, Operator};
+use sg_kinds::spec::{Attr, Local, Occurrence, Operator, Phylum};
 use sg_kinds::text::Text;
 use std::alloc::Global;
 use std::marker::Model;
@@ -46,6 +51,34 @@ fn is(name: &Text, other: &[u8]) -> bool
     ensures { result ≡ bytes_eq name.now other.now }
 {
     name.as_slice() == other
+}
+
+/// A list is shorter than this, so that places among attributes, locals and occurrences are numbers of 32 bits. No list in
+/// memory is longer.
+const LONG: usize = 4294967295;
+
+fn are_short_phyla(phyla: &[Phylum]) -> bool
+    ensures { result ≡ list_all (λ (x : Phylum). indexed.is_short x.attrs) phyla.now }
+{
+    phyla.iter().all(|phylum| phylum.attrs.len() < LONG)
+}
+
+fn has_short_lists(op: &Operator) -> bool
+    ensures { result ≡ (indexed.is_short op.now.args && indexed.is_short op.now.locals) }
+{
+    op.args.len() < LONG && op.locals.len() < LONG
+}
+
+fn are_short_ops(ops: &[Operator]) -> bool
+    ensures { result ≡ list_all (λ (o : Operator). indexed.is_short o.args && indexed.is_short o.locals) ops.now }
+{
+    ops.iter().all(|op| has_short_lists(op))
+}
+
+fn is_numbered(table: &Table) -> bool
+    ensures { result ≡ indexed.is_numbered table.now }
+{
+    are_short_phyla(table.phyla.as_slice()) && are_short_ops(table.ops.as_slice())
 }
 
 /// The place of an attribute of a name.
@@ -114,6 +147,29 @@ impl Model for Names {
 }
 
 impl Names {
+    /// These lists, with the indexes of the phyla and the nonterminals.
+    pub(crate) fn new(
+        alloc: Global,
+        table: Table,
+        phyla: Index<u32>,
+        nonterminals: Index<u32>,
+    ) -> Result<Names, NoMemory>
+        requires phyla { (n : List ℕ) → meaning phyla n ≡ spec.phylum_named table n }
+        requires nonterminals { (n : List ℕ) → meaning nonterminals n ≡ spec.nonterminal_named table n }
+        ensures { IfOk result (λ n. n ≡ table) }
+    {
+        if !is_numbered(&table) {
+            return Err(NoMemory);
+        }
+        let callables = callables::all(alloc, table.ops.as_slice(), table.functions.as_slice())?;
+        Ok(Names {
+            table,
+            phyla,
+            nonterminals,
+            callables,
+        })
+    }
+
     /// The lists.
     pub fn table(&self) -> &Table
         ensures { result.now ≡ self.now }
@@ -166,10 +222,7 @@ impl Names {
     pub fn op_named(&self, name: &Text) -> Option<OpId>
         ensures { result ≡ op_named self.now.ops name.now }
     {
-        match self.callable(name)? {
-            Callable::Operator(op) => Some(op),
-            Callable::Function(_) | Callable::Builtin(_) => None,
-        }
+        self.callable(name)?.operator()
     }
 
     /// How many parts stand between the parentheses after it; none for a number out of range.
@@ -377,11 +430,4 @@ impl Names {
             }
         }
     }
-}
-
-/// The tables of what the names of declarations mean.
-pub fn tables(alloc: Global, decls: &[Decl]) -> Result<Names, NoMemory>
-    ensures { IfOk result (λ n. n ≡ names_of (trees_of decls.now)) }
-{
-    Err(NoMemory)
 }

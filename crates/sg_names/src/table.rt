@@ -1,4 +1,7 @@
 //! What names mean, as lists in the order of their declarations.
+ghost use Rattle.std.specs.Prelude.{◌≡◌};
+ghost use Rattle.sg_names.specs.Callables.{operator_in};
+
 use sg_kinds::fault::Position;
 use sg_kinds::ids::{OpId, PhylumId};
 use sg_kinds::marks::Unary;
@@ -45,6 +48,18 @@ pub enum Callable {
     Operator(OpId),
     Function(u32),
     Builtin(Unary),
+}
+
+impl Callable {
+    /// The operator, if it is one.
+    pub fn operator(self) -> Option<OpId>
+        ensures { result ≡ operator_in self }
+    {
+        match self {
+            Callable::Operator(op) => Some(op),
+            Callable::Function(_) | Callable::Builtin(_) => None,
+        }
+    }
 }
 
 /// A symbol of an input production that a reference names: its place counted from 1, and the phylum of its result or text.

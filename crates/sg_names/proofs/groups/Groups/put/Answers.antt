@@ -1,5 +1,4 @@
-use Rattle.std.proofs.Common.{◌≡◌, ◌∙◌, ap, ◌++◌, [], ◌∷◌, nat_eq, if◌then◌else◌}
-use Rattle.sg_names.specs.Rows.{row_at}
+use Rattle.std.proofs.Common.{◌∙◌, ap, ◌++◌, [], ◌∷◌, nat_eq, if◌then◌else◌}
 use Rattle.sg_names.proofs.RowLaws.{pushed}
 use Rattle.sg_names.proofs.groups.Groups.put.Goals as goal
 

@@ -1,4 +1,4 @@
-use Rattle.std.proofs.Common.{ℕ, List, ap, ◌∙◌, bytes_eq, if◌then◌else◌, Some, None, arith}
+use Rattle.std.proofs.Common.{ℕ, List, ap, ◌∙◌, bytes_eq, if◌then◌else◌, Some, None}
 use Rattle.sg_ast.specs.FirstFault.{or_else}
 use Rattle.sg_names.specs.Meaning.{meaning}
 use Rattle.sg_names.proofs.HeadLaws.{counted_push}
