@@ -7,3 +7,6 @@ pub mod Loops
 pub mod Owned
 pub mod Written
 pub mod TableMade
+pub mod Roots
+pub mod ScopeLaws
+pub mod NotedLaws

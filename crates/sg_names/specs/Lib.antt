@@ -6,3 +6,10 @@ pub mod Rows
 pub mod Heads
 pub mod HeadViews
 pub mod Callables
+pub mod Uses
+pub mod UnknownName
+pub mod TwiceBound
+pub mod Arity
+pub mod Shapes
+pub mod Noted
+pub mod SiteView

@@ -147,10 +147,13 @@ symbol_attrs t q = unwrap_or
     (or_else (option_and_then (λ k. option_map (λ (x : Nonterminal). x.attrs) (slice_get t.nonterminals k)) (nonterminal_named t q))
     (option_map (attrs_of t.phyla) (phylum_named t q))) []
 
+abbrev pub symbol_type : Table → Bytes → Bytes → Option ℕ
+symbol_type t q a = attr_type (symbol_attrs t q) a
+
 abbrev pub name_of : Written → Bytes
 name_of (Own place) = []
 name_of (Named q k) = q.text
 
 -- a symbol's result or text in an input production
 abbrev pub operand : Table → Bytes → List Part → Reference → Option Operand
-operand t left parts r = option_and_then (λ at. option_map (λ p. record { at = at; of = p }) (attr_type (symbol_attrs t (name_of r.of)) r.attr.text)) (symbol left parts r.of)
+operand t left parts r = option_and_then (λ at. option_map (λ p. record { at = at; of = p }) (symbol_type t (name_of r.of) r.attr.text)) (symbol left parts r.of)

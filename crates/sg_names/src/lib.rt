@@ -3,11 +3,16 @@
 
 mod callables;
 mod definitions;
+pub mod found;
 mod groups;
 mod heads;
 mod index;
+mod known;
 pub mod names;
+pub mod shapes;
 mod occurrences;
 mod owners;
+mod scope;
+mod walk;
 pub mod table;
 pub mod tables;

@@ -1,6 +1,6 @@
 //! The tables of names.
 ghost use Rattle.std.specs.Prelude.{◌≡◌, ◌<◌, ◌≤◌, ◌&&◌, ℕ, List, length, slice_get, bytes_eq, position, IfOk, IfSome};
-ghost use Rattle.sg_kinds.specs.Specification.{attrs_of, args_of, locals_of, has_shape, is_lexical_shape};
+ghost use Rattle.sg_kinds.specs.Specification.{attrs_of, args_of, locals_of, has_shape, is_lexical_shape, is_leaf_shape};
 ghost use Rattle.std.specs.List.{list_all};
 ghost use Rattle.sg_kinds.specs.declared.spec.Local.{Local};
 ghost use Rattle.sg_kinds.specs.declared.spec.Phylum.{Phylum};
@@ -51,6 +51,15 @@ fn is(name: &Text, other: &[u8]) -> bool
     ensures { result ≡ bytes_eq name.now other.now }
 {
     name.as_slice() == other
+}
+
+pub(crate) fn is_leaf(shape: Shape) -> bool
+    ensures { result ≡ is_leaf_shape shape }
+{
+    matches!(
+        shape,
+        Shape::Truths | Shape::Numbers | Shape::Texts | Shape::Lexemes(_)
+    )
 }
 
 /// A list is shorter than this, so that places among attributes, locals and occurrences are numbers of 32 bits. No list in
@@ -304,6 +313,16 @@ impl Names {
         }
     }
 
+    /// Whether the terms of a phylum are leaves.
+    pub fn is_leaf(&self, phylum: PhylumId) -> bool
+        ensures { result ≡ has_shape self.now.phyla is_leaf_shape phylum }
+    {
+        match self.table.phyla.place(phylum.number) {
+            Some(phylum) => is_leaf(phylum.shape),
+            None => false,
+        }
+    }
+
     /// The attributes of a phylum; none for a number out of range.
     #[tactic(auto, using(crate::proofs::Shorts::attrs_short))]
     pub fn attrs(&self, phylum: PhylumId) -> &[Attr]
@@ -412,6 +431,13 @@ impl Names {
         self.attribute_at(op, at, &reference.attr.text)
     }
 
+    /// The type of an attribute of the nonterminal, or else of the phylum, of a name.
+    pub fn symbol_type(&self, name: &Text, attr: &Text) -> Option<PhylumId>
+        ensures { result ≡ spec.symbol_type self.now name.now attr.now }
+    {
+        type_of(self.symbol_attrs(name), attr)
+    }
+
     /// What a reference means in an input production: an attribute of a nonterminal, or the text of a lexeme.
     pub fn operand(&self, left: &Text, parts: &[Part], reference: &Reference) -> Option<Operand>
         ensures { result ≡ spec.operand self.now left.now parts.now reference.now }
@@ -425,7 +451,7 @@ impl Names {
                 if at == 0 {
                     return None;
                 }
-                let of = type_of(self.symbol_attrs(&name.text), &reference.attr.text)?;
+                let of = self.symbol_type(&name.text, &reference.attr.text)?;
                 Some(Operand { at, of })
             }
         }

@@ -3,6 +3,7 @@ ghost use Rattle.std.specs.Prelude.{◌≡◌, ◌≤◌, Bool, length, slice_ge
 ghost use Rattle.sg_names.specs.Lookups as spec;
 
 use sg_ast::decl::Part;
+use sg_ast::name::Occurrence;
 use sg_ast::number::Number;
 use sg_kinds::ids::PhylumId;
 use sg_kinds::text::Text;
@@ -100,6 +101,22 @@ pub(crate) fn chosen<X, T: Test<X>>(
                 return None;
             }
             nth_with_left(test, left, xs, 0)
+        }
+    }
+}
+
+/// An occurrence of a symbol of an input production, counted from 1. The left side has no name in it.
+pub(crate) fn symbol(left: &Text, parts: &[Part], written: &Occurrence) -> Option<usize>
+    ensures { result ≡ spec.symbol left.now parts.now written.now }
+{
+    match written {
+        Occurrence::Own(_) => None,
+        Occurrence::Named(name, number) => {
+            let is_left = name.text.as_slice() == left.as_slice();
+            match chosen(&IsNamed(&name.text), is_left, parts, *number) {
+                Some(0) | None => None,
+                Some(at) => Some(at),
+            }
         }
     }
 }

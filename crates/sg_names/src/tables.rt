@@ -1,7 +1,6 @@
 //! The tables of names, made of declarations.
 ghost use Rattle.std.specs.Prelude.{◌≡◌, [], ◌∷◌, map, IfOk};
 ghost use Rattle.sg_ast.specs.View.{trees_of};
-ghost use Rattle.sg_kinds.specs.Specification.{is_leaf_shape};
 ghost use Rattle.sg_names.specs.Names as spec;
 ghost use Rattle.sg_names.specs.Rows.{row_at};
 ghost use Rattle.sg_names.specs.declared.heads.Head.{Head};
@@ -9,7 +8,7 @@ ghost use Rattle.sg_names.specs.declared.heads.Head.{Head};
 use crate::callables::number;
 use crate::groups::Groups;
 use crate::heads::{Head, Heads};
-use crate::names::Names;
+use crate::names::{Names, is_leaf};
 use crate::table::{Nonterminal, Table};
 use crate::{callables, definitions, owners};
 use sg_ast::decl::Decl;
@@ -21,15 +20,6 @@ use sg_kinds::row::Row;
 use sg_kinds::spec::{Attr, Local, Operator, Phylum};
 use sg_kinds::text::Text;
 use std::alloc::Global;
-
-fn is_leaf(shape: Shape) -> bool
-    ensures { result ≡ is_leaf_shape shape }
-{
-    matches!(
-        shape,
-        Shape::Truths | Shape::Numbers | Shape::Texts | Shape::Lexemes(_)
-    )
-}
 
 fn shape_of(lexemes: u32, listings: &[Shape], number: u32, head: &Head) -> Shape
     ensures { result ≡ spec.shape_of lexemes listings.now number head.now }

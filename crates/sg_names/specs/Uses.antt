@@ -1,0 +1,176 @@
+-- The uses of names in declarations, in the order of the text, each with what it must mean.
+use Rattle.std.specs.Prelude.{ℕ, suc, ◌+◌, Bool, if◌then◌else◌, List, [], ◌∷◌, ◌++◌, map, flat_map, fold, bytes_eq, Option, Some, None, option_and_then}
+use Rattle.std.specs.List.{list_any}
+use Rattle.sg_kinds.specs.Values.{Bytes}
+use Rattle.sg_kinds.specs.Specification.{locals_of}
+use Rattle.sg_kinds.specs.declared.spec.Local.{Local}
+use Rattle.sg_ast.specs.declared.name.Name.{Name}
+use Rattle.sg_ast.specs.declared.name.Typed.{Typed}
+use Rattle.sg_ast.specs.declared.name.Reference.{Reference}
+use Rattle.sg_ast.specs.declared.decl.Alt.{Alt}
+use Rattle.sg_ast.specs.declared.decl.AttrDecl.{AttrDecl}
+use Rattle.sg_ast.specs.declared.decl.Target.{Target}
+use Rattle.sg_ast.specs.declared.decl.Target.TheVariants as target
+use Rattle.sg_ast.specs.declared.decl.Item.{Item}
+use Rattle.sg_ast.specs.declared.decl.Item.TheVariants as item
+use Rattle.sg_ast.specs.declared.decl.SchemeDecl.{SchemeDecl}
+use Rattle.sg_ast.specs.declared.decl.Part.{Part}
+use Rattle.sg_ast.specs.declared.decl.Part.TheVariants as part
+use Rattle.sg_ast.specs.Patterns as p
+use Rattle.sg_ast.specs.Patterns.{Pattern, Patterns, NoPattern, AndPattern, Applied, MadeAs}
+use Rattle.sg_ast.specs.Expressions as e
+use Rattle.sg_ast.specs.Expressions.{Expr, Exprs, Cases, NoExpr, AndExpr, NoCase, Default, Case}
+use Rattle.sg_ast.specs.Declarations.{Decl, Equation, Right, Root, Listed, Optional, Operators, Attributes, Equations, Schemes, Function, Transform, Productions, Entry}
+use Rattle.sg_names.specs.declared.table.Table.{Table}
+use Rattle.sg_names.specs.Lookups.{usable_named, operator_named}
+
+-- where an expression stands: in an equation of an operator, in an input production with its left side, or where no
+-- reference may stand
+pub data Site : Type 0 where
+  InOperator : ℕ → Site
+  InProduction : Bytes → List Part → Site
+  Elsewhere : Site
+
+-- a use: of a phylum; of a phylum that has operators; of one, or of a nonterminal, that has attributes; of an operator of a
+-- phylum; of a symbol of a production; of a nonterminal's result; of a reference; of a variable among those that are
+-- visible; a binding where these are visible; and a call or an operator pattern over so many parts
+pub data Use : Type 0 where
+  UsesPhylum : Name → Use
+  HasOperators : Name → Use
+  HasAttributes : Name → Use
+  UsesOperator : Name → Name → Use
+  UsesSymbol : Name → Use
+  UsesResult : Name → Name → Use
+  Refers : Site → Reference → Use
+  UsesVariable : List Bytes → Name → Use
+  Binds : List Bytes → Name → Use
+  Calls : Name → ℕ → Use
+  Matches : Name → ℕ → Use
+
+-- the visible variables, one more where its name is new
+abbrev pub is_visible : List Bytes → Bytes → Bool
+is_visible scope n = list_any (bytes_eq n) scope
+
+abbrev pub with_variable : List Bytes → Bytes → List Bytes
+with_variable scope n = if is_visible scope n then scope else scope ++ n ∷ []
+
+-- how many parts stand between parentheses
+abbrev pub patterns_count : Patterns → ℕ
+patterns_count NoPattern = 0
+patterns_count (AndPattern x xs) = suc (patterns_count xs)
+
+abbrev pub exprs_count : Exprs → ℕ
+exprs_count NoExpr = 0
+exprs_count (AndExpr x xs) = suc (exprs_count xs)
+
+-- the variables that are visible behind a pattern, whose names are bound from left to right
+abbrev mutual
+  pub pattern_scope : List Bytes → Pattern → List Bytes
+  pattern_scope scope (p.Variable n) = with_variable scope n.text
+  pattern_scope scope (Applied n ps) = patterns_scope scope ps
+  pattern_scope scope x = scope
+
+  pub patterns_scope : List Bytes → Patterns → List Bytes
+  patterns_scope scope NoPattern = scope
+  patterns_scope scope (AndPattern x xs) = patterns_scope (pattern_scope scope x) xs
+
+abbrev mutual
+  pub pattern_uses : List Bytes → Pattern → List Use
+  pattern_uses scope (p.Variable n) = Binds scope n ∷ []
+  pattern_uses scope (MadeAs made n place) = UsesPhylum n ∷ []
+  pattern_uses scope (Applied n ps) = Matches n (patterns_count ps) ∷ patterns_uses scope ps
+  pattern_uses scope x = []
+
+  pub patterns_uses : List Bytes → Patterns → List Use
+  patterns_uses scope NoPattern = []
+  patterns_uses scope (AndPattern x xs) = pattern_uses scope x ++ patterns_uses (pattern_scope scope x) xs
+
+abbrev mutual
+  pub expr_uses : Site → List Bytes → Expr → List Use
+  expr_uses site scope (e.Amount n place) = []
+  expr_uses site scope (e.Chars s) = []
+  expr_uses site scope (e.Truth b place) = []
+  expr_uses site scope (e.Variable n) = UsesVariable scope n ∷ []
+  expr_uses site scope (e.Attribute r) = Refers site r ∷ []
+  expr_uses site scope (e.MadeOf made n place) = UsesPhylum n ∷ []
+  expr_uses site scope (e.Paren a place) = expr_uses site scope a
+  expr_uses site scope (e.Single f a place) = expr_uses site scope a
+  expr_uses site scope (e.Binary s a b) = expr_uses site scope a ++ expr_uses site scope b
+  expr_uses site scope (e.Choice a b c) = expr_uses site scope a ++ (expr_uses site scope b ++ expr_uses site scope c)
+  expr_uses site scope (e.Call n es) = Calls n (exprs_count es) ∷ exprs_uses site scope es
+  expr_uses site scope (e.Let n a b place) = Binds scope n ∷ expr_uses site scope a ++ expr_uses site (with_variable scope n.text) b
+  expr_uses site scope (e.With a q b cs place) = expr_uses site scope a ++ (pattern_uses scope q ++ (expr_uses site (pattern_scope scope q) b ++ cases_uses site scope cs))
+
+  pub exprs_uses : Site → List Bytes → Exprs → List Use
+  exprs_uses site scope NoExpr = []
+  exprs_uses site scope (AndExpr x xs) = expr_uses site scope x ++ exprs_uses site scope xs
+
+  pub cases_uses : Site → List Bytes → Cases → List Use
+  cases_uses site scope NoCase = []
+  cases_uses site scope (Default x) = expr_uses site scope x
+  cases_uses site scope (Case q x cs) = pattern_uses scope q ++ (expr_uses site (pattern_scope scope q) x ++ cases_uses site scope cs)
+
+-- a pattern, and an expression where its names are visible
+abbrev pub case_uses : Site → List Bytes → Pattern → Expr → List Use
+case_uses site scope q b = pattern_uses scope q ++ expr_uses site (pattern_scope scope q) b
+
+-- the operator that a declaration speaks of; its locals, which are visible in its equations and schemes
+abbrev pub operator_at : Table → Name → Name → Option ℕ
+operator_at t n op = option_and_then (λ p. operator_named t p op.text) (usable_named t n.text)
+
+abbrev pub local_scope : Table → ℕ → List Bytes
+local_scope t op = fold with_variable [] (map (λ (l : Local). l.name) (locals_of t.ops op))
+
+-- what an equation defines, or a scheme shows
+abbrev pub target_uses : ℕ → List Bytes → Target → List Use
+target_uses op scope (target.Attribute r) = Refers (InOperator op) r ∷ []
+target_uses op scope (target.Local n) = UsesVariable scope n ∷ []
+
+abbrev pub equation_uses : ℕ → List Bytes → Equation → List Use
+equation_uses op scope q = target_uses op scope q.target ++ expr_uses (InOperator op) scope q.expr
+
+abbrev pub item_uses : ℕ → List Bytes → Item → List Use
+item_uses op scope (item.Shows t) = target_uses op scope t
+item_uses op scope x = []
+
+abbrev pub scheme_uses : ℕ → List Bytes → SchemeDecl → List Use
+scheme_uses op scope s = flat_map (item_uses op scope) s.items
+
+-- uses of an operator's declaration, where the operator is there
+abbrev pub within : Option ℕ → (ℕ → List Use) → List Use
+within None uses = []
+within (Some op) uses = uses op
+
+-- parameters are bound from left to right
+abbrev pub params_scope : List Bytes → List Typed → List Bytes
+params_scope scope params = fold (λ s (t : Typed). with_variable s t.name.text) scope params
+
+abbrev pub params_uses : List Bytes → List Typed → List Use
+params_uses scope [] = []
+params_uses scope (t ∷ ts) = UsesPhylum t.of ∷ Binds scope t.name ∷ params_uses (with_variable scope t.name.text) ts
+
+abbrev pub part_uses : Part → List Use
+part_uses (part.Named n) = UsesSymbol n ∷ []
+part_uses (part.Literal s) = []
+
+abbrev pub right_uses : Bytes → Right → List Use
+right_uses left r = flat_map part_uses r.parts ++ expr_uses (InProduction left r.parts) [] r.expr
+
+abbrev pub decl_uses : Table → Decl → List Use
+decl_uses t (Root n) = HasOperators n ∷ []
+decl_uses t (Listed n) = HasOperators n ∷ []
+decl_uses t (Optional listed n) = HasOperators n ∷ []
+decl_uses t (Operators n alts) = flat_map (λ (a : Alt). map UsesPhylum a.args) alts
+decl_uses t (Attributes n attrs) = HasAttributes n ∷ map (λ (a : AttrDecl). UsesPhylum a.of) attrs
+decl_uses t (Equations n op locals es) =
+    UsesOperator n op ∷ map (λ (l : Typed). UsesPhylum l.of) locals
+    ++ within (operator_at t n op) (λ k. flat_map (equation_uses k (local_scope t k)) es)
+decl_uses t (Schemes n op view ss) = UsesOperator n op ∷ within (operator_at t n op) (λ k. flat_map (scheme_uses k (local_scope t k)) ss)
+decl_uses t (Function ty n params x) = UsesPhylum ty ∷ params_uses [] params ++ expr_uses Elsewhere (params_scope [] params) x
+decl_uses t (Transform n title q x) = UsesPhylum n ∷ case_uses Elsewhere [] q x
+decl_uses t (Productions n rs) = flat_map (right_uses n.text) rs
+decl_uses t (Entry n m a) = UsesPhylum n ∷ UsesResult m a ∷ []
+decl_uses t d = []
+
+abbrev pub uses : Table → List Decl → List Use
+uses t ds = flat_map (decl_uses t) ds
