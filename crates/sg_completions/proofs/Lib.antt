@@ -1,0 +1,5 @@
+pub mod Counted
+pub mod Low
+pub mod Finds
+pub mod Finished
+pub mod Tables
