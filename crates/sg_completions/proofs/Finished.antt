@@ -12,10 +12,9 @@ use Rattle.sg_kinds.specs.Completing.{completing_within}
 use Rattle.sg_kinds.specs.Completing as term
 use Rattle.sg_kinds.specs.Placeholder.{placeholder_within}
 use Rattle.sg_kinds.specs.Placeholder as held
-use Rattle.sg_kinds.specs.Instances.{below}
 use Rattle.sg_kinds.specs.Sound.{IsSmall, IsFinite}
 use Rattle.sg_completions.specs.Counts.{capped, count_of, look, completed, placeheld, deepened, no_counts, fits, both_fit}
-use Rattle.sg_completions.specs.Unfinished.{bare, is_small, is_small_made, is_finished, unfinished}
+use Rattle.sg_completions.specs.Unfinished.{bare, is_small_made, is_finished, unfinished}
 use Rattle.sg_completions.proofs.Counted.{completed_made, placeheld_made, counted}
 use Rattle.sg_completions.proofs.Low.{IsLow, completing_low, placeholder_low}
 use Rattle.sg_completions.proofs.Finds.{none_found, all_not, found_is, found_before}

@@ -1,5 +1,5 @@
 -- Completing terms are no deeper than the room that they are made in.
-use Rattle.std.proofs.Common.{ℕ, zero, suc, ◌≤◌, max, List, [], ◌∷◌, false, Option, Some, None, slice_get, option_map, option_and_then, arith}
+use Rattle.std.proofs.Common.{ℕ, zero, suc, ◌≤◌, List, [], ◌∷◌, false, Option, Some, None, slice_get, option_map, option_and_then, arith}
 use Rattle.sg_kinds.specs.Terms.{Term, Terms, Leaf, Node, NoTerm, AndTerm, height_of, height_of_all}
 use Rattle.sg_kinds.specs.declared.spec.Spec.{Spec}
 use Rattle.sg_kinds.specs.declared.spec.Phylum.{Phylum}

@@ -1,5 +1,5 @@
 -- Tables that are equal entry by entry are one.
-use Rattle.std.proofs.Common.{◌≡◌, ℕ, Bool, true, List, nat_eq, Option, Some, None, refl, ap}
+use Rattle.std.proofs.Common.{◌≡◌, ℕ, Bool, List, nat_eq, Option, Some, None, refl, ap}
 use Rattle.std.specs.Bool.{Decides}
 use Rattle.std.specs.Cmp.Lexicographic.{pointwise}
 use Rattle.std.specs.Option.{option_eq}

@@ -45,7 +45,7 @@ fn add_phylum(
 }
 
 /// Phyla between semicolons: a letter for the shape, and before each operator's arguments a bar.
-fn rows(alloc: Global, text: &[u8]) -> Result<Rows, Fail> {
+fn read(alloc: Global, text: &[u8]) -> Result<Rows, Fail> {
     let mut rows = Rows {
         phyla: Vec::new(alloc),
         ops: Vec::new(alloc),
@@ -107,7 +107,7 @@ const ROWS: [(&[u8], Option<usize>); 17] = [
 fn made_terms_that_are_not_finite_or_too_large(rt: HostRuntime) -> Result<(), Fail> {
     let alloc = rt.alloc();
     for (text, expected) in ROWS {
-        let rows = rows(alloc, text)?;
+        let rows = read(alloc, text)?;
         assert_eq!(rt; unfinished(alloc, &rows.phyla, &rows.ops)?, expected);
     }
     Ok(())
