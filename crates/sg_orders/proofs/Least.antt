@@ -22,7 +22,7 @@ pub record IsGreatestTo (rows : List (List Bool)) (a : ℕ) (layers : List ℕ) 
   pub above : (b : ℕ) → b < n → Holds rows a b → get_or layers b 0 ≤ g
   pub least : (m : ℕ) → ((b : ℕ) → Holds rows a b → get_or layers b 0 ≤ m) → g ≤ m
 
-max_is : (x y : ℕ) → ord_max nat_cmp x y ≡ max x y
+pub max_is : (x y : ℕ) → ord_max nat_cmp x y ≡ max x y
 max_is x y = grind (arith, common_steps)
 
 pub greatest_yes : (rows : List (List Bool)) (a : ℕ) (layers : List ℕ) (n g h : ℕ) → IsGreatestTo rows a layers n g → Holds rows a n → h ≡ ord_max nat_cmp g (get_or layers n 0) → IsGreatestTo rows a layers (n + 1) h

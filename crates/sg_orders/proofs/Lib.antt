@@ -23,3 +23,14 @@ pub mod Later
 pub mod Layerings
 pub mod Extends
 pub mod Refused
+pub mod Placed
+pub mod Seating
+pub mod StepFacts
+pub mod Sought
+pub mod Timings
+pub mod Filling
+pub mod Scenes
+pub mod Plans
+pub mod Apart
+pub mod Owns
+pub mod Pairs

@@ -39,7 +39,7 @@ module _ (rules : Rules) (ranges : AreInRange rules) where
       let a = attr_count_small (phylum_there rules p k) in
       omega (arith, h, a)
 
-  args_small : (p : ℕ) → length (args_of rules.ops p) < 256
+  pub args_small : (p : ℕ) → length (args_of rules.ops p) < 256
   args_small p = elim (slice_get_cases rules.ops p).1 [
     | inl is ↦
         let small = held (λ (o : Operator). length o.args < 2 ^ 8) rules.ops p is.0 ranges.few.args is.1 is.3 in

@@ -9,3 +9,10 @@ pub mod StrictOrders
 pub mod LeastLayers
 pub mod Layerings
 pub mod Extensions
+pub mod Positions
+pub mod VisitRows
+pub mod Owned
+pub mod Proper
+pub mod Timed
+pub mod SeatRows
+pub mod StepKinds

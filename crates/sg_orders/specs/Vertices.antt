@@ -21,12 +21,13 @@ locals_there rules p (suc k) = 0
 abbrev pub IsVertex : Rules → ℕ → Occurrence → Type 0
 IsVertex rules p o = o.slot < attr_count rules (phylum_there rules p o.at) + locals_there rules p o.at
 
--- so few operators, attributes, arguments and locals that all vertices have small numbers
+-- so few operators, attributes, arguments, locals and equations that vertices and equations have small numbers
 pub record AreFew (rules : Rules) : Type 0 where
   pub ops : length rules.ops < 2 ^ 32
   pub attrs : All (λ (x : Phylum). length x.attrs < 2 ^ 20) rules.phyla
   pub args : All (λ (o : Operator). length o.args < 2 ^ 8) rules.ops
   pub locals : All (λ (o : Operator). length o.locals < 2 ^ 20) rules.ops
+  pub equations : length rules.rules < 2 ^ 32
 
 -- the phyla of each operator and of its arguments are there
 pub record HavePhyla (rules : Rules) : Type 0 where

@@ -30,7 +30,7 @@ pub fn direct(alloc: Global, rules: &Rules, frames: &[Frame]) -> Result<Vec<Rela
 }
 
 /// The place of an equation's operator.
-fn operator(rule: &Rule) -> usize
+pub fn operator(rule: &Rule) -> usize
     ensures { result ≡ rule.now.op }
 {
     rule.op.number as usize

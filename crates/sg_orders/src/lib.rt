@@ -7,14 +7,24 @@ mod direct;
 mod extension;
 mod fault;
 mod frame;
+mod grown;
 mod induction;
 mod layers;
 mod ordering;
+mod planning;
+mod positions;
+mod proper;
 mod range;
+mod readers;
 mod rounds;
+mod seats;
+mod steps;
 #[cfg(test)]
 mod tests;
+mod timing;
+mod visits;
 
 pub use fault::OrderFault;
-pub use ordering::{Extension, order};
+pub use ordering::order;
+pub use proper::is_proper;
 pub use range::is_in_range;

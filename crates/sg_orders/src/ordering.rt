@@ -7,6 +7,8 @@ ghost use Rattle.sg_orders.specs.Layerings.{layer_in};
 ghost use Rattle.sg_orders.specs.Vertices.{AreInRange};
 ghost use Rattle.sg_kinds.specs.Layers.{Extended};
 ghost use Rattle.sg_kinds.specs.Ordered.{IsOrdered};
+ghost use Rattle.sg_kinds.specs.ValidPlans.{AreValid};
+ghost use Rattle.sg_orders.specs.Proper.{AreProper};
 ghost use Rattle.sg_orders.specs.declared.fault.OrderFault.TheVariants as fault;
 
 use crate::cycles::first_cycle;
@@ -14,6 +16,9 @@ use crate::extension::{all_layers, extend};
 use crate::fault::OrderFault;
 use crate::frame::{Frame, frames};
 use crate::induction::{induce, operator_id};
+use crate::planning::plan;
+use crate::timing::time;
+use sg_kinds::plans::Plans;
 use sg_kinds::row::Row;
 use sg_kinds::spec::Rules;
 use sg_sets::Relation;
@@ -26,20 +31,23 @@ pub struct Extension {
     pub operators: Vec<Relation>,
 }
 
-/// Returns the layers and the extended dependencies where the equations are ordered, else the first operator that has a
-/// cycle in its direct, else in its induced, else in its extended dependencies.
+/// Returns plans where the equations are ordered, else the first operator that has a cycle in its direct, else in its
+/// induced, else in its extended dependencies, with that cycle.
 ///
-/// The test is that of Kastens, "Ordered attributed grammars" (1980).
-pub fn order(alloc: Global, rules: &Rules) -> Result<Extension, OrderFault>
-    requires { AreInRange rules.now }
+/// The test is that of Kastens, "Ordered attributed grammars" (1980), with layers that are as large as they can be.
+pub fn order(alloc: Global, rules: &Rules) -> Result<Plans, OrderFault>
+    requires range { AreInRange rules.now }
+    requires proper { AreProper rules.now }
     ensures ordered { OnOk result (IsOrdered rules.now) }
-    ensures exact { IfOk result (IsExtension rules.now) }
+    ensures valid { IfOk result (AreValid rules.now) }
     ensures fault { IfErr result (IsFault rules.now) }
     ensures refused { IfErr result (λ e. (e ≡ fault.NoMemory → ⊥) → ¬ (IsOrdered rules.now)) }
 {
     let frames = frames(alloc, rules)?;
     let extension = test(alloc, rules, &frames)?;
-    Ok(extension)
+    let timing = time(alloc, rules, &extension)?;
+    let plans = plan(alloc, rules, &frames, timing)?;
+    Ok(plans)
 }
 
 /// Returns the extended dependencies, or the first operator that has a cycle in the direct, in the induced or in the extended

@@ -9,14 +9,14 @@ use sg_kinds::row::Row;
 use sg_kinds::spec::{Occurrence, Operator, Rule, Rules};
 
 /// Returns whether the phyla of the operators and the occurrences of the equations are there, with fewer than 2^20
-/// attributes a phylum, and fewer than 2^8 arguments and 2^20 locals an operator.
+/// attributes a phylum, fewer than 2^8 arguments and 2^20 locals an operator, and fewer than 2^32 operators and equations.
 pub fn is_in_range(rules: &Rules) -> bool
     ensures { IsTrue result ↔ AreInRange rules.now }
 {
     are_few(rules) && have_phyla(rules) && have_vertices(rules)
 }
 
-/// Returns whether all vertices have small numbers.
+/// Returns whether all vertices and equations have small numbers.
 fn are_few(rules: &Rules) -> bool
     ensures { IsTrue result ↔ AreFew rules.now }
 {
@@ -25,7 +25,8 @@ fn are_few(rules: &Rules) -> bool
     let few_attrs = phyla.iter().all(|x| x.attrs.len() < 1 << 20);
     let few_args = ops.iter().all(|o| o.args.len() < 1 << 8);
     let few_locals = ops.iter().all(|o| o.locals.len() < 1 << 20);
-    ops.len() < 1 << 32 && few_attrs && few_args && few_locals
+    let few_rules = rules.rules.len() < 1 << 32;
+    ops.len() < 1 << 32 && few_attrs && few_args && few_locals && few_rules
 }
 
 /// Returns whether the phyla of each operator and of its arguments are there.

@@ -1,5 +1,5 @@
 //! Small languages, with the cycle that is reported where they have one.
-use super::{OrderFault, is_in_range, order};
+use super::{OrderFault, is_in_range, is_proper, order};
 use sg_kinds::ids::{ExprId, OpId, PhylumId};
 use sg_kinds::marks::{Shape, Way};
 use sg_kinds::memory::NoMemory;
@@ -251,6 +251,7 @@ fn languages_with_their_cycles(rt: HostRuntime) -> Result<(), Fail> {
     for (k, language) in LANGUAGES.iter().enumerate() {
         let rules = record_of(rt.alloc(), language)?;
         assert!(rt; is_in_range(&rules), "language {k}");
+        assert!(rt; is_proper(rt.alloc(), &rules)?, "language {k}");
         match order(rt.alloc(), &rules) {
             Ok(_) => assert!(rt;
                 matches!(language.expected, Expected::Found),
