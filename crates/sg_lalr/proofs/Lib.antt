@@ -6,4 +6,8 @@ pub mod MergeLemmas
 pub mod ClosureLemmas
 pub mod MoveLemmas
 pub mod KernelLemmas
+pub mod StartLemmas
 pub mod PartLemmas
+pub mod CoreLemmas
+pub mod StateLemmas
+pub mod FirstLemmas

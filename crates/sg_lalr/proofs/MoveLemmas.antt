@@ -19,7 +19,7 @@ slice_get-in P (y ∷ xs) (suc n) x h is = slice_get-in P xs n x (λ k d l. h (s
 rights : (g : Grammar) → IsWellFormed g → All (λ (r : Production). IsRight g.symbols r.right) (g.rules ++ g.entries)
 rights g w = All-append (λ (r : Production). IsRight g.symbols r.right) g.rules g.entries (λ k d l. (w.rules k d l).2) w.entries
 
-right_of-fits : (g : Grammar) (p : ℕ) → IsWellFormed g → IsRight g.symbols (right_of g p)
+pub right_of-fits : (g : Grammar) (p : ℕ) → IsWellFormed g → IsRight g.symbols (right_of g p)
 right_of-fits g p w = by (slice_get (g.rules ++ g.entries) p) refl
   where
     by : (o : Option Production) → slice_get (g.rules ++ g.entries) p ≡ o → IsRight g.symbols (unwrap_or (option_map (λ (r : Production). r.right) o) [])

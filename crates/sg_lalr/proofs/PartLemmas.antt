@@ -8,10 +8,11 @@ use Rattle.std.proofs.lemmas.List.Quantifiers.{all_pairs_push}
 use Rattle.sg_grammar.specs.Grammar.{Grammar}
 use Rattle.sg_lalr.specs.declared.states.Move.{Move}
 use Rattle.sg_lalr.specs.declared.states.Origin.{Origin}
-use Rattle.sg_lalr.specs.Items.{Item, item, HasNext, symbol_of, advance, moved, IsRising}
+use Rattle.sg_lalr.specs.Items.{Item, item, HasNext, symbol_of, advance, moved, Before, IsRising}
 use Rattle.sg_lalr.specs.Closure.{InRange, IsKernel, IsClosure}
-use Rattle.sg_lalr.specs.Automaton.{row_at, moves_at, target_of, goto, origin, Earlier, NotLater, IsBehind, origin_at, ComesFrom, IsPart, Entered, Overflows}
-use Rattle.sg_lalr.proofs.RisingLemmas.{advance-from, advance-rising, All-contained}
+use Rattle.sg_lalr.specs.Automaton.{row_at, moves_at, target_of, goto, starts_from, start_items, origin, Earlier, NotLater, IsBehind, origin_at, ComesFrom, IsPart, Entered, Overflows}
+use Rattle.sg_lalr.proofs.RisingLemmas.{advance-from, advance-rising, All-contained, pairs-nil, pairs-cons, Contains-nil}
+use Rattle.sg_lalr.proofs.StartLemmas.{starts-from}
 
 pub row_at-front : (rows : List (List Item)) (row : List Item) (s : ℕ) → s < length rows → row_at (rows ++ row ∷ []) s ≡ row_at rows s
 row_at-front rows row s low = get_or_append_left rows (row ∷ []) [] s low
@@ -235,3 +236,35 @@ module _ (g : Grammar) (cores : List (List Item)) (core : List Item) (moves : Li
   end-row kernels origins row x e long all =
       part-row g kernels (cores ++ core ∷ []) moves origins row x (subst (λ t. Expanding g kernels (cores ++ core ∷ []) moves origins row t x) (sym long) e)
       (λ X h. all X (subst (λ l. HasNext g l X) at (subst (λ t. HasNext g (row_at (cores ++ core ∷ []) t) X) long h)))
+
+-- the items with which the entries begin
+pub starts_from-push : (p n : ℕ) → starts_from p (suc n) ≡ starts_from p n ++ item (p + n) 0 ∷ []
+starts_from-push p zero = ap (λ m. item m 0 ∷ []) (let z : p ≡ p + 0 = omega arith in z)
+starts_from-push p (suc n) = ap (λ l. item p 0 ∷ l) (starts_from-push (suc p) n ∙ ap (λ m. starts_from (suc p) n ++ item m 0 ∷ []) (let z : suc p + n ≡ p + suc n = omega arith in z))
+
+starts-rising : (p n : ℕ) → IsRising (starts_from p n)
+starts-rising p zero = pairs-nil Before
+starts-rising p (suc n) = pairs-cons Before (item p 0) (starts_from (suc p) n) (λ y c. let s = starts-from (suc p) n y c in subst (Before (item p 0)) (sym s.2) (inl (omega arith))) (starts-rising (suc p) n)
+
+starts-kernel : (g : Grammar) → IsKernel g (start_items g)
+starts-kernel g = record {
+  rising = starts-rising (length g.rules) (length g.entries);
+  within = All-contained (InRange g) (start_items g) (λ i c. let s = starts-from (length g.rules) (length g.entries) i c in subst (InRange g) (sym s.2) (let l = s.1 in omega (arith, l)));
+  dots = All-contained (λ (i : Item). i.production < length g.rules → 0 < i.dot) (start_items g) (λ i c. let s = starts-from (length g.rules) (length g.entries) i c in λ low. absurd (let e = ap (λ (j : Item). j.production) s.2 in omega (arith, low, e)));
+}
+
+-- the first kernel alone
+pub part-none : (g : Grammar) → IsPart g (start_items g ∷ []) [] [] []
+part-none g = record {
+  some = omega arith; first = refl;
+  kernel = λ v l. subst (λ u. IsKernel g (row_at (start_items g ∷ []) u)) (let z : 0 ≡ v = omega (arith, l) in z) (starts-kernel g);
+  few = omega arith;
+  closed = λ s l. absurd (omega (arith, l));
+  expanded = omega arith;
+  leads = λ s X l. absurd (omega (arith, l));
+  count = refl;
+  comes = λ k l. absurd (omega (arith, l));
+  distinct = pairs-cons ◌≢◌ (start_items g) [] (λ y c. absurd (Contains-nil y c)) (pairs-nil ◌≢◌);
+  rising = pairs-nil Earlier;
+  earliest = λ s X k l. absurd (omega (arith, l));
+}

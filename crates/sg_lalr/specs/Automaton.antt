@@ -86,3 +86,20 @@ pub record Overflows (g : Grammar) : Type 0 where
   pub expanded : state < length cores
   pub next : HasNext g (row_at cores state) symbol
   pub absent : Contains kernels (advance g symbol (row_at cores state)) → ⊥
+
+-- the states with their cores and moves are all that there are, and not too many
+pub record IsWhole (g : Grammar) (kernels cores : List (List Item)) (moves : List (List Move)) (origins : List Origin) : Type 0 where
+  pub part : IsPart g kernels cores moves origins
+  pub cored : length cores ≡ length kernels
+  pub moved : length moves ≡ length kernels
+  pub fit : length kernels ≤ 65536
+
+-- the state of a prefix, by its moves
+abbrev pub state_of : List (List Move) → List ℕ → ℕ
+state_of moves [] = 0
+state_of moves (X ∷ w) = goto moves (state_of moves w) X
+
+-- the prefix by which a state was found first
+pub data FoundBy (origins : List Origin) : ℕ → List ℕ → Type 0 where
+  at_first : FoundBy origins 0 []
+  further : (k s : ℕ) (w : List ℕ) → k < length origins → s ≡ (origin_at origins k).state → FoundBy origins s w → FoundBy origins (suc k) ((origin_at origins k).symbol ∷ w)

@@ -1,5 +1,7 @@
 pub mod Automaton
 pub mod Closure
+pub mod Firsts
 pub mod Items
 pub mod Least
+pub mod Prefixes
 pub mod ValidItems

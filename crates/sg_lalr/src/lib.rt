@@ -2,6 +2,7 @@
 #![tactic(auto)]
 
 mod closure;
+mod firsts;
 pub mod items;
 mod least_set;
 mod moves;

@@ -3,10 +3,10 @@ ghost use Rattle.std.specs.Prelude.{◌≡◌, ℕ, ◌<◌, ◌≤◌, ◌++◌
 ghost use Rattle.std.specs.Bool.{OnTrue, OnFalse};
 ghost use Rattle.sg_sets.specs.Rows.{Holds};
 ghost use Rattle.sg_lalr.specs.Closure.{Corner, IsClosure};
-ghost use Rattle.sg_lalr.specs.Automaton.{row_at, Entered, IsPart, Overflows};
+ghost use Rattle.sg_lalr.specs.Automaton.{row_at, start_items, Entered, IsPart, IsWhole, Overflows};
 
 use crate::NoMemory;
-use crate::closure::closure;
+use crate::closure::{closure, corners};
 use crate::items::Item;
 use crate::moves::{advance, next_symbol};
 use indexmap::IndexSet;
@@ -141,4 +141,42 @@ impl Automaton {
         let core = closure(alloc, g, corners, kernel.as_slice())?;
         Ok(core)
     }
+}
+
+/// The items with which the entries begin.
+fn starts(alloc: Global, g: &Grammar) -> Result<Vec<Item>, NoMemory>
+    ensures { IfOk result (λ v. v.items ≡ start_items g.now) }
+{
+    g.sound();
+    let first = g.rules().len() as u32;
+    let mut items = Vec::new(alloc);
+    for k in 0..g.entries().len() as u32 {
+        items.push(Item {
+            production: first + k,
+            dot: 0,
+        })?;
+    }
+    Ok(items)
+}
+
+/// The automaton of a grammar with an entry, or None where it has too many states.
+pub(crate) fn all_states(alloc: Global, g: &Grammar) -> Result<Option<Automaton>, NoMemory>
+    requires { 0 < length g.now.entries }
+    ensures whole { IfOk result (λ found. IfSome found (λ a. IsWhole g.now (map (λ k. k.items) a.kernels.keys) a.cores.items a.moves.items a.origins.items)) }
+    ensures none { IfOk result (λ found. IfNone found (Overflows g.now)) }
+{
+    let corners = corners(alloc, g.rules())?;
+    let mut automaton = Automaton {
+        kernels: IndexSet::new(alloc),
+        cores: Vec::new(alloc),
+        moves: Vec::new(alloc),
+        origins: Vec::new(alloc),
+    };
+    add(&mut automaton.kernels, starts(alloc, g)?)?;
+    'states: while automaton.cores.len() < automaton.kernels.len() {
+        if !automaton.expand(alloc, g, &corners)? {
+            return Ok(None);
+        }
+    }
+    Ok(Some(automaton))
 }
