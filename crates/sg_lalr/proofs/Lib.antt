@@ -11,3 +11,5 @@ pub mod PartLemmas
 pub mod CoreLemmas
 pub mod StateLemmas
 pub mod FirstLemmas
+pub mod LayoutLemmas
+pub mod LinkLemmas

@@ -5,6 +5,8 @@ mod closure;
 mod firsts;
 pub mod items;
 mod least_set;
+mod layout;
+mod lookaheads;
 mod moves;
 mod productive;
 mod states;

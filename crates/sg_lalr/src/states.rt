@@ -37,10 +37,10 @@ pub struct Origin {
 /// state but the first its origin.
 #[derive(Drop)]
 pub struct Automaton {
-    kernels: IndexSet<Vec<Item>>,
-    cores: Vec<Row<Item>>,
-    moves: Vec<Row<Move>>,
-    origins: Vec<Origin>,
+    pub(crate) kernels: IndexSet<Vec<Item>>,
+    pub(crate) cores: Vec<Row<Item>>,
+    pub(crate) moves: Vec<Row<Move>>,
+    pub(crate) origins: Vec<Origin>,
 }
 
 /// The number of a kernel.
