@@ -1,0 +1,4 @@
+pub mod Targets
+pub mod Owed
+pub mod Complete
+pub mod Keys

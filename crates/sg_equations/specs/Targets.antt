@@ -1,0 +1,57 @@
+-- What equations define.
+use Rattle.std.specs.Prelude.{ℕ, ◌+◌, ◌^◌, ◌<◌, List, [], ◌∷◌, length, flat_map, Option, Some, None, option_map, option_and_then, unwrap_or}
+use Rattle.sg_kinds.specs.Specification.{attrs_of, locals_of, phylum_of}
+use Rattle.sg_kinds.specs.declared.spec.Occurrence.{Occurrence}
+use Rattle.sg_kinds.specs.declared.fault.Position.{Position}
+use Rattle.sg_ast.specs.declared.decl.Target.{Target}
+use Rattle.sg_ast.specs.declared.decl.Target.TheVariants as written
+use Rattle.sg_ast.specs.declared.name.Name.{Name}
+use Rattle.sg_ast.specs.Declarations.{Decl, Equation, Equations}
+use Rattle.sg_ast.specs.Chains.{occurrence_place}
+use Rattle.sg_names.specs.declared.table.Table.{Table}
+use Rattle.sg_names.specs.Lookups.{phylum_named, operator_named, local, reference}
+use Rattle.sg_equations.specs.declared.targets.Defined.{Defined}
+
+-- the operator of a phylum, both by name
+abbrev pub operator_of : Table → Name → Name → Option ℕ
+operator_of t p op = option_and_then (λ X. operator_named t X op.text) (phylum_named t p.text)
+
+-- locals stand behind the attributes of the left side
+abbrev pub attr_count : Table → ℕ → ℕ
+attr_count t op = length (attrs_of t.phyla (unwrap_or (phylum_of t.ops op) 0))
+
+-- the slots of each left side are numbers of 32 bits
+abbrev pub IsNarrow : Table → Type 0
+IsNarrow t = (op : ℕ) → attr_count t op + length (locals_of t.ops op) < 2 ^ 32
+
+abbrev pub own : ℕ → Occurrence
+own slot = record { at = 0; slot = slot }
+
+abbrev pub target_of : Table → ℕ → Target → Option Occurrence
+target_of t op (written.Attribute r) = reference t op r
+target_of t op (written.Local n) = option_map (λ k. own (attr_count t op + k)) (local t op n.text)
+
+-- the place of a target's first token
+abbrev pub target_place : Target → Position
+target_place (written.Attribute r) = occurrence_place r.of
+target_place (written.Local n) = n.place
+
+-- what an equation defines; nothing where its target has no meaning
+abbrev pub defined_as : ℕ → Target → Option Occurrence → List Defined
+defined_as op target None = []
+defined_as op target (Some o) = record { op = op; target = o; place = target_place target } ∷ []
+
+abbrev pub defined_by : Table → ℕ → Equation → List Defined
+defined_by t op e = defined_as op e.target (target_of t op e.target)
+
+-- what the equations of a declaration define, and those of all declarations
+abbrev pub defined_under : Table → List Equation → Option ℕ → List Defined
+defined_under t es None = []
+defined_under t es (Some op) = flat_map (defined_by t op) es
+
+abbrev pub defined_at : Table → Decl → List Defined
+defined_at t (Equations p op locals es) = defined_under t es (operator_of t p op)
+defined_at t d = []
+
+abbrev pub defined_in : Table → List Decl → List Defined
+defined_in t ds = flat_map (defined_at t) ds

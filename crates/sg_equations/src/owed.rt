@@ -1,0 +1,52 @@
+//! What the equations of an operator are to define.
+ghost use Rattle.std.specs.Prelude.{◌≡◌, ◌<◌, length};
+ghost use Rattle.sg_kinds.specs.Dependencies.{phylum_there as there};
+ghost use Rattle.sg_kinds.specs.Specification.{rules_of};
+ghost use Rattle.sg_kinds.specs.Typing.{slots_there};
+ghost use Rattle.sg_equations.specs.Owed.{owes as owes_by, spec_with};
+
+use sg_kinds::ids::{OpId, PhylumId};
+use sg_kinds::marks::Way;
+use sg_kinds::spec::Occurrence;
+use sg_names::names::Names;
+
+/// The phylum at an occurrence of an operator: 0 is the left side, k + 1 argument k.
+fn phylum_there(names: &Names, op: OpId, at: u32) -> Option<PhylumId>
+    ensures { result ≡ there (rules_of (spec_with names.now)) op at }
+{
+    let operator = names.table().ops.place(op.number)?;
+    if at == 0 {
+        Some(operator.phylum)
+    } else {
+        operator.args.place(at - 1).copied()
+    }
+}
+
+/// How many slots an occurrence of an operator has: its attributes, and at the left side the locals behind them.
+pub fn slot_count(names: &Names, op: OpId, at: u32) -> usize
+    ensures { result ≡ length (slots_there (spec_with names.now) op at) }
+{
+    let attrs = match phylum_there(names, op, at) {
+        Some(phylum) => names.attrs(phylum).len(),
+        None => 0,
+    };
+    if at == 0 {
+        attrs + names.locals(op).len()
+    } else {
+        attrs
+    }
+}
+
+/// Whether the equations of an operator are to define an occurrence: a synthesized attribute or local of its left side,
+/// or an inherited attribute of an argument.
+pub fn owes(names: &Names, op: OpId, o: Occurrence) -> bool
+    ensures { result ≡ owes_by names.now op o }
+{
+    let Some(phylum) = phylum_there(names, op, o.at) else {
+        return false;
+    };
+    match names.attrs(phylum).get(o.slot as usize) {
+        Some(attr) => (attr.way == Way::Inherited) == (o.at != 0),
+        None => o.at == 0 && (o.slot as usize) < slot_count(names, op, 0),
+    }
+}

@@ -1,0 +1,90 @@
+//! What equations define.
+ghost use Rattle.std.specs.Prelude.{◌≡◌, ◌++◌, OnOk, IfOk, map};
+ghost use Rattle.sg_ast.specs.View.{trees_of, tree_of, equation_of};
+ghost use Rattle.sg_equations.specs.Targets as spec;
+
+use sg_ast::decl::{Decl, Equation, Target};
+use sg_ast::name::{Name, Occurrence as Written};
+use sg_kinds::fault::Position;
+use sg_kinds::ids::OpId;
+use sg_kinds::memory::NoMemory;
+use sg_kinds::spec::Occurrence;
+use sg_names::names::Names;
+use std::alloc::Global;
+
+/// What an equation defines: an occurrence of an attribute, or a local, of an operator; and the place of its target.
+#[derive(Clone, Copy)]
+pub struct Defined {
+    pub op: OpId,
+    pub target: Occurrence,
+    pub place: Position,
+}
+
+/// The operator of a phylum, both by name.
+pub fn operator_of(names: &Names, phylum: &Name, op: &Name) -> Option<OpId>
+    ensures { result ≡ spec.operator_of names.now phylum.now op.now }
+{
+    names.operator_named(names.phylum_named(&phylum.text)?, &op.text)
+}
+
+fn target_of(names: &Names, op: OpId, target: &Target) -> Option<Occurrence>
+    requires { spec.IsNarrow names.now }
+    ensures { result ≡ spec.target_of names.now op target.now }
+{
+    match target {
+        Target::Attribute(reference) => names.reference(op, reference),
+        Target::Local(name) => {
+            let place = names.local(op, &name.text)?;
+            let phylum = names.table().ops.place(op.number)?.phylum;
+            let slot = names.attrs(phylum).len() as u32 + place;
+            Some(Occurrence { at: 0, slot })
+        }
+    }
+}
+
+fn target_place(target: &Target) -> Position
+    ensures { result ≡ spec.target_place target.now }
+{
+    match target {
+        Target::Attribute(reference) => match &reference.of {
+            Written::Own(place) => *place,
+            Written::Named(name, _) => name.place,
+        },
+        Target::Local(name) => name.place,
+    }
+}
+
+fn add_defined(
+    names: &Names,
+    op: OpId,
+    equations: &[Equation],
+    defined: &mut Vec<Defined>,
+) -> Result<(), NoMemory>
+    requires { spec.IsNarrow names.now }
+    ensures { OnOk result (defined.new.items ≡ defined.old.items ++ spec.defined_under names.now (map equation_of equations.now) (Some op)) }
+{
+    for equation in equations {
+        if let Some(target) = target_of(names, op, &equation.target) {
+            let place = target_place(&equation.target);
+            defined.push(Defined { op, target, place })?;
+        }
+    }
+    Ok(())
+}
+
+/// What the equations of the declarations define, in the order of the text; nothing for an equation whose target has no
+/// meaning.
+pub fn targets_in(alloc: Global, decls: &[Decl], names: &Names) -> Result<Vec<Defined>, NoMemory>
+    requires { spec.IsNarrow names.now }
+    ensures { IfOk result (λ defs. defs.items ≡ spec.defined_in names.now (trees_of decls.now)) }
+{
+    let mut defined = Vec::new(alloc);
+    for decl in decls {
+        if let Decl::Equations(phylum, op, _, equations) = decl
+            && let Some(op) = operator_of(names, phylum, op)
+        {
+            add_defined(names, op, equations, &mut defined)?;
+        }
+    }
+    Ok(defined)
+}
