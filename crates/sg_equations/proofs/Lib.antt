@@ -1,2 +1,3 @@
 mod Places
 mod Ordered
+mod Below

@@ -4,7 +4,7 @@ use Rattle.std.proofs.lemmas.Bool.Decides.{nat_tests}
 use Rattle.std.specs.Prelude.{option_map, slice_get, unwrap_or}
 use Rattle.std.specs.List.{position, position_or_len}
 use Rattle.sg_kinds.specs.Values.{Bytes}
-use Rattle.sg_kinds.specs.Specification.{attrs_of, locals_of, phylum_of}
+use Rattle.sg_kinds.specs.Specification.{attrs_of, locals_of}
 use Rattle.sg_kinds.specs.declared.spec.Operator.{Operator}
 use Rattle.sg_kinds.specs.declared.spec.Local.{Local}
 use Rattle.sg_names.specs.declared.table.Table.{Table}
@@ -22,4 +22,4 @@ pub slot_fits : (t : Table) (op : ℕ) (o : Operator) (name : Bytes) (k : ℕ) (
 slot_fits t op o name k answer narrow there is found =
     let low : k < length (locals_of t.ops op) = position_within (λ (l : Local). bytes_eq name l.name) (locals_of t.ops op) k (sym is ∙ found) in
     let attrs : attr_count t op ≡ length (attrs_of t.phyla o.phylum) = ap (λ r. length (attrs_of t.phyla (unwrap_or (option_map (λ (x : Operator). x.phylum) r) 0))) there in
-    omega (arith, low, attrs, narrow op)
+    omega (arith, low, attrs, narrow.slots op)

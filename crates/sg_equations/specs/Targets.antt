@@ -20,9 +20,10 @@ operator_of t p op = option_and_then (λ X. operator_named t X op.text) (phylum_
 abbrev pub attr_count : Table → ℕ → ℕ
 attr_count t op = length (attrs_of t.phyla (unwrap_or (phylum_of t.ops op) 0))
 
--- the slots of each left side are numbers of 32 bits
-abbrev pub IsNarrow : Table → Type 0
-IsNarrow t = (op : ℕ) → attr_count t op + length (locals_of t.ops op) < 2 ^ 32
+-- operators and the slots of each left side are numbers of 32 bits
+pub record IsNarrow (t : Table) : Type 0 where
+  pub ops : length t.ops < 2 ^ 32
+  pub slots : (op : ℕ) → attr_count t op + length (locals_of t.ops op) < 2 ^ 32
 
 abbrev pub own : ℕ → Occurrence
 own slot = record { at = 0; slot = slot }

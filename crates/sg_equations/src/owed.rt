@@ -1,9 +1,10 @@
 //! What the equations of an operator are to define.
-ghost use Rattle.std.specs.Prelude.{◌≡◌, ◌<◌, length};
+ghost use Rattle.std.specs.Prelude.{◌≡◌, ◌<◌, ◌^◌, length};
 ghost use Rattle.sg_kinds.specs.Dependencies.{phylum_there as there};
 ghost use Rattle.sg_kinds.specs.Specification.{rules_of};
 ghost use Rattle.sg_kinds.specs.Typing.{slots_there};
 ghost use Rattle.sg_equations.specs.Owed.{owes as owes_by, spec_with};
+ghost use Rattle.sg_equations.specs.Targets.{IsNarrow};
 
 use sg_kinds::ids::{OpId, PhylumId};
 use sg_kinds::marks::Way;
@@ -24,7 +25,9 @@ fn phylum_there(names: &Names, op: OpId, at: u32) -> Option<PhylumId>
 
 /// How many slots an occurrence of an operator has: its attributes, and at the left side the locals behind them.
 pub fn slot_count(names: &Names, op: OpId, at: u32) -> usize
-    ensures { result ≡ length (slots_there (spec_with names.now) op at) }
+    requires { IsNarrow names.now }
+    ensures short { result < 2 ^ 32 }
+    ensures count { result ≡ length (slots_there (spec_with names.now) op at) }
 {
     let attrs = match phylum_there(names, op, at) {
         Some(phylum) => names.attrs(phylum).len(),
@@ -40,6 +43,7 @@ pub fn slot_count(names: &Names, op: OpId, at: u32) -> usize
 /// Whether the equations of an operator are to define an occurrence: a synthesized attribute or local of its left side,
 /// or an inherited attribute of an argument.
 pub fn owes(names: &Names, op: OpId, o: Occurrence) -> bool
+    requires { IsNarrow names.now }
     ensures { result ≡ owes_by names.now op o }
 {
     let Some(phylum) = phylum_there(names, op, o.at) else {

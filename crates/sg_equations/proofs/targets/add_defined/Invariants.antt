@@ -1,4 +1,4 @@
-use Rattle.std.proofs.Common.{◌≡◌, ◌++◌, take, map, flat_map}
+use Rattle.std.proofs.Common.{◌≡◌, ◌++◌, take, flat_map}
 use Rattle.sg_ast.specs.View.{equation_of}
 use Rattle.sg_equations.specs.Targets.{defined_by}
 use Rattle.sg_equations.proofs.targets.add_defined.Given as goal

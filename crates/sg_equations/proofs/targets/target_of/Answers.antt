@@ -1,4 +1,4 @@
-use Rattle.std.proofs.Common.{◌≡◌, ◌+◌, length, slice_get, Some, arith}
+use Rattle.std.proofs.Common.{◌≡◌, slice_get, Some, arith}
 use Rattle.sg_equations.proofs.Places.{slot_fits}
 use Rattle.sg_equations.proofs.targets.target_of.Goals as goal
 
