@@ -7,6 +7,7 @@ ghost use Rattle.sg_equations.specs.Keys.{key_of, AreSeen};
 ghost use Rattle.sg_equations.specs.declared.targets.Defined.{Defined};
 ghost use Rattle.sg_equations.specs.Targets.{IsNarrow};
 
+use crate::narrow::is_narrow;
 use crate::owed::{owes, slot_count};
 use crate::targets::{Defined, targets_in};
 use sg_ast::decl::Decl;
@@ -173,9 +174,11 @@ pub fn incomplete(
     decls: &[Decl],
     names: &Names,
 ) -> Result<Option<SpecFault>, NoMemory>
-    requires { IsNarrow names.now }
     ensures { IfOk result (λ fault. fault ≡ spec.incomplete names.now (trees_of decls.now)) }
 {
+    if !is_narrow(names) {
+        return Err(NoMemory);
+    }
     let defined = targets_in(alloc, decls, names)?;
     if let Some(fault) = not_defined_here(names, &defined) {
         return Ok(Some(fault));

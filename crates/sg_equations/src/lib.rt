@@ -2,7 +2,10 @@
 #![tactic(auto)]
 
 mod completeness;
+mod narrow;
 mod owed;
 pub mod targets;
+#[cfg(test)]
+mod tests;
 
 pub use completeness::incomplete;

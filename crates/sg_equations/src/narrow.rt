@@ -1,0 +1,28 @@
+//! Numbers of 32 bits.
+ghost use Rattle.std.specs.Prelude.{IsTrue};
+ghost use Rattle.sg_equations.specs.Targets.{IsNarrow};
+
+use sg_kinds::ids::PhylumId;
+use sg_names::names::Names;
+
+/// The greatest number of 32 bits.
+const MOST: usize = 4_294_967_295;
+
+/// Whether operators and the slots of each left side are numbers of 32 bits. They are, but for tables past all memory.
+pub fn is_narrow(names: &Names) -> bool
+    ensures { IsTrue result → IsNarrow names.now }
+{
+    let ops = names.table().ops.as_slice();
+    let none = names.attrs(PhylumId { number: 0 }).len();
+    if ops.len() > MOST || none > MOST {
+        return false;
+    }
+    for operator in ops {
+        let attrs = names.attrs(operator.phylum).len();
+        let locals = operator.locals.len();
+        if locals > MOST || attrs + locals > MOST {
+            return false;
+        }
+    }
+    true
+}
