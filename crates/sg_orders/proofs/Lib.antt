@@ -32,5 +32,7 @@ pub mod Filling
 pub mod Scenes
 pub mod Plans
 pub mod Apart
+pub mod Distinct
+pub mod SoundRules
 pub mod Owns
 pub mod Pairs

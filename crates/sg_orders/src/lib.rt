@@ -9,6 +9,7 @@ mod fault;
 mod frame;
 mod grown;
 mod induction;
+pub mod laws;
 mod layers;
 mod ordering;
 mod planning;

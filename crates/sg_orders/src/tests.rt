@@ -1,8 +1,9 @@
-//! Small languages, with the cycle that is reported where they have one.
+//! Small languages, with the cycle that is reported, or the visits of the last phylum's attributes.
 use super::{OrderFault, is_in_range, is_proper, order};
 use sg_kinds::ids::{ExprId, OpId, PhylumId};
 use sg_kinds::marks::{Shape, Way};
 use sg_kinds::memory::NoMemory;
+use sg_kinds::plans::Plans;
 use sg_kinds::row::Row;
 use sg_kinds::spec::{Attr, Local, Occurrence, Operator, Phylum, Rule, Rules};
 use sg_kinds::text::Text;
@@ -25,7 +26,7 @@ struct Language {
 
 #[derive(Clone, Copy)]
 enum Expected {
-    Found,
+    Found(&'static [u32]),
     Direct(u32, &'static [usize]),
     Induced(u32, &'static [usize]),
     Ordered(u32, &'static [usize]),
@@ -35,13 +36,13 @@ const I: Way = Way::Inherited;
 
 const S: Way = Way::Synthesized;
 
-const LANGUAGES: [Language; 9] = [
+const LANGUAGES: [Language; 11] = [
     // no operator at all
     Language {
         phyla: &[&[S]],
         ops: &[],
         equations: &[],
-        expected: Expected::Found,
+        expected: Expected::Found(&[1]),
     },
     // a source and its use, where two ways meet
     Language {
@@ -54,7 +55,7 @@ const LANGUAGES: [Language; 9] = [
             (0, (2, 1), &[(1, 0)]),
             (3, (0, 2), &[(0, 0), (0, 1)]),
         ],
-        expected: Expected::Found,
+        expected: Expected::Found(&[1, 1, 1]),
     },
     // two visits that meet: no induced dependency has a cycle
     Language {
@@ -82,7 +83,7 @@ const LANGUAGES: [Language; 9] = [
             (0, (2, 0), &[]),
             (0, (2, 1), &[(1, 3)]),
         ],
-        expected: Expected::Found,
+        expected: Expected::Found(&[1, 1, 1, 1]),
     },
     // two locals that name each other
     Language {
@@ -126,6 +127,32 @@ const LANGUAGES: [Language; 9] = [
         ],
         expected: Expected::Induced(0, &[0]),
     },
+    // a phylum that is visited twice, each time for one attribute
+    Language {
+        phyla: &[&[], &[I, S, I, S]],
+        ops: &[(0, &[1], 0), (1, &[], 1)],
+        equations: &[
+            (0, (1, 0), &[]),
+            (0, (1, 2), &[(1, 1)]),
+            (1, (0, 1), &[(0, 0)]),
+            (1, (0, 4), &[(0, 1), (0, 2)]),
+            (1, (0, 3), &[(0, 4), (0, 4)]),
+        ],
+        expected: Expected::Found(&[1, 1, 2, 2]),
+    },
+    // inherited attributes that nothing names, of a phylum without synthesized ones
+    Language {
+        phyla: &[&[], &[I, I]],
+        ops: &[(0, &[1, 1], 1), (1, &[], 0)],
+        equations: &[
+            (0, (1, 0), &[(0, 0)]),
+            (0, (1, 1), &[]),
+            (0, (2, 0), &[(1, 1)]),
+            (0, (2, 1), &[]),
+            (0, (0, 0), &[]),
+        ],
+        expected: Expected::Found(&[1, 1]),
+    },
     // an inherited attribute that nothing names, and a list that hands on what it inherits
     Language {
         phyla: &[&[], &[I, I, S]],
@@ -138,7 +165,7 @@ const LANGUAGES: [Language; 9] = [
             (2, (1, 1), &[(0, 1)]),
             (2, (0, 2), &[(1, 2)]),
         ],
-        expected: Expected::Found,
+        expected: Expected::Found(&[1, 2, 1]),
     },
 ];
 
@@ -147,7 +174,7 @@ const NAMES_TOO_MUCH: Language = Language {
     phyla: &[&[S]],
     ops: &[(0, &[], 1)],
     equations: &[(0, (0, 0), &[(0, 2)])],
-    expected: Expected::Found,
+    expected: Expected::Found(&[]),
 };
 
 fn phylum(alloc: Global, ways: &[Way]) -> Result<Phylum, NoMemory> {
@@ -246,17 +273,22 @@ fn is_expected(fault: &OrderFault, expected: &Expected) -> bool {
     }
 }
 
+/// Whether the last phylum's attributes have these visits.
+fn has_visits(plans: &Plans, expected: &Expected) -> bool {
+    match (plans.visits.as_slice().last(), expected) {
+        (Some(row), Expected::Found(visits)) => row.as_slice() == *visits,
+        _ => false,
+    }
+}
+
 #[test]
-fn languages_with_their_cycles(rt: HostRuntime) -> Result<(), Fail> {
+fn languages_with_their_cycles_or_visits(rt: HostRuntime) -> Result<(), Fail> {
     for (k, language) in LANGUAGES.iter().enumerate() {
         let rules = record_of(rt.alloc(), language)?;
         assert!(rt; is_in_range(&rules), "language {k}");
         assert!(rt; is_proper(rt.alloc(), &rules)?, "language {k}");
         match order(rt.alloc(), &rules) {
-            Ok(_) => assert!(rt;
-                matches!(language.expected, Expected::Found),
-                "language {k}"
-            ),
+            Ok(plans) => assert!(rt; has_visits(&plans, &language.expected), "language {k}"),
             Err(fault) => assert!(rt; is_expected(&fault, &language.expected), "language {k}"),
         }
     }
