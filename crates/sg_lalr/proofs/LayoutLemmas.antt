@@ -19,6 +19,7 @@ laid-none = record {
   known = λ m l. absurd (omega (arith, l));
   contained = λ m l. absurd (omega (arith, l));
   above = λ m l. absurd (omega (arith, l));
+  placed = λ m l. absurd (omega (arith, l));
   below = λ m l. absurd (omega (arith, l));
   here = λ s m l. absurd (omega (arith, l));
 }
@@ -31,7 +32,7 @@ more-firsts cores core nodes firsts = firsts ++ length (more-nodes cores core no
 
 -- where a node of the longer list stands, and which it is
 abbrev Stands : List (List Item) → List Item → List Node → ℕ → Type 0
-Stands cores core nodes m = ((m < length nodes) × (node_at (more-nodes cores core nodes) m ≡ node_at nodes m)) ⊎ ((length nodes ≤ m) × ((k : ℕ) × (k < length core) × (node_at (more-nodes cores core nodes) m ≡ node (length cores) (get_or core k (item 0 0)))))
+Stands cores core nodes m = ((m < length nodes) × (node_at (more-nodes cores core nodes) m ≡ node_at nodes m)) ⊎ ((length nodes ≤ m) × ((k : ℕ) × (k < length core) × (node_at (more-nodes cores core nodes) m ≡ node (length cores) (get_or core k (item 0 0))) × (m ≡ length nodes + k)))
 
 module _ (cores : List (List Item)) (core : List Item) (nodes : List Node) (firsts : List ℕ) (laid : IsLaid cores nodes firsts) where
   long : length (more-nodes cores core nodes) ≡ length nodes + length core
@@ -49,7 +50,7 @@ module _ (cores : List (List Item)) (core : List Item) (nodes : List Node) (firs
     | inr high ↦
         let k : m - length nodes < length core = omega (arith, l, high, long) in
         let is : length nodes + (m - length nodes) ≡ m = omega (arith, high) in
-        inr (high, (m - length nodes, k, ap (node_at (more-nodes cores core nodes)) (sym is) ∙ new-node (m - length nodes) k))
+        inr (high, (m - length nodes, k, ap (node_at (more-nodes cores core nodes)) (sym is) ∙ new-node (m - length nodes) k, sym is))
   ]
 
   old-first : (t : ℕ) → t ≤ length cores → slice_index (more-firsts cores core nodes firsts) t ≡ slice_index firsts t
@@ -89,6 +90,18 @@ module _ (cores : List (List Item)) (core : List Item) (nodes : List Node) (firs
     contained = λ m l. elim (stands m l) [
       | inl old ↦ subst (λ (n : Node). Contains (row_at (cores ++ core ∷ []) n.state) n.item) (sym old.1) (subst (λ r. Contains r (node_at nodes m).item) (sym (row_at-front cores core (node_at nodes m).state (laid.known m old.0))) (laid.contained m old.0))
       | inr new ↦ subst (λ (n : Node). Contains (row_at (cores ++ core ∷ []) n.state) n.item) (sym new.1.2) (subst (λ r. Contains r (get_or core new.1.0 (item 0 0))) (sym (row_at-last cores core (length cores) refl)) (Contains-get_or core new.1.0 (item 0 0) new.1.1))
+    ];
+    placed = λ m l. elim (stands m l) [
+      | inl old ↦
+          let p = laid.placed m old.0 in
+          let k = laid.known m old.0 in
+          let here = p.1 in
+          subst (λ (n : Node). (j : ℕ) × (m ≡ slice_index (more-firsts cores core nodes firsts) n.state + j) × (j < length (row_at (cores ++ core ∷ []) n.state)) × (get_or (row_at (cores ++ core ∷ []) n.state) j (item 0 0) ≡ n.item)) (sym old.1)
+          (p.0, (let e = old-first (node_at nodes m).state (omega (arith, k)) in omega (arith, here, e)), subst (λ r. p.0 < length r) (sym (row_at-front cores core (node_at nodes m).state k)) p.2, ap (λ r. get_or r p.0 (item 0 0)) (row_at-front cores core (node_at nodes m).state k) ∙ p.3)
+      | inr new ↦
+          let at = new.1.3 in
+          subst (λ (n : Node). (j : ℕ) × (m ≡ slice_index (more-firsts cores core nodes firsts) n.state + j) × (j < length (row_at (cores ++ core ∷ []) n.state)) × (get_or (row_at (cores ++ core ∷ []) n.state) j (item 0 0) ≡ n.item)) (sym new.1.2)
+          (new.1.0, (let e = laid.end in let f = old-first (length cores) (omega arith) in omega (arith, at, e, f)), subst (λ r. new.1.0 < length r) (sym (row_at-last cores core (length cores) refl)) new.1.1, ap (λ r. get_or r new.1.0 (item 0 0)) (row_at-last cores core (length cores) refl))
     ];
     above = λ m l. elim (stands m l) [
       | inl old ↦ subst (λ (n : Node). slice_index (more-firsts cores core nodes firsts) n.state ≤ m) (sym old.1) (let a = laid.above m old.0 in let k = laid.known m old.0 in omega (arith, a, old-first (node_at nodes m).state (omega (arith, k))))

@@ -13,3 +13,4 @@ pub mod StateLemmas
 pub mod FirstLemmas
 pub mod LayoutLemmas
 pub mod LinkLemmas
+pub mod LookLemmas

@@ -1,5 +1,7 @@
 pub mod Automaton
+pub mod Clashes
 pub mod Closure
+pub mod Conflict
 pub mod Firsts
 pub mod Items
 pub mod Least

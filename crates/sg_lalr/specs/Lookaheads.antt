@@ -1,9 +1,10 @@
 -- Lookaheads along states: the items of all states in one list, and what flows between them.
-use Rattle.std.specs.Prelude.{◌≡◌, ℕ, zero, suc, ◌+◌, ◌<◌, ◌≤◌, ◌⊎◌, List, Some, slice_get, slice_index, slice_index_or, length, drop, Contains}
+use Rattle.std.specs.Prelude.{◌≡◌, ◌↔◌, ℕ, Bool, zero, suc, ◌+◌, ◌<◌, ◌≤◌, ◌⊎◌, List, Some, slice_get, slice_index, slice_index_or, length, drop, Contains}
 use Rattle.sg_grammar.specs.declared.grammar.Production.{Production}
 use Rattle.sg_grammar.specs.Grammar.{Grammar, right_of, symbol_at}
 use Rattle.sg_lalr.specs.declared.states.Move.{Move}
 use Rattle.sg_lalr.specs.declared.lookaheads.Node.{Node}
+use Rattle.sg_sets.specs.Rows.{Holds}
 use Rattle.sg_lalr.specs.Items.{Item, item, symbol_of, moved}
 use Rattle.sg_lalr.specs.Closure.{HasLeft}
 use Rattle.sg_lalr.specs.Automaton.{row_at, goto}
@@ -24,6 +25,12 @@ node s i = record { state = s; item = i }
 abbrev pub node_at : List Node → ℕ → Node
 node_at nodes m = slice_index_or nodes m (node 0 (item 0 0))
 
+-- the item of node m stands in its core as far from the first as the node from the first of its state
+abbrev pub IsPlaced : List (List Item) → List Node → List ℕ → ℕ → Type 0
+IsPlaced cores nodes firsts m =
+    let n = node_at nodes m in
+    (k : ℕ) × (m ≡ slice_index firsts n.state + k) × (k < length (row_at cores n.state)) × (slice_index_or (row_at cores n.state) k (item 0 0) ≡ n.item)
+
 -- the nodes are the items of all cores, those of state s between the s-th place and the next
 pub record IsLaid (cores : List (List Item)) (nodes : List Node) (firsts : List ℕ) : Type 0 where
   pub count : length firsts ≡ suc (length cores)
@@ -33,6 +40,7 @@ pub record IsLaid (cores : List (List Item)) (nodes : List Node) (firsts : List 
   pub has : (s : ℕ) (i : Item) → s < length cores → Contains (row_at cores s) i → (m : ℕ) × (m < length nodes) × (node_at nodes m ≡ node s i)
   pub known : (m : ℕ) → m < length nodes → (node_at nodes m).state < length cores
   pub contained : (m : ℕ) → m < length nodes → Contains (row_at cores (node_at nodes m).state) (node_at nodes m).item
+  pub placed : (m : ℕ) → m < length nodes → IsPlaced cores nodes firsts m
   pub above : (m : ℕ) → m < length nodes → slice_index firsts (node_at nodes m).state ≤ m
   pub below : (m : ℕ) → m < length nodes → m < slice_index firsts (suc (node_at nodes m).state)
   pub here : (s m : ℕ) → s < length cores → slice_index firsts s ≤ m → m < slice_index firsts (suc s) → (node_at nodes m).state ≡ s
@@ -63,3 +71,7 @@ Gives g nodes a b u = OpensTo g nodes a b × Firsts g (rest_of g (node_at nodes 
 -- the beginning of an entry
 abbrev pub IsStart : Grammar → Node → Type 0
 IsStart g n = (n.state ≡ 0) × (n.item.dot ≡ 0) × (length g.rules ≤ n.item.production)
+
+-- each row has the lookaheads with which the node's item is a triple of its state
+abbrev pub AreLookaheads : Grammar → List (List Move) → List Node → List (List Bool) → Type 0
+AreLookaheads g moves nodes rows = (m t : ℕ) → m < length nodes → Holds rows m t ↔ Triple g moves (node_at nodes m).state (node_at nodes m).item.production (node_at nodes m).item.dot t

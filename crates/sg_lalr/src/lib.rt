@@ -2,6 +2,7 @@
 #![tactic(auto)]
 
 mod closure;
+pub mod conflict;
 mod firsts;
 pub mod items;
 mod least_set;

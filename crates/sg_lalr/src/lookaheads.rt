@@ -1,15 +1,27 @@
 //! The lookaheads of the items of all states.
-ghost use Rattle.std.specs.Prelude.{◌≡◌, ℕ, suc, ◌+◌, ◌<◌, ◌≤◌, ◌↔◌, ◌⊎◌, length, All, IfOk, OnOk, IsTrue};
+ghost use Rattle.std.specs.Prelude.{◌≡◌, ℕ, suc, ◌+◌, ◌<◌, ◌≤◌, ◌↔◌, ◌⊎◌, List, Some, length, map, All, IfOk, OnOk, IsTrue};
 ghost use Rattle.sg_sets.specs.Members.{Has};
 ghost use Rattle.sg_sets.specs.Paths.{Linked};
 ghost use Rattle.sg_sets.specs.Rows.{Holds, SameShape};
 ghost use Rattle.sg_lalr.specs.Closure.{InRange};
-ghost use Rattle.sg_lalr.specs.Lookaheads.{node_at, rest_of, BeginsWith, IsStart};
+ghost use Rattle.sg_lalr.specs.Items.{Item, symbol_of};
+ghost use Rattle.sg_grammar.specs.Derives.{AllProductive};
+ghost use Rattle.sg_lalr.specs.Automaton.{target_of, goto, IsWhole};
+ghost use Rattle.sg_lalr.specs.Least.{Grown};
+ghost use Rattle.sg_lalr.specs.Firsts.{First, IsNullable};
+ghost use Rattle.sg_lalr.specs.Lookaheads.{node_at, rest_of, BeginsWith, IsStart, IsLaid, OpensTo, FlowsTo, Gives, AreLookaheads};
 
 use crate::NoMemory;
+use crate::firsts::{first_of, firsts};
 use crate::items::Item;
+use crate::layout::{Layout, lay};
+use crate::least_set::{has_all, least_set};
+use crate::moves::symbol_of;
+use crate::states::{Automaton, Move};
 use sg_grammar::grammar::Grammar;
+use sg_kinds::row::Row;
 use sg_sets::{BitSet, Rows};
+use std::alloc::Global;
 
 /// An item of a state.
 #[derive(Clone, Copy)]
@@ -113,4 +125,174 @@ fn seed_begun(
             rows.union_row(b, first);
         }
     }
+}
+
+/// Which symbols derive no tokens, and the terminals with which each symbol begins.
+#[derive(Drop)]
+struct Beginnings {
+    nullable: BitSet,
+    firsts: Rows,
+}
+
+/// The lookaheads of the items so far, and the links along which they flow.
+#[derive(Drop)]
+struct Flow {
+    rows: Rows,
+    links: Vec<(usize, usize)>,
+}
+
+/// The items of all states with their lookaheads.
+#[derive(Drop)]
+pub(crate) struct Lookaheads {
+    pub(crate) layout: Layout,
+    pub(crate) rows: Rows,
+}
+
+/// Where a move on the symbol leads.
+fn target_of(row: &[Move], x: u32) -> u32
+    ensures { result ≡ target_of row.now x }
+{
+    for step in row {
+        if step.symbol == x {
+            return step.target;
+        }
+    }
+    0
+}
+
+/// Gives the beginnings of the productions of a node's symbol their lookaheads.
+fn open_node(
+    alloc: Global,
+    g: &Grammar,
+    begins: &Beginnings,
+    layout: &Layout,
+    a: usize,
+    x: u32,
+    flow: &mut Flow,
+) -> Result<(), NoMemory>
+    requires there { a < length layout.now.nodes.items }
+    requires symbol { symbol_of g.now (node_at layout.now.nodes.items a).item ≡ Some x }
+    requires range { InRange g.now (node_at layout.now.nodes.items a).item }
+    requires laid { (cores : List (List Item)) × IsLaid cores layout.now.nodes.items layout.now.firsts.items }
+    requires nullable { IsNullable g.now begins.now.nullable }
+    requires count { length begins.now.firsts.rows ≡ g.now.symbols }
+    requires width { begins.now.firsts.width ≡ flow.old.rows.width }
+    requires firsts { (X u : ℕ) → Holds begins.now.firsts.rows X u ↔ ((X < g.now.symbols) × First g.now X u) }
+    requires rows { length flow.old.rows.rows ≡ length layout.now.nodes.items }
+    ensures shape { OnOk result (SameShape flow.old.rows flow.new.rows) }
+    ensures links { OnOk result ((b c : ℕ) → Linked flow.new.links.items b c ↔ (Linked flow.old.links.items b c ⊎ ((b ≡ a) × (c < length layout.now.nodes.items) × (OpensTo g.now layout.now.nodes.items a c × Grown g.now.rules 0 (rest_of g.now (node_at layout.now.nodes.items a).item))))) }
+    ensures seeds { OnOk result ((c u : ℕ) → Holds flow.new.rows.rows c u ↔ (Holds flow.old.rows.rows c u ⊎ ((c < length layout.now.nodes.items) × Gives g.now layout.now.nodes.items a c u))) }
+{
+    g.sound();
+    let node = layout.nodes[a];
+    let rest = rest_of(g, node.item);
+    let first = first_of(alloc, &begins.nullable, &begins.firsts, rest)?;
+    let from = layout.firsts[node.state as usize];
+    let to = layout.firsts[node.state as usize + 1];
+    seed_begun(g, &layout.nodes, from, to, x, &first, &mut flow.rows);
+    if has_all(&begins.nullable, rest) {
+        link_begun(g, &layout.nodes, from, to, a, x, &mut flow.links)?;
+    }
+    Ok(())
+}
+
+/// Where the moves of a state lead on a symbol.
+fn goto_of(moves: &[Row<Move>], state: u32, x: u32) -> u32
+    requires { state < length moves.now }
+    ensures { result ≡ goto moves.now state x }
+{
+    target_of(moves[state as usize].as_slice(), x)
+}
+
+/// Lets the lookaheads of a node flow to the nodes that have them too, and gives its symbol's productions theirs.
+fn link_node(
+    alloc: Global,
+    g: &Grammar,
+    begins: &Beginnings,
+    automaton: &Automaton,
+    layout: &Layout,
+    a: usize,
+    flow: &mut Flow,
+) -> Result<(), NoMemory>
+    requires there { a < length layout.now.nodes.items }
+    requires whole { IsWhole g.now (map (λ k. k.items) automaton.now.kernels.keys) automaton.now.cores.items automaton.now.moves.items automaton.now.origins.items }
+    requires laid { IsLaid automaton.now.cores.items layout.now.nodes.items layout.now.firsts.items }
+    requires nullable { IsNullable g.now begins.now.nullable }
+    requires count { length begins.now.firsts.rows ≡ g.now.symbols }
+    requires width { begins.now.firsts.width ≡ flow.old.rows.width }
+    requires firsts { (X u : ℕ) → Holds begins.now.firsts.rows X u ↔ ((X < g.now.symbols) × First g.now X u) }
+    requires rows { length flow.old.rows.rows ≡ length layout.now.nodes.items }
+    ensures shape { OnOk result (SameShape flow.old.rows flow.new.rows) }
+    ensures links { OnOk result ((b c : ℕ) → Linked flow.new.links.items b c ↔ (Linked flow.old.links.items b c ⊎ ((b ≡ a) × (c < length layout.now.nodes.items) × FlowsTo g.now automaton.now.moves.items layout.now.nodes.items a c))) }
+    ensures seeds { OnOk result ((c u : ℕ) → Holds flow.new.rows.rows c u ↔ (Holds flow.old.rows.rows c u ⊎ ((c < length layout.now.nodes.items) × Gives g.now layout.now.nodes.items a c u))) }
+{
+    g.sound();
+    let node = layout.nodes[a];
+    let Some(x) = symbol_of(g, node.item) else {
+        return Ok(());
+    };
+    let to = goto_of(&automaton.moves, node.state, x) as usize;
+    let moved = Item {
+        production: node.item.production,
+        dot: node.item.dot + 1,
+    };
+    link_item(
+        &layout.nodes,
+        layout.firsts[to],
+        layout.firsts[to + 1],
+        a,
+        moved,
+        &mut flow.links,
+    )?;
+    if x >= g.terminals() {
+        open_node(alloc, g, begins, layout, a, x, flow)?;
+    }
+    Ok(())
+}
+
+/// Gives the beginnings of the entries the end as lookahead.
+fn seed_starts(g: &Grammar, nodes: &[Node], rows: &mut Rows)
+    requires count { length nodes.now ≡ length rows.old.rows }
+    requires width { 0 < rows.old.width }
+    ensures shape { SameShape rows.old rows.new }
+    ensures gains { (c u : ℕ) → Holds rows.new.rows c u ↔ (Holds rows.old.rows c u ⊎ ((c < length nodes.now) × IsStart g.now (node_at nodes.now c) × (u ≡ 0))) }
+{
+    for (a, node) in nodes.iter().enumerate() {
+        if is_start(g, *node) {
+            rows.insert(a, 0);
+        }
+    }
+}
+
+/// The lookaheads of all items of all states, where each symbol derives some tokens.
+pub(crate) fn all_lookaheads(
+    alloc: Global,
+    g: &Grammar,
+    automaton: &Automaton,
+) -> Result<Lookaheads, NoMemory>
+    requires productive { AllProductive g.now }
+    requires entry { 0 < length g.now.entries }
+    requires whole { IsWhole g.now (map (λ k. k.items) automaton.now.kernels.keys) automaton.now.cores.items automaton.now.moves.items automaton.now.origins.items }
+    ensures laid { IfOk result (λ l. IsLaid automaton.now.cores.items l.layout.nodes.items l.layout.firsts.items) }
+    ensures count { IfOk result (λ l. length l.rows.rows ≡ length l.layout.nodes.items) }
+    ensures width { IfOk result (λ l. l.rows.width ≡ g.now.terminals) }
+    ensures exact { IfOk result (λ l. AreLookaheads g.now automaton.now.moves.items l.layout.nodes.items l.rows.rows) }
+{
+    g.sound();
+    let nullable = least_set(alloc, g, 0)?;
+    let firsts = firsts(alloc, g, &nullable)?;
+    let begins = Beginnings { nullable, firsts };
+    let layout = lay(alloc, &automaton.cores)?;
+    let count = layout.nodes.len();
+    let mut flow = Flow {
+        rows: Rows::new(alloc, count, g.terminals() as usize)?,
+        links: Vec::new(alloc),
+    };
+    seed_starts(g, &layout.nodes, &mut flow.rows);
+    for a in 0..count {
+        link_node(alloc, g, &begins, automaton, &layout, a, &mut flow)?;
+    }
+    let Flow { mut rows, links } = flow;
+    rows.flow(&links);
+    Ok(Lookaheads { layout, rows })
 }

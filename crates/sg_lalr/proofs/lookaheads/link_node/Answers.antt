@@ -1,0 +1,233 @@
+use Rattle.std.proofs.Common.{◌≡◌, ℕ, suc, ◌+◌, ◌<◌, ◌≤◌, List, Some, None, sym, ap, ◌∙◌, subst, length, map, get_or, arith}
+use Rattle.std.specs.Prelude.{slice_index}
+use Rattle.std.proofs.lemmas.List.{get_or_read}
+use Rattle.sg_lalr.specs.declared.lookaheads.Node.{Node}
+use Rattle.sg_lalr.specs.declared.states.Move.{Move}
+use Rattle.sg_lalr.specs.Items.{Item, item, symbol_of, moved}
+use Rattle.sg_lalr.specs.Closure.{InRange}
+use Rattle.sg_lalr.specs.Automaton.{goto}
+use Rattle.sg_lalr.specs.Lookaheads.{node, node_at}
+use Rattle.sg_lalr.proofs.LinkLemmas.{RangedTo, ranged-as}
+use Rattle.sg_lalr.proofs.LookLemmas.{node-range, node-target, flows-open, flows-shut, gives-shut, ends-links, ends-gives}
+use Rattle.sg_lalr.proofs.lookaheads.link_node.Goals as goal
+
+pub symbol_of-requires : goal.symbol_of-requires
+symbol_of-requires c =
+    let g = c.args.g.now in
+    let nodes : List Node = c.args.layout.now.nodes.items in
+    let firsts : List ℕ = c.args.layout.now.firsts.items in
+    let moves : List (List Move) = c.args.automaton.now.moves.items in
+    let kernels = map (λ k. k.items) c.args.automaton.now.kernels.keys in
+    let cores : List (List Item) = c.args.automaton.now.cores.items in
+    let origins = c.args.automaton.now.origins.items in
+    let a = c.args.a in
+    let there = c.requires.there in
+    let laid = c.requires.laid in
+    let whole = c.requires.whole in
+    let is : c.index-node.result.now ≡ node_at nodes a = get_or_read nodes a c.index-node.result.now there c.index-node.ensures (node 0 (item 0 0)) in
+    subst (λ (n : Node). InRange g n.item) (sym is) (node-range g kernels cores moves origins whole nodes firsts laid a there)
+
+pub open_node-requires-clause-range : goal.open_node-requires-clause-range
+open_node-requires-clause-range c =
+    let g = c.args.g.now in
+    let nodes : List Node = c.args.layout.now.nodes.items in
+    let firsts : List ℕ = c.args.layout.now.firsts.items in
+    let moves : List (List Move) = c.args.automaton.now.moves.items in
+    let kernels = map (λ k. k.items) c.args.automaton.now.kernels.keys in
+    let cores : List (List Item) = c.args.automaton.now.cores.items in
+    let origins = c.args.automaton.now.origins.items in
+    let a = c.args.a in
+    let there = c.requires.there in
+    let laid = c.requires.laid in
+    let whole = c.requires.whole in
+    let is : c.index-node.result.now ≡ node_at nodes a = get_or_read nodes a c.index-node.result.now there c.index-node.ensures (node 0 (item 0 0)) in
+    node-range g kernels cores moves origins whole nodes firsts laid a there
+
+pub index-requires : goal.index-requires
+index-requires c =
+    let g = c.args.g.now in
+    let nodes : List Node = c.args.layout.now.nodes.items in
+    let firsts : List ℕ = c.args.layout.now.firsts.items in
+    let moves : List (List Move) = c.args.automaton.now.moves.items in
+    let kernels = map (λ k. k.items) c.args.automaton.now.kernels.keys in
+    let cores : List (List Item) = c.args.automaton.now.cores.items in
+    let origins = c.args.automaton.now.origins.items in
+    let a = c.args.a in
+    let there = c.requires.there in
+    let laid = c.requires.laid in
+    let whole = c.requires.whole in
+    let is : c.index-node.result.now ≡ node_at nodes a = get_or_read nodes a c.index-node.result.now there c.index-node.ensures (node 0 (item 0 0)) in
+    let x = c.in-Some.x in
+    let symbol : symbol_of g (node_at nodes a).item ≡ Some x = ap (λ (n : Node). symbol_of g n.item) (sym is) ∙ (sym c.symbol_of.ensures.symbol ∙ c.in-Some.is) in
+    let v = goto moves (node_at nodes a).state x in
+    let low : v < length cores = node-target g kernels cores moves origins whole nodes firsts laid a x there symbol in
+    let v-is : c.goto_of-to.result ≡ v = c.goto_of-to.ensures ∙ ap (λ ms. goto ms c.index-node.result.now.state x) c.deref.ensures.value ∙ ap (λ (n : Node). goto moves n.state x) is in
+    let count = laid.count in
+    let long = c.args.layout.now.firsts.ok.0 in
+    omega (arith, low, v-is, count, long)
+
+pub index-requires-2 : goal.index-requires-2
+index-requires-2 c =
+    let g = c.args.g.now in
+    let nodes : List Node = c.args.layout.now.nodes.items in
+    let firsts : List ℕ = c.args.layout.now.firsts.items in
+    let moves : List (List Move) = c.args.automaton.now.moves.items in
+    let kernels = map (λ k. k.items) c.args.automaton.now.kernels.keys in
+    let cores : List (List Item) = c.args.automaton.now.cores.items in
+    let origins = c.args.automaton.now.origins.items in
+    let a = c.args.a in
+    let there = c.requires.there in
+    let laid = c.requires.laid in
+    let whole = c.requires.whole in
+    let is : c.index-node.result.now ≡ node_at nodes a = get_or_read nodes a c.index-node.result.now there c.index-node.ensures (node 0 (item 0 0)) in
+    let x = c.in-Some.x in
+    let symbol : symbol_of g (node_at nodes a).item ≡ Some x = ap (λ (n : Node). symbol_of g n.item) (sym is) ∙ (sym c.symbol_of.ensures.symbol ∙ c.in-Some.is) in
+    let v = goto moves (node_at nodes a).state x in
+    let low : v < length cores = node-target g kernels cores moves origins whole nodes firsts laid a x there symbol in
+    let v-is : c.goto_of-to.result ≡ v = c.goto_of-to.ensures ∙ ap (λ ms. goto ms c.index-node.result.now.state x) c.deref.ensures.value ∙ ap (λ (n : Node). goto moves n.state x) is in
+    let count = laid.count in
+    let long = c.args.layout.now.firsts.ok.0 in
+    omega (arith, low, v-is, count, long)
+
+pub link_item-requires-clause-order : goal.link_item-requires-clause-order
+link_item-requires-clause-order c =
+    let g = c.args.g.now in
+    let nodes : List Node = c.args.layout.now.nodes.items in
+    let firsts : List ℕ = c.args.layout.now.firsts.items in
+    let moves : List (List Move) = c.args.automaton.now.moves.items in
+    let kernels = map (λ k. k.items) c.args.automaton.now.kernels.keys in
+    let cores : List (List Item) = c.args.automaton.now.cores.items in
+    let origins = c.args.automaton.now.origins.items in
+    let a = c.args.a in
+    let there = c.requires.there in
+    let laid = c.requires.laid in
+    let whole = c.requires.whole in
+    let is : c.index-node.result.now ≡ node_at nodes a = get_or_read nodes a c.index-node.result.now there c.index-node.ensures (node 0 (item 0 0)) in
+    let x = c.in-Some.x in
+    let symbol : symbol_of g (node_at nodes a).item ≡ Some x = ap (λ (n : Node). symbol_of g n.item) (sym is) ∙ (sym c.symbol_of.ensures.symbol ∙ c.in-Some.is) in
+    let v = goto moves (node_at nodes a).state x in
+    let low : v < length cores = node-target g kernels cores moves origins whole nodes firsts laid a x there symbol in
+    let v-is : c.goto_of-to.result ≡ v = c.goto_of-to.ensures ∙ ap (λ ms. goto ms c.index-node.result.now.state x) c.deref.ensures.value ∙ ap (λ (n : Node). goto moves n.state x) is in
+    let count = laid.count in
+    let long = c.args.layout.now.firsts.ok.0 in
+    let from : c.index.result.now ≡ slice_index firsts v = get_or_read firsts c.goto_of-to.result c.index.result.now (omega (arith, low, count, v-is)) c.index.ensures 0 ∙ ap (slice_index firsts) v-is in
+    let next : c.goto_of-to.result + 1 ≡ suc v = omega (arith, v-is) in
+    let to : c.index-2.result.now ≡ slice_index firsts (suc v) = get_or_read firsts (c.goto_of-to.result + 1) c.index-2.result.now (omega (arith, low, count, next)) c.index-2.ensures 0 ∙ ap (slice_index firsts) next in
+    let r = laid.rising v low in
+    omega (arith, r, from, to)
+
+pub link_item-requires-clause-to : goal.link_item-requires-clause-to
+link_item-requires-clause-to c =
+    let g = c.args.g.now in
+    let nodes : List Node = c.args.layout.now.nodes.items in
+    let firsts : List ℕ = c.args.layout.now.firsts.items in
+    let moves : List (List Move) = c.args.automaton.now.moves.items in
+    let kernels = map (λ k. k.items) c.args.automaton.now.kernels.keys in
+    let cores : List (List Item) = c.args.automaton.now.cores.items in
+    let origins = c.args.automaton.now.origins.items in
+    let a = c.args.a in
+    let there = c.requires.there in
+    let laid = c.requires.laid in
+    let whole = c.requires.whole in
+    let is : c.index-node.result.now ≡ node_at nodes a = get_or_read nodes a c.index-node.result.now there c.index-node.ensures (node 0 (item 0 0)) in
+    let x = c.in-Some.x in
+    let symbol : symbol_of g (node_at nodes a).item ≡ Some x = ap (λ (n : Node). symbol_of g n.item) (sym is) ∙ (sym c.symbol_of.ensures.symbol ∙ c.in-Some.is) in
+    let v = goto moves (node_at nodes a).state x in
+    let low : v < length cores = node-target g kernels cores moves origins whole nodes firsts laid a x there symbol in
+    let v-is : c.goto_of-to.result ≡ v = c.goto_of-to.ensures ∙ ap (λ ms. goto ms c.index-node.result.now.state x) c.deref.ensures.value ∙ ap (λ (n : Node). goto moves n.state x) is in
+    let count = laid.count in
+    let long = c.args.layout.now.firsts.ok.0 in
+    let from : c.index.result.now ≡ slice_index firsts v = get_or_read firsts c.goto_of-to.result c.index.result.now (omega (arith, low, count, v-is)) c.index.ensures 0 ∙ ap (slice_index firsts) v-is in
+    let next : c.goto_of-to.result + 1 ≡ suc v = omega (arith, v-is) in
+    let to : c.index-2.result.now ≡ slice_index firsts (suc v) = get_or_read firsts (c.goto_of-to.result + 1) c.index-2.result.now (omega (arith, low, count, next)) c.index-2.ensures 0 ∙ ap (slice_index firsts) next in
+    let w = laid.within (suc v) (omega (arith, low)) in
+    omega (arith, w, to, ap length c.deref-2.ensures.value)
+
+pub returns-in_ok-open_node-clause-links : goal.returns-in_ok-open_node-clause-links
+returns-in_ok-open_node-clause-links c =
+    let g = c.args.g.now in
+    let nodes : List Node = c.args.layout.now.nodes.items in
+    let firsts : List ℕ = c.args.layout.now.firsts.items in
+    let moves : List (List Move) = c.args.automaton.now.moves.items in
+    let kernels = map (λ k. k.items) c.args.automaton.now.kernels.keys in
+    let cores : List (List Item) = c.args.automaton.now.cores.items in
+    let origins = c.args.automaton.now.origins.items in
+    let a = c.args.a in
+    let there = c.requires.there in
+    let laid = c.requires.laid in
+    let whole = c.requires.whole in
+    let is : c.index-node.result.now ≡ node_at nodes a = get_or_read nodes a c.index-node.result.now there c.index-node.ensures (node 0 (item 0 0)) in
+    let x = c.in-Some.x in
+    let symbol : symbol_of g (node_at nodes a).item ≡ Some x = ap (λ (n : Node). symbol_of g n.item) (sym is) ∙ (sym c.symbol_of.ensures.symbol ∙ c.in-Some.is) in
+    let v = goto moves (node_at nodes a).state x in
+    let low : v < length cores = node-target g kernels cores moves origins whole nodes firsts laid a x there symbol in
+    let v-is : c.goto_of-to.result ≡ v = c.goto_of-to.ensures ∙ ap (λ ms. goto ms c.index-node.result.now.state x) c.deref.ensures.value ∙ ap (λ (n : Node). goto moves n.state x) is in
+    let count = laid.count in
+    let long = c.args.layout.now.firsts.ok.0 in
+    let from : c.index.result.now ≡ slice_index firsts v = get_or_read firsts c.goto_of-to.result c.index.result.now (omega (arith, low, count, v-is)) c.index.ensures 0 ∙ ap (slice_index firsts) v-is in
+    let next : c.goto_of-to.result + 1 ≡ suc v = omega (arith, v-is) in
+    let to : c.index-2.result.now ≡ slice_index firsts (suc v) = get_or_read firsts (c.goto_of-to.result + 1) c.index-2.result.now (omega (arith, low, count, next)) c.index-2.ensures 0 ∙ ap (slice_index firsts) next in
+    let old = c.args.flow.now.links.items in
+    let mid = c.link_item.new.links.items in
+    let it : c.index-node.result.now.item.dot + 1 ≡ suc (node_at nodes a).item.dot = (let e = ap (λ (n : Node). n.item.dot) is in omega (arith, e)) in
+    let target : item c.index-node.result.now.item.production (c.index-node.result.now.item.dot + 1) ≡ moved (node_at nodes a).item = (λ i. item (is i).item.production (it i)) in
+    let ranged : RangedTo old mid a (slice_index firsts v) (slice_index firsts (suc v)) (λ y. (node_at nodes y).item ≡ moved (node_at nodes a).item) =
+        ranged-as old mid a c.index.result.now c.index-2.result.now (slice_index firsts v) (slice_index firsts (suc v)) (λ y. (node_at c.deref-2.result.now y).item ≡ item c.index-node.result.now.item.production (c.index-node.result.now.item.dot + 1)) (λ y. (node_at nodes y).item ≡ moved (node_at nodes a).item) from to
+        (λ y h. sym (ap (λ ns. (node_at ns y).item) c.deref-2.ensures.value) ∙ h ∙ target) (λ y h. ap (λ ns. (node_at ns y).item) c.deref-2.ensures.value ∙ h ∙ sym target) c.in_ok-link_item.ensures in
+    flows-open g moves cores nodes firsts laid a x there symbol low old mid c.open_node.new.flow.links.items ranged c.in_ok-open_node.ensures.links
+
+pub returns-else-x-terminals-clause-links : goal.returns-else-x-terminals-clause-links
+returns-else-x-terminals-clause-links c =
+    let g = c.args.g.now in
+    let nodes : List Node = c.args.layout.now.nodes.items in
+    let firsts : List ℕ = c.args.layout.now.firsts.items in
+    let moves : List (List Move) = c.args.automaton.now.moves.items in
+    let kernels = map (λ k. k.items) c.args.automaton.now.kernels.keys in
+    let cores : List (List Item) = c.args.automaton.now.cores.items in
+    let origins = c.args.automaton.now.origins.items in
+    let a = c.args.a in
+    let there = c.requires.there in
+    let laid = c.requires.laid in
+    let whole = c.requires.whole in
+    let is : c.index-node.result.now ≡ node_at nodes a = get_or_read nodes a c.index-node.result.now there c.index-node.ensures (node 0 (item 0 0)) in
+    let x = c.in-Some.x in
+    let symbol : symbol_of g (node_at nodes a).item ≡ Some x = ap (λ (n : Node). symbol_of g n.item) (sym is) ∙ (sym c.symbol_of.ensures.symbol ∙ c.in-Some.is) in
+    let v = goto moves (node_at nodes a).state x in
+    let low : v < length cores = node-target g kernels cores moves origins whole nodes firsts laid a x there symbol in
+    let v-is : c.goto_of-to.result ≡ v = c.goto_of-to.ensures ∙ ap (λ ms. goto ms c.index-node.result.now.state x) c.deref.ensures.value ∙ ap (λ (n : Node). goto moves n.state x) is in
+    let count = laid.count in
+    let long = c.args.layout.now.firsts.ok.0 in
+    let from : c.index.result.now ≡ slice_index firsts v = get_or_read firsts c.goto_of-to.result c.index.result.now (omega (arith, low, count, v-is)) c.index.ensures 0 ∙ ap (slice_index firsts) v-is in
+    let next : c.goto_of-to.result + 1 ≡ suc v = omega (arith, v-is) in
+    let to : c.index-2.result.now ≡ slice_index firsts (suc v) = get_or_read firsts (c.goto_of-to.result + 1) c.index-2.result.now (omega (arith, low, count, next)) c.index-2.ensures 0 ∙ ap (slice_index firsts) next in
+    let old = c.args.flow.now.links.items in
+    let mid = c.link_item.new.links.items in
+    let it : c.index-node.result.now.item.dot + 1 ≡ suc (node_at nodes a).item.dot = (let e = ap (λ (n : Node). n.item.dot) is in omega (arith, e)) in
+    let target : item c.index-node.result.now.item.production (c.index-node.result.now.item.dot + 1) ≡ moved (node_at nodes a).item = (λ i. item (is i).item.production (it i)) in
+    let ranged : RangedTo old mid a (slice_index firsts v) (slice_index firsts (suc v)) (λ y. (node_at nodes y).item ≡ moved (node_at nodes a).item) =
+        ranged-as old mid a c.index.result.now c.index-2.result.now (slice_index firsts v) (slice_index firsts (suc v)) (λ y. (node_at c.deref-2.result.now y).item ≡ item c.index-node.result.now.item.production (c.index-node.result.now.item.dot + 1)) (λ y. (node_at nodes y).item ≡ moved (node_at nodes a).item) from to
+        (λ y h. sym (ap (λ ns. (node_at ns y).item) c.deref-2.ensures.value) ∙ h ∙ target) (λ y h. ap (λ ns. (node_at ns y).item) c.deref-2.ensures.value ∙ h ∙ sym target) c.in_ok-link_item.ensures in
+    flows-shut g moves cores nodes firsts laid a x there symbol low old mid c.sound.ensures (let t = c.terminals.ensures in let f = c.if-x-terminals.false in omega (arith, t, f)) ranged
+
+pub returns-else-x-terminals-clause-seeds : goal.returns-else-x-terminals-clause-seeds
+returns-else-x-terminals-clause-seeds c =
+    let g = c.args.g.now in
+    let nodes : List Node = c.args.layout.now.nodes.items in
+    let firsts : List ℕ = c.args.layout.now.firsts.items in
+    let moves : List (List Move) = c.args.automaton.now.moves.items in
+    let kernels = map (λ k. k.items) c.args.automaton.now.kernels.keys in
+    let cores : List (List Item) = c.args.automaton.now.cores.items in
+    let origins = c.args.automaton.now.origins.items in
+    let a = c.args.a in
+    let there = c.requires.there in
+    let laid = c.requires.laid in
+    let whole = c.requires.whole in
+    let is : c.index-node.result.now ≡ node_at nodes a = get_or_read nodes a c.index-node.result.now there c.index-node.ensures (node 0 (item 0 0)) in
+    let x = c.in-Some.x in
+    let symbol : symbol_of g (node_at nodes a).item ≡ Some x = ap (λ (n : Node). symbol_of g n.item) (sym is) ∙ (sym c.symbol_of.ensures.symbol ∙ c.in-Some.is) in
+    let v = goto moves (node_at nodes a).state x in
+    let low : v < length cores = node-target g kernels cores moves origins whole nodes firsts laid a x there symbol in
+    let v-is : c.goto_of-to.result ≡ v = c.goto_of-to.ensures ∙ ap (λ ms. goto ms c.index-node.result.now.state x) c.deref.ensures.value ∙ ap (λ (n : Node). goto moves n.state x) is in
+    let count = laid.count in
+    let long = c.args.layout.now.firsts.ok.0 in
+    gives-shut g moves cores nodes firsts laid a x there symbol low c.args.flow.now.rows.rows c.sound.ensures (let t = c.terminals.ensures in let f = c.if-x-terminals.false in omega (arith, t, f))
