@@ -14,3 +14,5 @@ pub mod FirstLemmas
 pub mod LayoutLemmas
 pub mod LinkLemmas
 pub mod LookLemmas
+pub mod ClashLemmas
+pub mod ConflictLemmas

@@ -190,7 +190,7 @@ module _ (g : Grammar) (kernels cores : List (List Item)) (moves : List (List Mo
     abbrev TripleAt : ℕ → ℕ → Type 0
     TripleAt m t = Triple g moves (node_at nodes m).state (node_at nodes m).item.production (node_at nodes m).item.dot t
 
-    has-triple : (m : ℕ) → m < length nodes → (t : ℕ) × TripleAt m t
+    pub has-triple : (m : ℕ) → m < length nodes → (t : ℕ) × TripleAt m t
     has-triple m l =
         let s = (node_at nodes m).state in
         let low = laid.known m l in

@@ -57,7 +57,7 @@ pairs-drop R zero xs h = h
 pairs-drop R (suc n) [] h = h
 pairs-drop R (suc n) (x ∷ xs) h = pairs-drop R n xs (pairs-tail R x xs h)
 
-Before-irreflexive : (i j : Item) → Before i j → Before j i → ⊥
+pub Before-irreflexive : (i j : Item) → Before i j → Before j i → ⊥
 Before-irreflexive i j (inl a) (inl b) = omega (arith, a, b)
 Before-irreflexive i j (inl a) (inr b) = let e = b.0 in omega (arith, a, e)
 Before-irreflexive i j (inr a) (inl b) = let e = a.0 in omega (arith, b, e)

@@ -1,5 +1,5 @@
 -- Conflicts within a state, by its nodes and their rows.
-use Rattle.std.specs.Prelude.{◌≡◌, ◌≢◌, ℕ, ◌<◌, ◌≤◌, ◌⊎◌, Bool, List, Option, Some, None}
+use Rattle.std.specs.Prelude.{◌≡◌, ◌≢◌, ℕ, ◌<◌, ◌≤◌, ◌⊎◌, Bool, List, Option, Some, None, suc, slice_index}
 use Rattle.sg_grammar.specs.Grammar.{Grammar}
 use Rattle.sg_sets.specs.Rows.{Holds}
 use Rattle.sg_lalr.specs.declared.lookaheads.Node.{Node}
@@ -34,3 +34,11 @@ ShiftsThere g nodes from to t = (m : ℕ) × (from ≤ m) × (m < to) × (symbol
 
 abbrev pub ReducesThere : Grammar → List Node → List (List Bool) → ℕ → ℕ → ℕ → Type 0
 ReducesThere g nodes rows from to t = (m : ℕ) × (from ≤ m) × (m < to) × (symbol_of g (node_at nodes m).item ≡ None) × Holds rows m t
+
+-- completed items between two places are of different productions
+abbrev pub IsApart : Grammar → List Node → ℕ → ℕ → Type 0
+IsApart g nodes from to = (m n : ℕ) → from ≤ m → m < n → n < to → symbol_of g (node_at nodes m).item ≡ None → symbol_of g (node_at nodes n).item ≡ None → (node_at nodes m).item.production ≢ (node_at nodes n).item.production
+
+-- no state below this one has a conflict
+abbrev pub IsClearBelow : Grammar → List Node → List ℕ → List (List Bool) → ℕ → Type 0
+IsClearBelow g nodes firsts rows s = (r u : ℕ) → r < s → Clashes g nodes rows (slice_index firsts r) (slice_index firsts (suc r)) u → ⊥
