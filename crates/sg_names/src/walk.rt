@@ -89,3 +89,118 @@ fn patterns(
     }
     Ok(())
 }
+
+/// Notes the uses of an expression.
+#[cycle(exprs)]
+#[tactic(auto, using(crate::proofs::NotedLaws::noted_append, crate::proofs::NotedLaws::back_from_one))]
+pub(crate) fn expr(
+    context: &Context,
+    scope: &mut Scope,
+    found: &mut Found,
+    expr: &Expr,
+) -> Result<(), NoMemory>
+    ensures scope { OnOk result (scope.new ≡ scope.old) }
+    ensures found { OnOk result (found.new ≡ noted context.now.names.now found.old (uses.expr_uses (site_of context.now.site) scope.old (expr_of expr.now))) }
+{
+    match expr {
+        Expr::Number(_, _) | Expr::Text(_) | Expr::Truth(_, _) => Ok(()),
+        Expr::Variable(name) => context.variable(scope, found, name),
+        Expr::Attribute(reference) => context.reference(found, reference),
+        Expr::Made(_, name, _) => context.phylum(found, name),
+        Expr::Paren(inner, _) | Expr::Prefix(_, inner, _) => {
+            self::expr(context, scope, found, inner)
+        }
+        Expr::Binary(_, left, right) => {
+            self::expr(context, scope, found, left)?;
+            self::expr(context, scope, found, right)
+        }
+        Expr::Choice(test, yes, no) => {
+            self::expr(context, scope, found, test)?;
+            self::expr(context, scope, found, yes)?;
+            self::expr(context, scope, found, no)
+        }
+        Expr::Call(name, args) => {
+            context.call(found, name, exprs_count(args)?)?;
+            exprs(context, scope, found, args)
+        }
+        Expr::Let(name, value, body, _) => {
+            context.binding(scope, found, name)?;
+            self::expr(context, scope, found, value)?;
+            let count = scope.len();
+            scope.bind(context.alloc, name.text.as_slice())?;
+            self::expr(context, scope, found, body)?;
+            scope.leave(count);
+            Ok(())
+        }
+        Expr::With(value, first, body, rest, _) => {
+            self::expr(context, scope, found, value)?;
+            case(context, scope, found, first, body)?;
+            cases(context, scope, found, rest)
+        }
+    }
+}
+
+/// Notes the uses of expressions from left to right.
+#[cycle(exprs)]
+#[tactic(auto, using(crate::proofs::NotedLaws::noted_append))]
+fn exprs(
+    context: &Context,
+    scope: &mut Scope,
+    found: &mut Found,
+    exprs: &Exprs,
+) -> Result<(), NoMemory>
+    ensures scope { OnOk result (scope.new ≡ scope.old) }
+    ensures found { OnOk result (found.new ≡ noted context.now.names.now found.old (uses.exprs_uses (site_of context.now.site) scope.old (exprs_of exprs.now))) }
+{
+    let mut left = exprs;
+    while let Exprs::More(part, rest) = left {
+        expr(context, scope, found, part)?;
+        left = rest;
+    }
+    Ok(())
+}
+
+/// Notes the uses of a pattern, and of an expression where its names are visible.
+#[cycle(exprs)]
+#[tactic(auto, using(crate::proofs::NotedLaws::noted_append, crate::proofs::NotedLaws::back_from_pattern))]
+pub(crate) fn case(
+    context: &Context,
+    scope: &mut Scope,
+    found: &mut Found,
+    pattern: &Pattern,
+    body: &Expr,
+) -> Result<(), NoMemory>
+    ensures scope { OnOk result (scope.new ≡ scope.old) }
+    ensures found { OnOk result (found.new ≡ noted context.now.names.now found.old (uses.case_uses (site_of context.now.site) scope.old (pattern_of pattern.now) (expr_of body.now))) }
+{
+    let count = scope.len();
+    self::pattern(context, scope, found, pattern)?;
+    expr(context, scope, found, body)?;
+    scope.leave(count);
+    Ok(())
+}
+
+/// Notes the uses of cases.
+#[cycle(exprs)]
+#[tactic(auto, using(crate::proofs::NotedLaws::noted_append))]
+fn cases(
+    context: &Context,
+    scope: &mut Scope,
+    found: &mut Found,
+    cases: &Cases,
+) -> Result<(), NoMemory>
+    ensures scope { OnOk result (scope.new ≡ scope.old) }
+    ensures found { OnOk result (found.new ≡ noted context.now.names.now found.old (uses.cases_uses (site_of context.now.site) scope.old (cases_of cases.now))) }
+{
+    let mut left = cases;
+    loop {
+        match left {
+            Cases::End => return Ok(()),
+            Cases::Default(body) => return expr(context, scope, found, body),
+            Cases::More(pattern, body, rest) => {
+                case(context, scope, found, pattern, body)?;
+                left = rest;
+            }
+        }
+    }
+}
