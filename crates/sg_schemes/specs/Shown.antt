@@ -28,9 +28,12 @@ unfoldable pub passes : ℕ → List Operator → List Bool → List Bool
 passes zero ops flags = flags
 passes (suc n) ops flags = passes n ops (pass flags ops)
 
--- the shown phyla: first the root, then what as many passes show as there are phyla, which is all
+-- the shown phyla among so many: first the root, then what as many passes show as there are phyla, which is all
+abbrev pub shown_among : ℕ → List Operator → ℕ → List Bool
+shown_among count ops root = passes count ops (slice_set (replicate count false) root true)
+
 abbrev pub shown : Table → List Bool
-shown t = passes (length t.phyla) t.ops (slice_set (replicate (length t.phyla) false) t.root true)
+shown t = shown_among (length t.phyla) t.ops t.root
 
 -- the operators that have schemes in the ordinary view
 abbrev pub give_to : List Bool → Option ℕ → List Bool
