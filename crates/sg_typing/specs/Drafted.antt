@@ -1,0 +1,24 @@
+-- The record as far as names give it: its phyla, operators and functions.
+use Rattle.std.specs.Prelude.{ℕ, List, [], map}
+use Rattle.sg_kinds.specs.declared.spec.Function.{Function}
+use Rattle.sg_kinds.specs.declared.spec.Spec.{Spec}
+use Rattle.sg_names.specs.declared.table.Signature.{Signature}
+use Rattle.sg_names.specs.declared.table.Table.{Table}
+
+-- a function whose body is not read yet
+abbrev pub without_body : Signature → Function
+without_body f = record { name = f.name; params = f.params; result = f.result; body = 0 }
+
+abbrev pub drafted : Table → Spec
+drafted t = record {
+  phyla = t.phyla;
+  ops = t.ops;
+  exprs = [];
+  rules = [];
+  functions = map without_body t.functions;
+  transforms = [];
+  lexemes = [];
+  productions = [];
+  entries = [];
+  root = t.root;
+}
