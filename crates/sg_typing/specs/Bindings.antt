@@ -1,5 +1,5 @@
 -- What names stand for in an expression: a place among its bindings, counted from 0, and its type.
-use Rattle.std.specs.Prelude.{ℕ, zero, suc, ◌+◌, ◌-◌, Bool, true, false, ◌&&◌, List, [], length, take, count_by, nat_eq, Option, Some, None, option_map, option_and_then, unwrap_or}
+use Rattle.std.specs.Prelude.{ℕ, ◌+◌, ◌-◌, Bool, true, false, ◌&&◌, List, [], length, take, count_by, nat_eq, Option, Some, None, option_map, option_and_then, unwrap_or}
 use Rattle.std.specs.List.{position}
 use Rattle.sg_kinds.specs.Values.{Bytes}
 use Rattle.sg_kinds.specs.declared.spec.Occurrence.{Occurrence}

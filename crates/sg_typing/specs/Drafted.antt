@@ -1,5 +1,5 @@
 -- The record as far as names give it: its phyla, operators and functions.
-use Rattle.std.specs.Prelude.{ℕ, List, [], map}
+use Rattle.std.specs.Prelude.{[], map}
 use Rattle.sg_kinds.specs.declared.spec.Function.{Function}
 use Rattle.sg_kinds.specs.declared.spec.Spec.{Spec}
 use Rattle.sg_names.specs.declared.table.Signature.{Signature}

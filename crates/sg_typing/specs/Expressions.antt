@@ -1,5 +1,5 @@
 -- Expressions: their types, their mismatches, and the expressions of the record.
-use Rattle.std.specs.Prelude.{ℕ, pos, Bool, List, [], ◌∷◌, ◌++◌, Option, Some, None, option_map, option_and_then, unwrap_or, is_some}
+use Rattle.std.specs.Prelude.{ℕ, pos, List, [], ◌∷◌, ◌++◌, Option, Some, None, unwrap_or, is_some}
 use Rattle.sg_kinds.specs.Values as value
 use Rattle.sg_kinds.specs.Specification.{truths, numbers, texts}
 use Rattle.sg_kinds.specs.Expressions as kept

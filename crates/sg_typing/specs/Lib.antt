@@ -5,5 +5,10 @@ pub mod Patterns
 pub mod PatternsView
 pub mod Bindings
 pub mod OwnersView
+pub mod Arguments
 pub mod Expressions
 pub mod ExpressionsView
+pub mod Bodies
+pub mod BodiesView
+pub mod Shown
+pub mod Checked

@@ -1,5 +1,5 @@
 -- When types fit. An expression whose names mean nothing has no type, and is accepted nowhere.
-use Rattle.std.specs.Prelude.{ℕ, Bool, true, false, if◌then◌else◌, Option, Some, None, slice_get, option_map, option_and_then, unwrap_or}
+use Rattle.std.specs.Prelude.{ℕ, Bool, false, if◌then◌else◌, Option, Some, None, slice_get, option_map, option_and_then}
 use Rattle.sg_kinds.specs.declared.spec.Phylum.{Phylum}
 use Rattle.sg_kinds.specs.Specification.{args_of, has_shape, is_list_shape}
 use Rattle.sg_kinds.specs.Typing.{agree, is_found}

@@ -63,8 +63,8 @@ pub(crate) fn local_slot(names: &Names, op: OpId, name: &Text) -> Option<usize>
     Some(attrs_there(names, op, 0).len() + place as usize)
 }
 
-// the place of a slot of an occurrence among arguments, of which there are few
-fn place_of(args: &[Occurrence], at: u32, slot: usize) -> Option<usize>
+/// The place of a slot of an occurrence among arguments, of which there are few.
+pub(crate) fn place_of(args: &[Occurrence], at: u32, slot: usize) -> Option<usize>
     ensures { result ≡ position (spec.is_at at slot) args.now }
 {
     args.iter()

@@ -15,7 +15,10 @@ ghost use Rattle.sg_typing.specs.ExpressionsView.{IsFound, AreFound, IsBuiltIn, 
 ghost use Rattle.sg_typing.specs.OwnersView.{owner_of};
 
 use crate::bindings::{Binding, Owner, reference_at, variable_at};
-use crate::found::{Found, FoundCase, FoundCases, FoundList, chain, chosen, constant, distinguished, mismatch_of, where_wanted};
+use crate::found::{
+    Found, FoundCase, FoundCases, FoundList, chain, chosen, constant, distinguished, mismatch_of,
+    where_wanted,
+};
 use crate::operators::{between, prefix_of, prefix_type};
 use crate::pattern::pattern;
 use crate::scope::{Scope, Variable};
@@ -193,9 +196,7 @@ pub(crate) fn expr(walk: &Walk<'_>, e: &Expr, scope: &mut Scope) -> Result<Found
     ensures scope { OnOk result (scope.new ≡ scope.old) }
 {
     match e {
-        Expr::Number(number, place) => {
-            Ok(constant(Literal::Number(number.get()), INT, *place))
-        }
+        Expr::Number(number, place) => { Ok(constant(Literal::Number(number.get()), INT, *place)) }
         Expr::Text(quoted) => text(walk.alloc, quoted),
         Expr::Truth(truth, place) => Ok(constant(Literal::Truth(*truth), BOOL, *place)),
         Expr::Variable(name) => variable(walk, name, scope),

@@ -84,7 +84,10 @@ pub(crate) fn mismatch_of(
 ) -> Option<Position>
     ensures { result ≡ or_else case.now.pattern.mismatch (spec.where_wanted names.now wanted.now case.now.body.of case.now.body.place case.now.body.mismatch) }
 {
-    earlier(case.pattern.mismatch, where_wanted(names, wanted, &case.body))
+    earlier(
+        case.pattern.mismatch,
+        where_wanted(names, wanted, &case.body),
+    )
 }
 
 /// `a ? b : c`.

@@ -1,10 +1,17 @@
-//! The types of expressions and patterns, their faults, and the expressions, patterns and schemes of the record.
+//! The types of expressions and patterns, their faults, and the expressions and patterns of the record.
 #![tactic(auto)]
 
+mod arguments;
 mod bindings;
+mod bodies;
+mod checking;
 mod expr;
 mod found;
 mod operators;
 mod pattern;
 mod scope;
+mod shown;
 mod types;
+
+pub use bodies::TypedExpr;
+pub use checking::{Typed, check};

@@ -10,7 +10,9 @@ ghost use Rattle.sg_typing.specs.PatternsView.{IsChecked, AreChecked};
 ghost use Rattle.sg_typing.specs.Types as types;
 
 use crate::scope::{Scope, Variable};
-use crate::types::{BOOL, INT, earlier, is_accepted, is_wanted, op_or_none, phylum_or_none, takes_texts, unless};
+use crate::types::{
+    BOOL, INT, earlier, is_accepted, is_wanted, op_or_none, phylum_or_none, takes_texts, unless,
+};
 use sg_ast::name::{Name, Quoted};
 use sg_ast::number::Number;
 use sg_ast::pattern::{Pattern, Patterns};
@@ -61,7 +63,11 @@ fn string(alloc: Global, quoted: &Quoted, fits: bool) -> Result<Checked, NoMemor
     ensures mismatch { IfOk result (λ c. c.mismatch ≡ types.unless fits quoted.now.place) }
 {
     let text = quoted.text.copy(alloc)?;
-    Ok(leaf(PatternTree::Literal(Literal::Text(text)), fits, quoted.place))
+    Ok(leaf(
+        PatternTree::Literal(Literal::Text(text)),
+        fits,
+        quoted.place,
+    ))
 }
 
 fn variable(

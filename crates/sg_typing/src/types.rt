@@ -110,11 +110,7 @@ pub(crate) fn is_accepted(
 }
 
 /// Whether the types of two operands of `==` agree: where they are equal, or both are of texts.
-pub(crate) fn do_agree(
-    names: &Names,
-    left: &Option<PhylumId>,
-    right: &Option<PhylumId>,
-) -> bool
+pub(crate) fn do_agree(names: &Names, left: &Option<PhylumId>, right: &Option<PhylumId>) -> bool
     ensures { result ≡ spec.do_agree names.now left.now right.now }
 {
     match (left, right) {

@@ -1,9 +1,6 @@
-use Rattle.std.proofs.Common.{◌∙◌, ◌≡◌, ◌≤◌, arith, ap, sym, subst}
+use Rattle.std.proofs.Common.{◌∙◌, ◌≤◌, arith}
 use Rattle.sg_ast.specs.View.{pattern_of, expr_of, cases_of}
-use Rattle.sg_ast.specs.FirstFault.{or_else}
 use Rattle.sg_ast.specs.declared.expr.Cases.{size-Cases}
-use Rattle.sg_typing.specs.Expressions.{mismatch_in_cases, recorded_cases}
-use Rattle.sg_typing.specs.ExpressionsView.{IsCase, with_cases, case_of}
 use Rattle.sg_typing.specs.OwnersView.{owner_of}
 use Rattle.sg_typing.proofs.CaseLemmas.{mismatch_goes, list_goes}
 use Rattle.sg_typing.proofs.Smaller.{smaller_rest}
