@@ -13,7 +13,7 @@ use Rattle.sg_kinds.specs.declared.spec.Phylum.{Phylum}
 use Rattle.sg_kinds.specs.declared.spec.Local.{Local}
 use Rattle.sg_kinds.specs.declared.spec.Attr.{Attr}
 use Rattle.sg_kinds.specs.declared.spec.Occurrence.{Occurrence}
-use Rattle.sg_kinds.specs.Specification.{attrs_of, args_of, locals_of, phylum_of, is_inherited, is_way_inherited, rules_of}
+use Rattle.sg_kinds.specs.Specification.{attrs_of, args_of, locals_of, phylum_of, is_inherited, is_way_inherited, is_lexical_shape, rules_of}
 use Rattle.sg_kinds.specs.Instances.{attr_count, defines}
 use Rattle.sg_kinds.specs.Dependencies.{phylum_there, occurrence}
 use Rattle.sg_kinds.specs.Sound as sound
@@ -28,7 +28,7 @@ use Rattle.sg_orders.proofs.Numbers.{vertex_there}
 usable_low : (spec : Spec) (p : ℕ) → IsTrue (is_usable spec p) → p < length spec.phyla
 usable_low spec p is = by (slice_get spec.phyla p) refl is
   where
-    by : (o : Option Phylum) → slice_get spec.phyla p ≡ o → unwrap_or (option_map (λ (x : Phylum). not (bytes_eq x.name whitespace)) o) false ≡ true → p < length spec.phyla
+    by : (o : Option Phylum) → slice_get spec.phyla p ≡ o → unwrap_or (option_map (λ (x : Phylum). not (is_lexical_shape x.shape && bytes_eq x.name whitespace)) o) false ≡ true → p < length spec.phyla
     by None at h = absurd (false≢true h)
     by (Some x) at h = slice_get_within spec.phyla p x at
 
