@@ -2,3 +2,4 @@ pub mod Targets
 pub mod Owed
 pub mod Complete
 pub mod Keys
+pub mod RulesOf

@@ -27,7 +27,7 @@ pub fn operator_of(names: &Names, phylum: &Name, op: &Name) -> Option<OpId>
     names.operator_named(names.phylum_named(&phylum.text)?, &op.text)
 }
 
-fn target_of(names: &Names, op: OpId, target: &Target) -> Option<Occurrence>
+pub(crate) fn target_of(names: &Names, op: OpId, target: &Target) -> Option<Occurrence>
     requires { spec.IsNarrow names.now }
     ensures { result ≡ spec.target_of names.now op target.now }
 {

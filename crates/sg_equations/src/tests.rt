@@ -2,12 +2,15 @@ use super::*;
 use sg_ast::decl::{Alt, AttrDecl, Decl, Equation, Target};
 use sg_ast::expr::Expr;
 use sg_ast::name::{Name, Occurrence, Reference, Typed};
+use sg_ast::number::Number;
 use sg_kinds::fault::{Position, SpecFault};
 use sg_kinds::marks::Way;
 use sg_kinds::memory::NoMemory;
 use sg_kinds::row::Row;
+use sg_kinds::spec::Rule;
 use sg_kinds::text::Text;
 use sg_names::tables::tables;
+use sg_typing::check;
 use std::alloc::Global;
 use std::test::Fail;
 
@@ -15,6 +18,10 @@ fn name(alloc: Global, line: u32, text: &str) -> Result<Name, NoMemory> {
     let text = Text::from_slice(alloc, text.as_bytes())?;
     let place = Position { token: line, line };
     Ok(Name { text, place })
+}
+
+fn one() -> Result<Number, NoMemory> {
+    Number::new(1).ok_or(NoMemory)
 }
 
 fn operator(alloc: Global, phylum: &str, op: &str, args: &[&str]) -> Result<Decl, NoMemory> {
@@ -76,7 +83,7 @@ fn equation(alloc: Global, line: u32, word: &str) -> Result<Decl, NoMemory> {
     let mut equations = Vec::new(alloc);
     equations.push(Equation {
         target: target(alloc, line, written)?,
-        expr: Expr::Truth(true, Position { token: line, line }),
+        expr: Expr::Number(one()?, Position { token: line, line }),
     })?;
     let phylum = name(alloc, line, phylum)?;
     let op = name(alloc, line, op)?;
@@ -100,29 +107,30 @@ fn declarations(alloc: Global, words: &str) -> Result<Vec<Decl>, NoMemory> {
     Ok(decls)
 }
 
-// A fault by its code and its line, where it has one.
-fn told(fault: &Option<SpecFault>) -> (&'static str, u32) {
-    match fault {
-        None => ("none", 0),
-        Some(SpecFault::NotDefinedHere(place)) => ("NotDefinedHere", place.line),
-        Some(SpecFault::Twice(place)) => ("Twice", place.line),
-        Some(SpecFault::Missing(_, op)) if op.as_slice() == b"A".as_slice() => ("Missing A", 0),
-        Some(SpecFault::Missing(..)) => ("Missing X", 0),
-        Some(_) => ("another", 0),
+// How many rules there are, or a fault by its code and its line, where it has one.
+fn told(answer: &Result<Row<Rule>, SpecFault>) -> (&'static str, u32) {
+    match answer {
+        Ok(rules) => ("rules", u32::try_from(rules.len()).unwrap_or(0)),
+        Err(SpecFault::NotDefinedHere(place)) => ("NotDefinedHere", place.line),
+        Err(SpecFault::Twice(place)) => ("Twice", place.line),
+        Err(SpecFault::Missing(_, op)) if op.as_slice() == b"A".as_slice() => ("Missing A", 0),
+        Err(SpecFault::Missing(..)) => ("Missing X", 0),
+        Err(_) => ("another", 0),
     }
 }
 
-fn first_fault(alloc: Global, words: &str) -> Result<(&'static str, u32), NoMemory> {
+fn answer(alloc: Global, words: &str) -> Result<(&'static str, u32), SpecFault> {
     let decls = declarations(alloc, words)?;
     let names = tables(alloc, &decls)?;
-    Ok(told(&incomplete(alloc, &decls, &names)?))
+    let typed = check(alloc, &decls, &names)?;
+    Ok(told(&rules(alloc, &decls, &names, &typed)))
 }
 
 #[test]
 fn equations_at_fault(rt: HostRuntime) -> Result<(), Fail> {
     let rows: [(&str, (&str, u32)); 11] = [
-        ("A:$$.s A:x.i A:l X:$$.v", ("none", 0)),
-        ("X:$$.v A:l A:x.i A:$$.s", ("none", 0)),
+        ("A:$$.s A:x.i A:l X:$$.v", ("rules", 4)),
+        ("X:$$.v A:l A:x.i A:$$.s", ("rules", 4)),
         ("", ("Missing A", 0)),
         ("A:$$.s A:x.i A:l", ("Missing X", 0)),
         ("A:$$.s A:l X:$$.v", ("Missing A", 0)),
@@ -134,7 +142,7 @@ fn equations_at_fault(rt: HostRuntime) -> Result<(), Fail> {
         ("A:$$.s A:$$.s A:x.v", ("NotDefinedHere", 3)),
     ];
     for (words, want) in rows {
-        let found = first_fault(rt.alloc(), words).map_err(|_| Fail::from("memory"))?;
+        let found = answer(rt.alloc(), words).map_err(|_| Fail::from("a fault before"))?;
         assert_eq!(rt; found, want, "{words}");
     }
     Ok(())
