@@ -32,7 +32,11 @@ pub mod Filling
 pub mod Scenes
 pub mod Plans
 pub mod Apart
+pub mod PlanFacts
+pub mod KeysFall
+pub mod Fixpoint
 pub mod Distinct
 pub mod SoundRules
 pub mod Owns
 pub mod Pairs
+pub mod ValidFacts

@@ -1,12 +1,11 @@
 -- The equations of a sound specification are in range, and define what is theirs, and nothing twice.
-use Rattle.std.specs.Prelude.{◌≡◌, ◌≢◌, ℕ, zero, suc, ◌+◌, ◌*◌, ◌<◌, ◌≤◌, ◌^◌, ◌⊎◌, ◌&&◌, Bool, true, false, not, nat_eq, bytes_eq, cond, List, [], ◌∷◌, ◌++◌, length, map, count_by, Option, None, Some, slice_get, option_map, option_and_then, unwrap_or, is_some, All, AllPairs, IsTrue}
-use Rattle.std.proofs.Common.{refl, sym, ap, ◌∙◌, subst, get_or, arith, inl, inr, length-append}
-use Rattle.std.proofs.lemmas.Bool.{cases_lt, false≢true, and_parts, and_from, not-true, eqb-true, eq-eqb, not_from_false}
-use Rattle.std.proofs.lemmas.List.{get_or_default, length-map, get_or-map}
+use Rattle.std.specs.Prelude.{◌≡◌, ◌≢◌, ℕ, zero, suc, ◌+◌, ◌*◌, ◌<◌, ◌≤◌, ◌&&◌, Bool, true, false, not, nat_eq, bytes_eq, cond, List, [], ◌∷◌, length, map, count_by, Option, None, Some, slice_get, option_map, option_and_then, unwrap_or, is_some, All, AllPairs, IsTrue}
+use Rattle.std.proofs.Common.{refl, ap, ◌∙◌, subst, get_or, arith, inl, inr, length-append}
+use Rattle.std.proofs.lemmas.Bool.{false≢true, and_parts, and_from, eq-eqb}
+use Rattle.std.proofs.lemmas.List.{length-map, get_or-map}
 use Rattle.std.proofs.lemmas.List.Sums.{sum_by-cons, get_or-le-sum_by}
 use Rattle.std.proofs.lemmas.Option.{slice_get_within, slice_get_cases}
 use Rattle.sg_kinds.specs.declared.spec.Spec.{Spec}
-use Rattle.sg_kinds.specs.declared.spec.Rules.{Rules}
 use Rattle.sg_kinds.specs.declared.spec.Rule.{Rule}
 use Rattle.sg_kinds.specs.declared.spec.Operator.{Operator}
 use Rattle.sg_kinds.specs.declared.spec.Phylum.{Phylum}
@@ -19,8 +18,8 @@ use Rattle.sg_kinds.specs.Dependencies.{phylum_there, occurrence}
 use Rattle.sg_kinds.specs.Sound as sound
 use Rattle.sg_kinds.specs.Sound.{AreCounted, HasShapes, HasRules, is_rule_typed}
 use Rattle.sg_kinds.specs.Typing.{whitespace, is_usable, slot_type, slots_there, attr_types, types_at, is_typed}
-use Rattle.sg_orders.specs.Proper.{is_inherited_there, is_owed, IsOwed, AreApart, AreProper}
-use Rattle.sg_orders.specs.Vertices.{IsVertex, locals_there, AreFew, HavePhyla, HaveVertices, AreInRange}
+use Rattle.sg_orders.specs.Proper.{is_inherited_there, is_owed, AreApart, AreProper}
+use Rattle.sg_orders.specs.Vertices.{IsVertex, locals_there, AreInRange}
 use Rattle.sg_orders.proofs.Directs.{op_there}
 use Rattle.sg_orders.proofs.Distinct.{distinct_few}
 use Rattle.sg_orders.proofs.Numbers.{vertex_there}

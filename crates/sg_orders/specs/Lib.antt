@@ -16,3 +16,5 @@ pub mod Proper
 pub mod Timed
 pub mod SeatRows
 pub mod StepKinds
+pub mod LiveSites
+pub mod PlanFacts

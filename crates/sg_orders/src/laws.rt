@@ -1,11 +1,23 @@
 //! Laws of the ordering, each as the contract of a function without code.
-ghost use Rattle.std.specs.Prelude.{◌≡◌, ℕ};
+ghost use Rattle.std.specs.Prelude.{◌≡◌, ℕ, ◌<◌, length, Some, Contains};
 ghost use Rattle.sg_kinds.specs.Dependencies.{IsAttr};
+ghost use Rattle.sg_kinds.specs.Fits.{Fits};
+ghost use Rattle.sg_kinds.specs.FromScratch.{leaf_or, site_value, value_in};
+ghost use Rattle.sg_kinds.specs.Instances.{Site, site_of};
+ghost use Rattle.sg_kinds.specs.Keys.{key, IsLess};
 ghost use Rattle.sg_kinds.specs.Layers.{IsLayering};
+ghost use Rattle.sg_kinds.specs.Nets.{Reference, referred, net_of};
+ghost use Rattle.sg_kinds.specs.Places.{Place};
 ghost use Rattle.sg_kinds.specs.Sound.{AreCounted, HasShapes, HasRules};
 ghost use Rattle.sg_kinds.specs.Specification.{rules_of};
+ghost use Rattle.sg_kinds.specs.Terms.{Term};
+ghost use Rattle.sg_kinds.specs.ValidPlans.{AreValid};
+ghost use Rattle.sg_kinds.specs.declared.plans.Plans.{Plans};
+ghost use Rattle.sg_kinds.specs.declared.spec.Occurrence.{Occurrence};
 ghost use Rattle.sg_kinds.specs.declared.spec.Rules.{Rules};
 ghost use Rattle.sg_kinds.specs.declared.spec.Spec.{Spec};
+ghost use Rattle.sg_orders.specs.LiveSites.{IsLive};
+ghost use Rattle.sg_orders.specs.PlanFacts.{HasPlanFacts};
 ghost use Rattle.sg_orders.specs.Proper.{AreProper};
 ghost use Rattle.sg_orders.specs.Vertices.{AreInRange};
 
@@ -20,4 +32,21 @@ pub fn sound_equations()
 /// A phylum has at most one layering.
 pub fn unique_layers()
     ensures { (rules : Rules) (X : ℕ) (layer other : ℕ → ℕ) → IsLayering rules X layer → IsLayering rules X other → (a : ℕ) → IsAttr rules X a → layer a ≡ other a }
+{}
+
+/// Visits rise with positions, inherited attributes come before the visits that need them, synthesized ones in their own, and
+/// what an equation names before what it defines.
+pub fn plan_facts()
+    ensures { (rules : Rules) (plans : Plans) → AreInRange rules → AreValid rules plans → (p : ℕ) → p < length rules.ops → HasPlanFacts rules plans p }
+{}
+
+/// Each argument of an equation of a term that has an equation itself has a smaller key than what names it.
+pub fn keys_fall()
+    ensures { (spec : Spec) (plans : Plans) (t : Term) (root : ℕ) → AreInRange (rules_of spec) → AreValid (rules_of spec) plans → Fits spec t root → (i : Site Place) → IsLive (rules_of spec) t i → (o : Occurrence) → Contains i.rule.args o → (j : Site Place) → site_of (rules_of spec) (net_of t) (referred (net_of t) i.node o) ≡ Some j → IsLess (key (rules_of spec) plans t j) (key (rules_of spec) plans t i) }
+{}
+
+/// A from-scratch value is the outcome of its equation on the from-scratch values of its arguments: the bound on chains of
+/// equations is never reached.
+pub fn from_scratch_values()
+    ensures { (spec : Spec) (plans : Plans) (t : Term) (root : ℕ) → AreInRange (rules_of spec) → AreValid (rules_of spec) plans → Fits spec t root → (a : Reference Place) → value_in spec t a ≡ leaf_or ((net_of t).label a.node) (site_value spec (net_of t) (value_in spec t) (site_of (rules_of spec) (net_of t) a)) }
 {}
