@@ -13,3 +13,4 @@ pub mod Arity
 pub mod Shapes
 pub mod Noted
 pub mod SiteView
+pub mod Resolved

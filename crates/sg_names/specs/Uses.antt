@@ -122,24 +122,31 @@ abbrev pub local_scope : Table → ℕ → List Bytes
 local_scope t op = fold with_variable [] (map (λ (l : Local). l.name) (locals_of t.ops op))
 
 -- what an equation defines, or a scheme shows
-abbrev pub target_uses : ℕ → List Bytes → Target → List Use
-target_uses op scope (target.Attribute r) = Refers (InOperator op) r ∷ []
-target_uses op scope (target.Local n) = UsesVariable scope n ∷ []
+abbrev pub target_uses : Site → List Bytes → Target → List Use
+target_uses site scope (target.Attribute r) = Refers site r ∷ []
+target_uses site scope (target.Local n) = UsesVariable scope n ∷ []
 
-abbrev pub equation_uses : ℕ → List Bytes → Equation → List Use
-equation_uses op scope q = target_uses op scope q.target ++ expr_uses (InOperator op) scope q.expr
+abbrev pub equation_uses : Site → List Bytes → Equation → List Use
+equation_uses site scope q = target_uses site scope q.target ++ expr_uses site scope q.expr
 
-abbrev pub item_uses : ℕ → List Bytes → Item → List Use
-item_uses op scope (item.Shows t) = target_uses op scope t
-item_uses op scope x = []
+abbrev pub item_uses : Site → List Bytes → Item → List Use
+item_uses site scope (item.Shows t) = target_uses site scope t
+item_uses site scope x = []
 
-abbrev pub scheme_uses : ℕ → List Bytes → SchemeDecl → List Use
-scheme_uses op scope s = flat_map (item_uses op scope) s.items
+abbrev pub scheme_uses : Site → List Bytes → SchemeDecl → List Use
+scheme_uses site scope s = flat_map (item_uses site scope) s.items
+
+-- the equations of an operator, and its schemes
+abbrev pub equations_uses : Table → List Equation → ℕ → List Use
+equations_uses t es op = flat_map (equation_uses (InOperator op) (local_scope t op)) es
+
+abbrev pub schemes_uses : Table → List SchemeDecl → ℕ → List Use
+schemes_uses t ss op = flat_map (scheme_uses (InOperator op) (local_scope t op)) ss
 
 -- uses of an operator's declaration, where the operator is there
-abbrev pub within : Option ℕ → (ℕ → List Use) → List Use
-within None uses = []
-within (Some op) uses = uses op
+abbrev pub within : (ℕ → List Use) → Option ℕ → List Use
+within uses None = []
+within uses (Some op) = uses op
 
 -- parameters are bound from left to right
 abbrev pub params_scope : List Bytes → List Typed → List Bytes
@@ -156,20 +163,36 @@ part_uses (part.Literal s) = []
 abbrev pub right_uses : Bytes → Right → List Use
 right_uses left r = flat_map part_uses r.parts ++ expr_uses (InProduction left r.parts) [] r.expr
 
+abbrev pub in_equations : Table → Name → Name → List Typed → List Equation → List Use
+in_equations t n op locals es = UsesOperator n op ∷ map (λ (l : Typed). UsesPhylum l.of) locals ++ within (equations_uses t es) (operator_at t n op)
+
+abbrev pub in_schemes : Table → Name → Name → List SchemeDecl → List Use
+in_schemes t n op ss = UsesOperator n op ∷ within (schemes_uses t ss) (operator_at t n op)
+
+abbrev pub in_attributes : Name → List AttrDecl → List Use
+in_attributes n attrs = HasAttributes n ∷ map (λ (a : AttrDecl). UsesPhylum a.of) attrs
+
+abbrev pub in_transform : Name → Pattern → Expr → List Use
+in_transform n q x = UsesPhylum n ∷ case_uses Elsewhere [] q x
+
+abbrev pub in_entry : Name → Name → Name → List Use
+in_entry n m a = UsesPhylum n ∷ UsesResult m a ∷ []
+
+abbrev pub in_function : Name → List Typed → Expr → List Use
+in_function ty params x = UsesPhylum ty ∷ params_uses [] params ++ expr_uses Elsewhere (params_scope [] params) x
+
 abbrev pub decl_uses : Table → Decl → List Use
 decl_uses t (Root n) = HasOperators n ∷ []
 decl_uses t (Listed n) = HasOperators n ∷ []
 decl_uses t (Optional listed n) = HasOperators n ∷ []
 decl_uses t (Operators n alts) = flat_map (λ (a : Alt). map UsesPhylum a.args) alts
-decl_uses t (Attributes n attrs) = HasAttributes n ∷ map (λ (a : AttrDecl). UsesPhylum a.of) attrs
-decl_uses t (Equations n op locals es) =
-    UsesOperator n op ∷ map (λ (l : Typed). UsesPhylum l.of) locals
-    ++ within (operator_at t n op) (λ k. flat_map (equation_uses k (local_scope t k)) es)
-decl_uses t (Schemes n op view ss) = UsesOperator n op ∷ within (operator_at t n op) (λ k. flat_map (scheme_uses k (local_scope t k)) ss)
-decl_uses t (Function ty n params x) = UsesPhylum ty ∷ params_uses [] params ++ expr_uses Elsewhere (params_scope [] params) x
-decl_uses t (Transform n title q x) = UsesPhylum n ∷ case_uses Elsewhere [] q x
+decl_uses t (Attributes n attrs) = in_attributes n attrs
+decl_uses t (Equations n op locals es) = in_equations t n op locals es
+decl_uses t (Schemes n op view ss) = in_schemes t n op ss
+decl_uses t (Function ty n params x) = in_function ty params x
+decl_uses t (Transform n title q x) = in_transform n q x
 decl_uses t (Productions n rs) = flat_map (right_uses n.text) rs
-decl_uses t (Entry n m a) = UsesPhylum n ∷ UsesResult m a ∷ []
+decl_uses t (Entry n m a) = in_entry n m a
 decl_uses t d = []
 
 abbrev pub uses : Table → List Decl → List Use

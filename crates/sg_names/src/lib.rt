@@ -14,5 +14,6 @@ mod occurrences;
 mod owners;
 mod scope;
 mod walk;
+pub mod walked;
 pub mod table;
 pub mod tables;
