@@ -1,8 +1,8 @@
 -- The rows of names and shapes in their order, but limits and duplicates, which come before them, and completions.
-use Rattle.std.specs.Prelude.{List, [], ◌∷◌, Option}
+use Rattle.std.specs.Prelude.{List, Option}
 use Rattle.sg_kinds.specs.declared.fault.SpecFault.{SpecFault}
 use Rattle.sg_ast.specs.Declarations.{Decl}
-use Rattle.sg_ast.specs.FirstFault.{or_else, first_of}
+use Rattle.sg_ast.specs.FirstFault.{or_else}
 use Rattle.sg_names.specs.declared.table.Table.{Table}
 use Rattle.sg_names.specs.Names.{names_of}
 use Rattle.sg_names.specs.UnknownName.{unknown_name}
@@ -11,18 +11,18 @@ use Rattle.sg_names.specs.Arity.{arity}
 use Rattle.sg_names.specs.Shapes.{result_count, root_count, list_shape, optional_shape, root_inherits}
 
 -- the rows before that of completions
-abbrev pub shape_rows : Table → List Decl → List (Option SpecFault)
-shape_rows t ds = unknown_name t ds ∷ result_count t ∷ root_count ds ∷ list_shape t ds ∷ optional_shape t ds ∷ []
+abbrev pub shape_rows : Table → List Decl → Option SpecFault
+shape_rows t ds = or_else (unknown_name t ds) (or_else (result_count t) (or_else (root_count ds) (or_else (list_shape t ds) (optional_shape t ds))))
 
 -- the rows after it
-abbrev pub binding_rows : Table → List Decl → List (Option SpecFault)
-binding_rows t ds = root_inherits t ds ∷ twice_bound t ds ∷ arity t ds ∷ []
+abbrev pub binding_rows : Table → List Decl → Option SpecFault
+binding_rows t ds = or_else (root_inherits t ds) (or_else (twice_bound t ds) (arity t ds))
 
-abbrev pub shape_fault : List Decl → Option SpecFault
-shape_fault ds = first_of (shape_rows (names_of ds) ds)
+unfoldable pub shape_fault : List Decl → Option SpecFault
+shape_fault ds = shape_rows (names_of ds) ds
 
-abbrev pub binding_fault : List Decl → Option SpecFault
-binding_fault ds = first_of (binding_rows (names_of ds) ds)
+unfoldable pub binding_fault : List Decl → Option SpecFault
+binding_fault ds = binding_rows (names_of ds) ds
 
 -- the first fault of these rows
 abbrev pub names_fault : List Decl → Option SpecFault

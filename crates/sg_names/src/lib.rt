@@ -9,6 +9,7 @@ mod heads;
 mod index;
 mod known;
 pub mod names;
+pub mod resolving;
 pub mod shapes;
 mod occurrences;
 mod owners;
