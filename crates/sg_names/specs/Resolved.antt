@@ -18,12 +18,9 @@ shape_rows t ds = or_else (unknown_name t ds) (or_else (result_count t) (or_else
 abbrev pub binding_rows : Table → List Decl → Option SpecFault
 binding_rows t ds = or_else (root_inherits t ds) (or_else (twice_bound t ds) (arity t ds))
 
-unfoldable pub shape_fault : List Decl → Option SpecFault
-shape_fault ds = shape_rows (names_of ds) ds
-
-unfoldable pub binding_fault : List Decl → Option SpecFault
-binding_fault ds = binding_rows (names_of ds) ds
-
 -- the first fault of these rows
-abbrev pub names_fault : List Decl → Option SpecFault
-names_fault ds = or_else (shape_fault ds) (binding_fault ds)
+abbrev pub names_rows : Table → List Decl → Option SpecFault
+names_rows t ds = or_else (shape_rows t ds) (binding_rows t ds)
+
+unfoldable pub names_fault : List Decl → Option SpecFault
+names_fault ds = names_rows (names_of ds) ds

@@ -76,8 +76,7 @@ impl Context<'_> {
     pub fn with_attributes(&self, found: &mut Found, name: &Name) -> Result<(), NoMemory>
         ensures { OnOk result (found.new ≡ noted.noted_at self.now.names.now found.old (uses.HasAttributes name.now)) }
     {
-        let known =
-            has_operators(self.names, &name.text) || is_nonterminal(self.names, &name.text);
+        let known = has_operators(self.names, &name.text) || is_nonterminal(self.names, &name.text);
         found.note_unknown(self.alloc, known, name)
     }
 
@@ -111,12 +110,7 @@ impl Context<'_> {
         found.note_unknown(self.alloc, known, name)
     }
 
-    pub fn result(
-        &self,
-        found: &mut Found,
-        name: &Name,
-        attr: &Name,
-    ) -> Result<(), NoMemory>
+    pub fn result(&self, found: &mut Found, name: &Name, attr: &Name) -> Result<(), NoMemory>
         ensures { OnOk result (found.new ≡ noted.noted_at self.now.names.now found.old (uses.UsesResult name.now attr.now)) }
     {
         if !is_nonterminal(self.names, &name.text) {
@@ -163,36 +157,21 @@ impl Context<'_> {
         }
     }
 
-    pub fn variable(
-        &self,
-        scope: &Scope,
-        found: &mut Found,
-        name: &Name,
-    ) -> Result<(), NoMemory>
+    pub fn variable(&self, scope: &Scope, found: &mut Found, name: &Name) -> Result<(), NoMemory>
         ensures { OnOk result (found.new ≡ noted.noted_at self.now.names.now found.old (uses.UsesVariable scope.now name.now)) }
     {
         let known = scope.has(name.text.as_slice());
         found.note_unknown(self.alloc, known, name)
     }
 
-    pub fn binding(
-        &self,
-        scope: &Scope,
-        found: &mut Found,
-        name: &Name,
-    ) -> Result<(), NoMemory>
+    pub fn binding(&self, scope: &Scope, found: &mut Found, name: &Name) -> Result<(), NoMemory>
         ensures { OnOk result (found.new ≡ noted.noted_at self.now.names.now found.old (uses.Binds scope.now name.now)) }
     {
         let visible = scope.has(name.text.as_slice());
         found.note_twice(self.alloc, visible, name)
     }
 
-    pub fn call(
-        &self,
-        found: &mut Found,
-        name: &Name,
-        parts: usize,
-    ) -> Result<(), NoMemory>
+    pub fn call(&self, found: &mut Found, name: &Name, parts: usize) -> Result<(), NoMemory>
         ensures { OnOk result (found.new ≡ noted.noted_at self.now.names.now found.old (uses.Calls name.now parts)) }
     {
         match self.names.callable(&name.text) {
@@ -204,12 +183,7 @@ impl Context<'_> {
         }
     }
 
-    pub fn match_(
-        &self,
-        found: &mut Found,
-        name: &Name,
-        parts: usize,
-    ) -> Result<(), NoMemory>
+    pub fn match_(&self, found: &mut Found, name: &Name, parts: usize) -> Result<(), NoMemory>
         ensures { OnOk result (found.new ≡ noted.noted_at self.now.names.now found.old (uses.Matches name.now parts)) }
     {
         match self.names.op_named(&name.text) {

@@ -39,10 +39,7 @@ impl Rule<Nonterminal, SpecFault> for OneResult {
         if has_one_result(spot.attrs.as_slice()) {
             return Ok(None);
         }
-        Ok(Some(SpecFault::ResultCount(
-            spot.place,
-            spot.name.copy(alloc)?,
-        )))
+        Ok(Some(SpecFault::ResultCount(spot.place, spot.name.copy(alloc)?)))
     }
 }
 
@@ -115,20 +112,13 @@ fn is_list(names: &Names, list: Option<PhylumId>, ops: &[OpId]) -> bool
     }
 }
 
-fn list_fault(
-    alloc: Global,
-    names: &Names,
-    name: &Name,
-) -> Result<Option<SpecFault>, NoMemory>
+fn list_fault(alloc: Global, names: &Names, name: &Name) -> Result<Option<SpecFault>, NoMemory>
     ensures { IfOk result (λ f. f ≡ spec.list_shape_at names.now name.now) }
 {
     if is_list(names, names.phylum_named(&name.text), ops_of(names, name)) {
         return Ok(None);
     }
-    Ok(Some(SpecFault::ListShape(
-        name.place,
-        name.text.copy(alloc)?,
-    )))
+    Ok(Some(SpecFault::ListShape(name.place, name.text.copy(alloc)?)))
 }
 
 /// Finds a declaration of a list that has not the operators of one.
@@ -173,20 +163,13 @@ fn is_optional(names: &Names, ops: &[OpId]) -> bool
     }
 }
 
-fn optional_fault(
-    alloc: Global,
-    names: &Names,
-    name: &Name,
-) -> Result<Option<SpecFault>, NoMemory>
+fn optional_fault(alloc: Global, names: &Names, name: &Name) -> Result<Option<SpecFault>, NoMemory>
     ensures { IfOk result (λ f. f ≡ spec.optional_shape_at names.now name.now) }
 {
     if is_optional(names, ops_of(names, name)) {
         return Ok(None);
     }
-    Ok(Some(SpecFault::OptionalShape(
-        name.place,
-        name.text.copy(alloc)?,
-    )))
+    Ok(Some(SpecFault::OptionalShape(name.place, name.text.copy(alloc)?)))
 }
 
 /// Finds a declaration of an optional phylum that has not the operators of one.
@@ -233,20 +216,13 @@ fn inherits(names: &Names, name: &Name) -> bool
     }
 }
 
-fn root_fault(
-    alloc: Global,
-    names: &Names,
-    name: &Name,
-) -> Result<Option<SpecFault>, NoMemory>
+fn root_fault(alloc: Global, names: &Names, name: &Name) -> Result<Option<SpecFault>, NoMemory>
     ensures { IfOk result (λ f. f ≡ spec.root_inherits_at names.now name.now) }
 {
     if !inherits(names, name) {
         return Ok(None);
     }
-    Ok(Some(SpecFault::RootInherits(
-        name.place,
-        name.text.copy(alloc)?,
-    )))
+    Ok(Some(SpecFault::RootInherits(name.place, name.text.copy(alloc)?)))
 }
 
 /// Finds a root phylum with an inherited attribute.

@@ -120,12 +120,7 @@ fn equations(
     Ok(())
 }
 
-fn item(
-    context: &Context,
-    scope: &Scope,
-    found: &mut Found,
-    item: &Item,
-) -> Result<(), NoMemory>
+fn item(context: &Context, scope: &Scope, found: &mut Found, item: &Item) -> Result<(), NoMemory>
     ensures { OnOk result (found.new ≡ noted context.now.names.now found.old (uses.item_uses (site_of context.now.site) scope.now item.now)) }
 {
     match item {
@@ -332,7 +327,13 @@ fn in_transform(
     ensures { OnOk result (found.new ≡ noted context.now.names.now found.old (uses.in_transform of.now (pattern_of pattern.now) (expr_of body.now))) }
 {
     context.phylum(found, of)?;
-    case(context, &mut Scope::new(context.alloc), found, pattern, body)
+    case(
+        context,
+        &mut Scope::new(context.alloc),
+        found,
+        pattern,
+        body,
+    )
 }
 
 /// Notes the uses of an entry.
@@ -363,12 +364,7 @@ fn in_attributes(
 }
 
 /// Notes the uses of a declaration.
-fn declaration(
-    alloc: Global,
-    names: &Names,
-    found: &mut Found,
-    decl: &Decl,
-) -> Result<(), NoMemory>
+fn declaration(alloc: Global, names: &Names, found: &mut Found, decl: &Decl) -> Result<(), NoMemory>
     ensures { OnOk result (found.new ≡ noted names.now found.old (uses.decl_uses names.now (tree_of decl.now))) }
 {
     let site = Site::Elsewhere;
