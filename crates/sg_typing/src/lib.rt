@@ -11,6 +11,8 @@ mod operators;
 mod pattern;
 mod scope;
 mod shown;
+#[cfg(test)]
+mod tests;
 mod types;
 
 pub use bodies::TypedExpr;
