@@ -10,6 +10,7 @@ mod layout;
 mod lookaheads;
 mod moves;
 mod productive;
+mod search;
 mod states;
 
 /// Want of memory, while tables are made.
