@@ -1,10 +1,13 @@
 //! `Grammar`, productions over numbered symbols.
-ghost use Rattle.std.specs.Prelude.{◌≡◌, ◌+◌, ◌<◌, ◌≤◌, ◌↔◌, ◌++◌, length, slice_get, All, IsTrue, IfSome, IfNone, Some};
+ghost use Rattle.std.specs.Prelude.{◌≡◌, ◌+◌, ◌<◌, ◌≤◌, ◌↔◌, ◌++◌, length, slice_get, All, IsTrue, IfOk, IfSome, IfNone, Some};
 ghost use Rattle.sg_grammar.specs.Grammar.{grammar, right_of, symbol_at};
 ghost use Rattle.sg_grammar.specs.WellFormed.{IsRight, IsRule, IsWellFormed};
 
+use sg_kinds::copy::TryCopy;
 use sg_kinds::ids::ExprId;
+use sg_kinds::memory::NoMemory;
 use sg_kinds::row::Row;
+use std::alloc::Global;
 use std::marker::Model;
 
 /// What the result of a production is: the outcome of its expression, or the one result of its right side.
@@ -20,6 +23,16 @@ pub struct Production {
     pub left: u32,
     pub right: Row<u32>,
     pub made: Made,
+}
+
+impl TryCopy for Production {
+    fn try_copy(&self, alloc: Global) -> Result<Production, NoMemory> {
+        Ok(Production {
+            left: self.left,
+            right: self.right.try_copy(alloc)?,
+            made: self.made,
+        })
+    }
 }
 
 /// A grammar with a start production for each entry. The symbols are numbered from 0: the end, a marker for each entry, and
@@ -81,6 +94,20 @@ impl Grammar {
         ensures { IsWellFormed self.now }
     {
         let _ = &self.terminals;
+    }
+
+    /// An equal grammar.
+    pub fn copy(&self, alloc: Global) -> Result<Grammar, NoMemory>
+        ensures { IfOk result (λ g. g ≡ self.now) }
+    {
+        let rules = self.rules.try_copy(alloc)?;
+        let entries = self.entries.try_copy(alloc)?;
+        Ok(Grammar {
+            rules,
+            entries,
+            terminals: self.terminals,
+            symbols: self.symbols,
+        })
     }
 
     /// The productions but the start productions.
