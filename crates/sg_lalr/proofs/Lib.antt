@@ -16,3 +16,4 @@ pub mod LinkLemmas
 pub mod LookLemmas
 pub mod ClashLemmas
 pub mod ConflictLemmas
+pub mod TableLemmas

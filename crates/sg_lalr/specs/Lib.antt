@@ -7,4 +7,5 @@ pub mod Items
 pub mod Least
 pub mod Lookaheads
 pub mod Prefixes
+pub mod Tables
 pub mod ValidItems

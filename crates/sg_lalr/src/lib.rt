@@ -8,10 +8,12 @@ pub mod items;
 mod least_set;
 mod layout;
 mod lookaheads;
+pub mod making;
 mod moves;
 mod productive;
 mod search;
 mod states;
+pub mod tables;
 
 /// Want of memory, while tables are made.
 type NoMemory = std::alloc::AllocError;

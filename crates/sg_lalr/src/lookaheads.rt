@@ -197,7 +197,7 @@ fn open_node(
 }
 
 /// Where the moves of a state lead on a symbol.
-fn goto_of(moves: &[Row<Move>], state: u32, x: u32) -> u32
+pub(crate) fn goto_of(moves: &[Row<Move>], state: u32, x: u32) -> u32
     requires { state < length moves.now }
     ensures { result ≡ goto moves.now state x }
 {

@@ -1,0 +1,139 @@
+-- Tables are those of their grammar.
+use Rattle.std.proofs.Common.{◌≡◌, ◌≢◌, ℕ, zero, suc, ◌+◌, ◌<◌, ◌≤◌, ◌⊎◌, inl, inr, Bool, List, [], ◌∷◌, length, get_or, refl, sym, ap, ◌∙◌, subst, arith, Option, Some, None}
+use Rattle.std.specs.Prelude.{◌↔◌, All, Contains, slice_index}
+use Rattle.std.proofs.lemmas.Bool.{cases_lt}
+use Rattle.sg_grammar.specs.Grammar.{Grammar}
+use Rattle.sg_grammar.specs.WellFormed.{IsWellFormed}
+use Rattle.sg_grammar.specs.Derives.{AllProductive}
+use Rattle.sg_lalr.specs.declared.states.Move.{Move}
+use Rattle.sg_lalr.specs.declared.states.Origin.{Origin}
+use Rattle.sg_lalr.specs.declared.lookaheads.Node.{Node}
+use Rattle.sg_lalr.specs.declared.conflict.Deed.{Deed}
+use Rattle.sg_lalr.specs.declared.conflict.Deed.TheVariants.{Shifts, Reduces}
+use Rattle.sg_lalr.specs.declared.tables.Action.TheVariants as action
+use Rattle.sg_lalr.specs.ValidItems.{Valid, start, close, step, InCore, Viable, SameCore}
+use Rattle.sg_lalr.specs.Items.{Item, item, HasNext, symbol_of}
+use Rattle.sg_lalr.specs.Automaton.{row_at, goto, IsWhole, state_of, FoundBy}
+use Rattle.sg_lalr.specs.Prefixes.{TooMany}
+use Rattle.sg_lalr.specs.Lookaheads.{node, node_at, IsLaid, AreLookaheads}
+use Rattle.sg_lalr.specs.Conflict.{Acts, Conflict, IsQuiet}
+use Rattle.sg_lalr.specs.Clashes.{Does}
+use Rattle.sg_lalr.specs.Tables.{View, viewed, IsCore, IsTables, Leads, ActsIn, IsAction, IsFull, IsMade}
+use Rattle.sg_lalr.proofs.RisingLemmas.{Contains-nil}
+use Rattle.sg_lalr.proofs.CoreLemmas.{CoreOf}
+use Rattle.sg_lalr.proofs.StateLemmas.{longer-viable, found-some, found-state, found-viable, core-of-state, state-of-viable, same-state}
+use Rattle.sg_lalr.proofs.LookLemmas.{range-below}
+use Rattle.sg_lalr.proofs.ConflictLemmas.{acts-does, does-acts}
+
+valid-entry : (g : Grammar) (w : List ℕ) (p d t : ℕ) → Valid g w p d t → 0 < length g.entries
+valid-entry g _ _ _ _ (start k p l e) = omega (arith, l)
+valid-entry g _ _ _ _ (close w p d t X q u r v a b c f) = valid-entry g w p d t v
+valid-entry g _ _ _ _ (step w p d t X v a) = valid-entry g w p d t v
+
+pub viable-entry : (g : Grammar) (w : List ℕ) → Viable g w → 0 < length g.entries
+viable-entry g w v = valid-entry g w v.0 v.1 v.2.0 v.2.1
+
+acts-entry : (g : Grammar) (w : List ℕ) (t : ℕ) (i : Item) (a : Deed) → Acts g w t i a → 0 < length g.entries
+acts-entry g w t i Shifts h = valid-entry g w i.production i.dot h.1.0 h.1.1
+acts-entry g w t i (Reduces p) h = valid-entry g h.2.0 i.production i.dot t h.2.2
+
+all-entry : (g : Grammar) (ws : List (List ℕ)) → 0 < length ws → All (Viable g) ws → 0 < length g.entries
+all-entry g [] l h = omega (arith, l)
+all-entry g (w ∷ ws) l h = viable-entry g w (h 0 w (omega arith))
+
+-- without an entry there is no state and no conflict
+pub few-without : (g : Grammar) → length g.entries ≡ 0 → TooMany g → ⊥
+few-without g none many = let l = all-entry g many.prefixes (let m = many.many in omega (arith, m)) many.viable in omega (arith, l, none)
+
+pub quiet-without : (g : Grammar) → length g.entries ≡ 0 → IsQuiet g
+quiet-without g none w t c = let l = acts-entry g w t c.one c.does c.acts in omega (arith, l, none)
+
+module _ (g : Grammar) (formed : IsWellFormed g) (productive : AllProductive g) (entry : 0 < length g.entries)
+  (kernels cores : List (List Item)) (moves : List (List Move)) (origins : List Origin) (whole : IsWhole g kernels cores moves origins) where
+  low-kernel : (s : ℕ) → s < length cores → s < length kernels
+  low-kernel s l = let c = whole.cored in omega (arith, c, l)
+
+  -- a prefix whose core the items of a state are leads to the state
+  pub at-state : (s : ℕ) (w : List ℕ) → s < length cores → CoreOf g w (row_at cores s) → Viable g w × (state_of moves w ≡ s)
+  at-state s w low c =
+      let f = found-some g formed productive entry kernels cores moves origins whole.part s (low-kernel s low) in
+      let v = found-viable g formed productive entry kernels cores moves origins whole.part s f.0 f.1 in
+      let at = found-state g formed productive entry kernels cores moves origins whole s f.0 f.1 in
+      let core : CoreOf g f.0 (row_at cores s) = subst (λ z. CoreOf g f.0 (row_at cores z)) at (core-of-state g formed productive entry kernels cores moves origins whole f.0 v) in
+      let same : SameCore g w f.0 = λ p d. (λ h. (core p d).0 ((c p d).1 h), λ h. (c p d).0 ((core p d).1 h)) in
+      let viable : Viable g w = (v.0, v.1, (same v.0 v.1).1 v.2) in
+      (viable, same-state g formed productive entry kernels cores moves origins whole w f.0 viable v same ∙ at)
+
+  pub core-there : (w : List ℕ) → Viable g w → (state_of moves w < length cores) × IsCore g w (row_at cores (state_of moves w))
+  core-there w v =
+      let i = state-of-viable g formed productive entry kernels cores moves origins whole w v in
+      let low : state_of moves w < length cores = (let c = whole.cored in let l = i.0 in omega (arith, c, l)) in
+      (low, ((whole.part.closed (state_of moves w) low).rising, core-of-state g formed productive entry kernels cores moves origins whole w v))
+
+  pub core-found : (s : ℕ) → s < length cores → (w : List ℕ) × Viable g w × IsCore g w (row_at cores s)
+  core-found s low =
+      let f = found-some g formed productive entry kernels cores moves origins whole.part s (low-kernel s low) in
+      let v = found-viable g formed productive entry kernels cores moves origins whole.part s f.0 f.1 in
+      let at = found-state g formed productive entry kernels cores moves origins whole s f.0 f.1 in
+      (f.0, v, subst (λ z. IsCore g f.0 (row_at cores z)) at (core-there f.0 v).1)
+
+  pub cores-differ : (s u : ℕ) → s < u → u < length cores → row_at cores s ≢ row_at cores u
+  cores-differ s u l k same =
+      let f = core-found s (omega (arith, l, k)) in
+      let a = at-state s f.0 (omega (arith, l, k)) f.2.1 in
+      let b = at-state u f.0 k (subst (CoreOf g f.0) same f.2.1) in
+      let c = a.1 in
+      let d = b.1 in
+      omega (arith, l, c, d)
+
+  pub leads-to : (s X : ℕ) → s < length cores → HasNext g (row_at cores s) X → Leads (viewed g cores) s X (goto moves s X)
+  leads-to s X low h =
+      let b = whole.part.leads s X (let m = whole.moved in let c = whole.cored in omega (arith, m, c, low)) h in
+      ((let c = whole.cored in let l = b.0 in omega (arith, c, l)), λ w c.
+          let a = at-state s w low c.1 in
+          let v = longer-viable g formed productive entry kernels cores moves origins whole.part w (row_at cores s) X c.1 h in
+          subst (λ z. IsCore g (X ∷ w) (row_at cores (goto moves z X))) a.1 (core-there (X ∷ w) v).1)
+
+module _ (g : Grammar) (formed : IsWellFormed g) (productive : AllProductive g) (entry : 0 < length g.entries)
+  (kernels cores : List (List Item)) (moves : List (List Move)) (origins : List Origin) (nodes : List Node) (firsts : List ℕ) (rows : List (List Bool))
+  (full : IsFull g kernels cores moves origins nodes firsts rows) where
+  pub acts-in-state : (s t m : ℕ) (a : Deed) → s < length cores → slice_index firsts s ≤ m → m < slice_index firsts (suc s) → Does g nodes rows t m a → ActsIn (viewed g cores) s t a
+  acts-in-state s t m a low l h d = ((node_at nodes m).item, λ w c.
+      let at = at-state g formed productive entry kernels cores moves origins full.whole s w low c.1 in
+      does-acts g formed productive entry kernels cores moves origins full.whole nodes firsts full.laid rows full.exact w t m a at.0 (subst (λ z. slice_index firsts z ≤ m) (sym at.1) l) (subst (λ z. m < slice_index firsts (suc z)) (sym at.1) h) d)
+
+  pub stops : (s t : ℕ) → s < length cores → ((k : ℕ) (a : Deed) → slice_index firsts s ≤ k → k < slice_index firsts (suc s) → Does g nodes rows t k a → ⊥) → IsAction (viewed g cores) s t action.Stop
+  stops s t low none w i a c h =
+      let at = at-state g formed productive entry kernels cores moves origins full.whole s w low c.1 in
+      let d = acts-does g formed productive entry kernels cores moves origins full.whole nodes firsts full.laid rows full.exact w t i a h in
+      none d.0 a (subst (λ z. slice_index firsts z ≤ d.0) at.1 d.1.0) (subst (λ z. d.0 < slice_index firsts (suc z)) at.1 d.1.1) d.2
+
+  pub shifts-to : (s t m : ℕ) → s < length cores → slice_index firsts s ≤ m → m < slice_index firsts (suc s) → symbol_of g (node_at nodes m).item ≡ Some t → IsAction (viewed g cores) s t (action.Shift (goto moves s t))
+  shifts-to s t m low l h d =
+      let here = full.laid.here s m low l h in
+      let c = full.laid.contained m (range-below cores nodes firsts full.laid s m low h) in
+      (acts-in-state s t m Shifts low l h d, leads-to g formed productive entry kernels cores moves origins full.whole s t low ((node_at nodes m).item, subst (λ z. Contains (row_at cores z) (node_at nodes m).item) here c, d))
+
+-- what tables keep is what they promise
+pub are-tables : (g : Grammar) → IsWellFormed g → (kernels cores : List (List Item)) (moves : List (List Move)) (origins : List Origin) (nodes : List Node) (firsts : List ℕ) (rows : List (List Bool)) → IsMade g kernels cores moves origins nodes firsts rows → IsTables (viewed g cores)
+are-tables g formed kernels cores moves origins nodes firsts rows made = record {
+  formed = formed;
+  productive = made.productive;
+  first = λ entry.
+      let c = core-there g formed made.productive entry kernels cores moves origins (made.full entry).whole [] (length g.rules + 0, zero, (zero, start 0 (length g.rules + 0) entry refl)) in
+      (c.0, c.1);
+  none = made.none;
+  realized = λ s l. core-found g formed made.productive (some s l) kernels cores moves origins (made.full (some s l)).whole s l;
+  complete = λ w v.
+      let entry = viable-entry g w v in
+      let c = core-there g formed made.productive entry kernels cores moves origins (made.full entry).whole w v in
+      (state_of moves w, c.0, c.1);
+  distinct = λ s u l k. cores-differ g formed made.productive (some u k) kernels cores moves origins (made.full (some u k)).whole s u l k;
+  quiet = elim (cases_lt 0 (length g.entries)) [ inl entry ↦ (made.full entry).quiet | inr none ↦ quiet-without g (omega (arith, none)) ];
+}
+  where
+    some : (s : ℕ) → s < length cores → 0 < length g.entries
+    some s l = elim (cases_lt 0 (length g.entries)) [ inl entry ↦ entry | inr none ↦ (let e = ap length (made.none (omega (arith, none))) in omega (arith, l, e)) ]
+
+pub made-some : (g : Grammar) (kernels cores : List (List Item)) (moves : List (List Move)) (origins : List Origin) (nodes : List Node) (firsts : List ℕ) (rows : List (List Bool)) → IsMade g kernels cores moves origins nodes firsts rows → (s : ℕ) → s < length cores → 0 < length g.entries
+made-some g kernels cores moves origins nodes firsts rows made s l = elim (cases_lt 0 (length g.entries)) [ inl entry ↦ entry | inr none ↦ (let e = ap length (made.none (omega (arith, none))) in omega (arith, l, e)) ]
