@@ -147,7 +147,9 @@ impl Grammar {
         if at < self.rules.len() {
             self.rules.as_slice()[at].right.as_slice()
         } else {
-            self.entries.as_slice()[at - self.rules.len()].right.as_slice()
+            self.entries.as_slice()[at - self.rules.len()]
+                .right
+                .as_slice()
         }
     }
 

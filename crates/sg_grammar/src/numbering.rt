@@ -53,7 +53,11 @@ fn place_of(literals: &IndexSet<Vec<u8>>, text: &[u8]) -> usize
 }
 
 /// Puts the literals of symbols behind those that were found.
-fn add_all(alloc: Global, literals: &mut IndexSet<Vec<u8>>, symbols: &[Symbol]) -> Result<(), NoMemory>
+fn add_all(
+    alloc: Global,
+    literals: &mut IndexSet<Vec<u8>>,
+    symbols: &[Symbol],
+) -> Result<(), NoMemory>
     ensures { OnOk result (map (λ v. v.items) literals.new.keys ≡ literals_in (map (λ v. v.items) literals.old.keys) symbols.now) }
 {
     for symbol in symbols {

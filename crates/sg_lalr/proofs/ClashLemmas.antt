@@ -98,7 +98,8 @@ module _ (g : Grammar) (nodes : List Node) (rows : List (List Bool)) (from to : 
 
   pub taking-same : (taken : List Bool) (best m : ℕ) → (symbol_of g (node_at nodes m).item ≡ None → ⊥) → Taking taken best m → Taking taken best (m + 1)
   taking-same taken best m some k = record {
-    width = k.width; within = k.within;
+    width = k.width;
+    within = k.within;
     has = λ t. (
       λ h. elim ((k.has t).0 h) [ inl s ↦ inl s | inr r ↦ inr (reduces-later m t r) ],
       λ h. elim h [
@@ -120,12 +121,31 @@ module _ (g : Grammar) (nodes : List Node) (rows : List (List Bool)) (from to : 
   pub pair-clashes : IsApart g nodes from to → (r t : ℕ) → r < to → PairAt r t → Clashes g nodes rows from to t
   pair-clashes apart r t high p = elim (p.3.1) [
     | inl s ↦ record {
-      terminal = p.3.0; one = s.0; other = r; does = Shifts; differs = Reduces (node_at nodes r).item.production;
-      one_above = s.1; one_below = s.2; other_above = p.0; other_below = high; acts = s.3; acts_too = (refl, p.1, p.2); different = λ e. cc;
+      terminal = p.3.0;
+      one = s.0;
+      other = r;
+      does = Shifts;
+      differs = Reduces (node_at nodes r).item.production;
+      one_above = s.1;
+      one_below = s.2;
+      other_above = p.0;
+      other_below = high;
+      acts = s.3;
+      acts_too = (refl, p.1, p.2);
+      different = λ e. cc;
     }
     | inr d ↦ record {
-      terminal = p.3.0; one = d.0; other = r; does = Reduces (node_at nodes d.0).item.production; differs = Reduces (node_at nodes r).item.production;
-      one_above = d.1; one_below = (let l = d.2 in omega (arith, l, high)); other_above = p.0; other_below = high; acts = (refl, d.3, d.4); acts_too = (refl, p.1, p.2);
+      terminal = p.3.0;
+      one = d.0;
+      other = r;
+      does = Reduces (node_at nodes d.0).item.production;
+      differs = Reduces (node_at nodes r).item.production;
+      one_above = d.1;
+      one_below = (let l = d.2 in omega (arith, l, high));
+      other_above = p.0;
+      other_below = high;
+      acts = (refl, d.3, d.4);
+      acts_too = (refl, p.1, p.2);
       different = λ e. apart d.0 r d.1 d.2 high d.3 p.1 (let q : (node_at nodes d.0).item.production ≡ (node_at nodes r).item.production = cc in q);
     }
   ]

@@ -22,7 +22,7 @@ pub right_of-rule : (g : Grammar) (q : ℕ) (r : Production) → slice_get g.rul
 right_of-rule g q r is = ap (λ o. unwrap_or (option_map (λ (s : Production). s.right) o) []) (slice_get-front g.rules g.entries q r is)
 
 module _ (g : Grammar) (kernel items : List Item) (set : List Bool) (opens : (q : ℕ) → Has set q ↔ ((i : Item) × Contains kernel i × OpensAt g i q))
-  (has : (i : Item) → Contains items i ↔ (Contains kernel i ⊎ IsOpened (length g.rules) set i)) where
+    (has : (i : Item) → Contains items i ↔ (Contains kernel i ⊎ IsOpened (length g.rules) set i)) where
   in-corner : (a q : ℕ) → Corner g.rules a q → In g kernel a zero → In g kernel q zero
   in-corner _ _ (same a r is) h = h
   in-corner _ _ (further a b c X r corner is first left) h =

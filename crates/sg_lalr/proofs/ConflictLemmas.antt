@@ -37,8 +37,8 @@ none-past : (xs : List ℕ) (n : ℕ) → slice_get xs n ≡ None → length xs 
 none-past xs n e = elim (cases_lt n (length xs)) [ inl low ↦ absurd (none-some (get_or xs n 0) (sym e ∙ slice_get-get_or xs n 0 low)) | inr high ↦ high ]
 
 module _ (g : Grammar) (formed : IsWellFormed g) (productive : AllProductive g) (entry : 0 < length g.entries)
-  (kernels cores : List (List Item)) (moves : List (List Move)) (origins : List Origin) (whole : IsWhole g kernels cores moves origins)
-  (nodes : List Node) (firsts : List ℕ) (laid : IsLaid cores nodes firsts) (rows : List (List Bool)) (looks : AreLookaheads g moves nodes rows) where
+    (kernels cores : List (List Item)) (moves : List (List Move)) (origins : List Origin) (whole : IsWhole g kernels cores moves origins)
+    (nodes : List Node) (firsts : List ℕ) (laid : IsLaid cores nodes firsts) (rows : List (List Bool)) (looks : AreLookaheads g moves nodes rows) where
   abbrev from : ℕ → ℕ
   from s = slice_index firsts s
 
@@ -107,7 +107,7 @@ module _ (g : Grammar) (formed : IsWellFormed g) (productive : AllProductive g) 
   conflict-clashes w t c =
       let m = acts-does w t c.one c.does c.acts in
       let n = acts-does w t c.other c.differs c.acts_too in
-      record { terminal = c.terminal; one = m.0; other = n.0; does = c.does; differs = c.differs; one_above = m.1.0; one_below = m.1.1; other_above = n.1.0; other_below = n.1.1; acts = m.2; acts_too = n.2; different = c.different; }
+      record { terminal = c.terminal; one = m.0; other = n.0; does = c.does; differs = c.differs; one_above = m.1.0; one_below = m.1.1; other_above = n.1.0; other_below = n.1.1; acts = m.2; acts_too = n.2; different = c.different }
 
   pub conflict-viable : (w : List ℕ) (t : ℕ) → Conflict g w t → Viable g w
   conflict-viable w t c = acts-viable w t c.one c.does c.acts
@@ -133,9 +133,9 @@ module _ (g : Grammar) (formed : IsWellFormed g) (productive : AllProductive g) 
       let i = (node_at nodes m).item in
       let j = (node_at nodes n).item in
       let dot = λ (z : ℕ) (there : z < length nodes).
-          let t = has-triple g kernels cores moves origins whole nodes firsts laid formed productive entry z there in
-          let v = triple-sound g moves (node_at nodes z).state (node_at nodes z).item.production (node_at nodes z).item.dot t.0 t.1 in
-          valid-dot g v.0 (node_at nodes z).item.production (node_at nodes z).item.dot t.0 v.2 in
+      let t = has-triple g kernels cores moves origins whole nodes firsts laid formed productive entry z there in
+      let v = triple-sound g moves (node_at nodes z).state (node_at nodes z).item.production (node_at nodes z).item.dot t.0 t.1 in
+      valid-dot g v.0 (node_at nodes z).item.production (node_at nodes z).item.dot t.0 v.2 in
       let a = dot m (range-below cores nodes firsts laid s m low (omega (arith, k, h))) in
       let b = dot n (range-below cores nodes firsts laid s n low h) in
       let c = none-past (right_of g i.production) i.dot e in

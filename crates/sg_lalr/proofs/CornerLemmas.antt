@@ -98,7 +98,7 @@ led-none rules old new a r is first own x y = (
 
 -- the relation of leading, closed, is that of left corners
 module _ (rules : List Production) (start closed : List (List Bool)) (leads : (x y : ℕ) → Holds start x y ↔ ((x < length rules) × LeadsTo rules x y))
-  (contains : (a b : ℕ) → Holds start a b → Holds closed a b) (transitive : IsTransitive (Holds closed)) (least : (a b : ℕ) → Holds closed a b → Path (Holds start) a b) where
+    (contains : (a b : ℕ) → Holds start a b → Holds closed a b) (transitive : IsTransitive (Holds closed)) (least : (a b : ℕ) → Holds closed a b → Path (Holds start) a b) where
   there : (a : ℕ) → a < length rules → (r : Production) × (slice_get rules a ≡ Some r)
   there a low = by rules a low
     where

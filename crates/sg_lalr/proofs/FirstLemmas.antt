@@ -139,7 +139,7 @@ contains-slice_get xs x (k, low, is) = (k, slice_get-get_or xs k x low ∙ ap So
 
 -- the rows that flow are those of the first terminals
 module _ (g : Grammar) (set : List Bool) (nullable : IsNullable g set) (formed : IsWellFormed g) (links : List (ℕ × ℕ)) (linked : LinkedBy set g.rules links)
-  (start rows : List (List Bool)) (own : (X u : ℕ) → Holds start X u ↔ ((X < g.terminals) × (u ≡ X))) (flows : (x y : ℕ) → Holds rows x y ↔ ((s : ℕ) × Holds start s y × Reaches (Linked links) s x)) where
+    (start rows : List (List Bool)) (own : (X u : ℕ) → Holds start X u ↔ ((X < g.terminals) × (u ≡ X))) (flows : (x y : ℕ) → Holds rows x y ↔ ((s : ℕ) × Holds start s y × Reaches (Linked links) s x)) where
   first-link : (a b u : ℕ) → Linked links a b → First g a u → First g b u
   first-link a b u l f =
       let k = (linked a b).0 l in

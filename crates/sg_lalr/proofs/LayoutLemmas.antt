@@ -12,7 +12,8 @@ use Rattle.sg_lalr.proofs.PartLemmas.{row_at-front, row_at-last}
 
 pub laid-none : IsLaid [] [] (0 ∷ [])
 laid-none = record {
-  count = refl; end = refl;
+  count = refl;
+  end = refl;
   within = λ s l. let e : s ≡ 0 = omega (arith, l) in subst (λ k. slice_index (0 ∷ []) k ≤ 0) (sym e) (omega arith);
   rising = λ s l. absurd (omega (arith, l));
   has = λ s i l. absurd (omega (arith, l));

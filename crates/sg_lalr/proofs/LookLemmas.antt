@@ -105,7 +105,7 @@ triple-sound g moves _ _ _ _ (steps s v p d t X h a e) = let i = triple-sound g 
 
 -- what a node's links and the links to its productions are together
 module _ (g : Grammar) (moves : List (List Move)) (cores : List (List Item)) (nodes : List Node) (firsts : List ℕ) (laid : IsLaid cores nodes firsts) (a x : ℕ) (there : a < length nodes) (symbol : symbol_of g (node_at nodes a).item ≡ Some x)
-  (target : goto moves (node_at nodes a).state x < length cores) where
+    (target : goto moves (node_at nodes a).state x < length cores) where
   abbrev v : ℕ
   v = goto moves (node_at nodes a).state x
 
@@ -212,9 +212,9 @@ module _ (g : Grammar) (kernels cores : List (List Item)) (moves : List (List Mo
         (subst (λ u. u < length cores) w.1 (omega (arith, low, c)), subst (λ u. Contains (row_at cores u) (item p d)) w.1 ((core p d).1 (t, w.2)))
 
     module _ (start rows : List (List Bool)) (links : List (ℕ × ℕ)) (n : ℕ) (all : length nodes ≤ n)
-      (linked : (b c : ℕ) → Linked links b c ↔ ((b < n) × (c < length nodes) × FlowsTo g moves nodes b c))
-      (seeds : (c u : ℕ) → Holds start c u ↔ (((c < length nodes) × IsStart g (node_at nodes c) × (u ≡ 0)) ⊎ ((b : ℕ) × (b < n) × (c < length nodes) × Gives g nodes b c u)))
-      (few : n ≤ length nodes) (flows : (x y : ℕ) → Holds rows x y ↔ ((s : ℕ) × Holds start s y × Reaches (Linked links) s x)) where
+        (linked : (b c : ℕ) → Linked links b c ↔ ((b < n) × (c < length nodes) × FlowsTo g moves nodes b c))
+        (seeds : (c u : ℕ) → Holds start c u ↔ (((c < length nodes) × IsStart g (node_at nodes c) × (u ≡ 0)) ⊎ ((b : ℕ) × (b < n) × (c < length nodes) × Gives g nodes b c u)))
+        (few : n ≤ length nodes) (flows : (x y : ℕ) → Holds rows x y ↔ ((s : ℕ) × Holds start s y × Reaches (Linked links) s x)) where
       opened-triple : (b c t u : ℕ) → TripleAt b t → OpensTo g nodes b c → Begins g (rest_of g (node_at nodes b).item) t u → TripleAt c u
       opened-triple b c t u h o begins =
           let made = closes (node_at nodes b).state (node_at nodes b).item.production (node_at nodes b).item.dot t o.0 (node_at nodes c).item.production u o.3.1.0 h o.1 o.3.1.1 o.3.1.2 begins in

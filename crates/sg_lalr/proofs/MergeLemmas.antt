@@ -147,7 +147,11 @@ merged-kept set kernel items at n x low is here up m = record {
 -- the next of the kernel is of a later production
 pub merged-next : (set : List Bool) (kernel items : List Item) (at n : ℕ) (x : Item) → at < length kernel → x ≡ get_or kernel at x → (x.production ≡ n → ⊥) → IsRising kernel → Merged set kernel items at (n + 1) n → Merged set kernel items at (n + 1) (n + 1)
 merged-next set kernel items at n x low is other up m = record {
-  rising = m.rising; before = m.before; has = m.has; below = m.below; within = m.within;
+  rising = m.rising;
+  before = m.before;
+  has = m.has;
+  below = m.below;
+  within = m.within;
   rest = λ j d. elim (Contains-cons x (drop (at + 1) kernel) j (subst (λ l. Contains l j) split d)) [
     | inl e ↦ subst (λ (y : Item). n + 1 ≤ y.production) e above
     | inr r ↦ elim (pairs-head Before x (drop (at + 1) kernel) (subst (AllPairs Before) split (pairs-drop Before at kernel up)) j r) [ inl l ↦ omega (arith, l, above) | inr l ↦ (let e = l.0 in omega (arith, e, above)) ]
@@ -163,7 +167,11 @@ merged-next set kernel items at n x low is other up m = record {
 -- nothing of the kernel is left
 pub merged-done : (set : List Bool) (kernel items : List Item) (at n : ℕ) → length kernel ≤ at → Merged set kernel items at (n + 1) n → Merged set kernel items at (n + 1) (n + 1)
 merged-done set kernel items at n high m = record {
-  rising = m.rising; before = m.before; has = m.has; below = m.below; within = m.within;
+  rising = m.rising;
+  before = m.before;
+  has = m.has;
+  below = m.below;
+  within = m.within;
   rest = λ j d. absurd (Contains-nil j (subst (λ l. Contains l j) (drop_all at kernel high) d));
 }
 

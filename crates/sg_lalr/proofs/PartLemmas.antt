@@ -51,7 +51,12 @@ module _ (g : Grammar) where
   -- with the core of the next state
   pub part-core : (kernels cores : List (List Item)) (moves : List (List Move)) (origins : List Origin) (core : List Item) → IsPart g kernels cores moves origins → length cores < length kernels → IsClosure g (row_at kernels (length cores)) core → IsPart g kernels (cores ++ core ∷ []) moves origins
   part-core kernels cores moves origins core p low c = record {
-    some = p.some; first = p.first; kernel = p.kernel; count = p.count; distinct = p.distinct; rising = p.rising;
+    some = p.some;
+    first = p.first;
+    kernel = p.kernel;
+    count = p.count;
+    distinct = p.distinct;
+    rising = p.rising;
     few = omega (arith, low, length_push cores core);
     closed = λ s l. elim (cases_lt s (length cores)) [
       | inl before ↦ subst (IsClosure g (row_at kernels s)) (sym (row_at-front cores core s before)) (p.closed s before)
@@ -90,14 +95,17 @@ module _ (g : Grammar) where
     count = let c = p.count in omega (arith, c, long, length_push origins (origin s X));
     comes = λ k l. elim (cases_lt k (length origins)) [
       | inl early ↦ subst (ComesFrom g (kernels ++ kernel ∷ []) cores k) (sym (origin_at-front origins (origin s X) k early)) (let c = p.comes k early in record {
-        earlier = c.earlier; expanded = c.expanded; next = c.next;
+        earlier = c.earlier;
+        expanded = c.expanded;
+        next = c.next;
         behind = row_at-front kernels kernel (suc k) (let n = p.count in omega (arith, n, early)) ∙ c.behind;
       })
       | inr late ↦
           let is : length origins ≡ k = omega (arith, l, late, length_push origins (origin s X)) in
           subst (ComesFrom g (kernels ++ kernel ∷ []) cores k) (sym (origin_at-last origins (origin s X) k is)) record {
             earlier = let f = p.few in let n = p.count in omega (arith, f, n, low, is);
-            expanded = low; next = next;
+            expanded = low;
+            next = next;
             behind = row_at-last kernels kernel (suc k) (let n = p.count in omega (arith, n, is));
           }
     ];
@@ -126,7 +134,8 @@ module _ (g : Grammar) where
 
   pub expanding-none : (kernels cores : List (List Item)) (moves : List (List Move)) (origins : List Origin) (s b : ℕ) → IsPart g kernels cores moves origins → s < length cores → ((X : ℕ) → HasNext g (row_at cores s) X → b ≤ X) → All (λ (o : Origin). o.state < s) origins → Expanding kernels cores moves origins [] s b
   expanding-none kernels cores moves origins s b p low none before = record {
-    part = p; here = low;
+    part = p;
+    here = low;
     leads = λ X l h. absurd (let k = none X h in omega (arith, k, l));
     earliest = λ X k l h. absurd (let k = none X h in omega (arith, k, l));
     before = λ k d l. inl (before k d l);
@@ -139,7 +148,9 @@ module _ (g : Grammar) where
       → All (λ o. Earlier o (origin s y)) origins → All (λ (m : Move). m.symbol < x) row → x < y → ((X : ℕ) → suc x ≤ X → HasNext g (row_at cores s) X → y ≤ X)
       → IsBehind g kernels (row_at cores s) x v → ((k : ℕ) → v ≡ suc k → NotLater (origin_at origins k) (origin s x)) → Expanding kernels cores moves origins (row ++ record { symbol = x; target = v } ∷ []) s y
   row-more kernels cores moves origins row s x y v p low leads earliest before below less least behind first = record {
-    part = p; here = low; before = before;
+    part = p;
+    here = low;
+    before = before;
     leads = λ X l h. elim (cases_lt X x) [
       | inl old ↦ subst (IsBehind g kernels (row_at cores s) X) (sym (target_of-other row m X (λ e. omega (arith, e, old)))) (leads X old h)
       | inr new ↦
@@ -183,7 +194,15 @@ module _ (g : Grammar) where
   -- with the moves of the next state
   pub part-row : (kernels cores : List (List Item)) (moves : List (List Move)) (origins : List Origin) (row : List Move) (b : ℕ) → Expanding kernels cores moves origins row (length moves) b → ((X : ℕ) → HasNext g (row_at cores (length moves)) X → X < b) → IsPart g kernels cores (moves ++ row ∷ []) origins
   part-row kernels cores moves origins row b e all = record {
-    some = p.some; first = p.first; kernel = p.kernel; few = p.few; closed = p.closed; count = p.count; comes = p.comes; distinct = p.distinct; rising = p.rising;
+    some = p.some;
+    first = p.first;
+    kernel = p.kernel;
+    few = p.few;
+    closed = p.closed;
+    count = p.count;
+    comes = p.comes;
+    distinct = p.distinct;
+    rising = p.rising;
     expanded = let l = e.here in omega (arith, l, length_push moves row);
     leads = λ s X l h. elim (cases_lt s (length moves)) [
       | inl old ↦ subst (IsBehind g kernels (row_at cores s) X) (sym (ap (λ r. target_of r X) (get_or_append_left moves (row ∷ []) [] s old))) (p.leads s X old h)
@@ -226,8 +245,15 @@ module _ (g : Grammar) (cores : List (List Item)) (core : List Item) (moves : Li
 
   pub overflow-row : (kernels : List (List Item)) (origins : List Origin) (row : List Move) (kernel : List Item) (x : ℕ) → Expanding g kernels (cores ++ core ∷ []) moves origins row s x → HasNext g core x → kernel ≡ advance g x core → length kernels ≡ 65536 → (Contains kernels kernel → ⊥) → Overflows g
   overflow-row kernels origins row kernel x e has is full absent = record {
-    kernels = kernels; cores = cores ++ core ∷ []; moves = moves; origins = origins;
-    part = e.part; full = full; state = s; symbol = x; expanded = e.here;
+    kernels = kernels;
+    cores = cores ++ core ∷ [];
+    moves = moves;
+    origins = origins;
+    part = e.part;
+    full = full;
+    state = s;
+    symbol = x;
+    expanded = e.here;
     next = subst (λ l. HasNext g l x) (sym at) has;
     absent = λ c. absent (subst (Contains kernels) (sym (is ∙ ap (advance g x) (sym at))) c);
   }
@@ -256,7 +282,8 @@ starts-kernel g = record {
 -- the first kernel alone
 pub part-none : (g : Grammar) → IsPart g (start_items g ∷ []) [] [] []
 part-none g = record {
-  some = omega arith; first = refl;
+  some = omega arith;
+  first = refl;
   kernel = λ v l. subst (λ u. IsKernel g (row_at (start_items g ∷ []) u)) (let z : 0 ≡ v = omega (arith, l) in z) (starts-kernel g);
   few = omega arith;
   closed = λ s l. absurd (omega (arith, l));

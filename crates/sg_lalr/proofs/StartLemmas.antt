@@ -17,4 +17,3 @@ starts-has p zero k l = absurd (omega (arith, l))
 starts-has p (suc n) zero l = subst (λ m. Contains (starts_from p (suc n)) (item m 0)) (let z : p ≡ p + 0 = omega arith in z) (Contains-front (item p 0) (starts_from (suc p) n))
 starts-has p (suc n) (suc k) l =
     subst (λ m. Contains (starts_from p (suc n)) (item m 0)) (let z : suc p + k ≡ p + suc k = omega arith in z) (Contains-behind (item p 0) (starts_from (suc p) n) (item (suc p + k) 0) (starts-has (suc p) n k (omega (arith, l))))
-

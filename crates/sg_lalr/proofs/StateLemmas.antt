@@ -33,7 +33,7 @@ less-then (X ∷ u) (Y ∷ v) (Z ∷ w) (inr h) (inl k) = inl (subst (λ l. Less
 less-then (X ∷ u) (Y ∷ v) (Z ∷ w) (inr h) (inr k) = inr (h.0 ∙ k.0, (let a = h.1 in let b = k.1 in omega (arith, a, b)))
 
 module _ (g : Grammar) (formed : IsWellFormed g) (productive : AllProductive g) (entry : 0 < length g.entries)
-  (kernels cores : List (List Item)) (moves : List (List Move)) (origins : List Origin) (part : IsPart g kernels cores moves origins) where
+    (kernels cores : List (List Item)) (moves : List (List Move)) (origins : List Origin) (part : IsPart g kernels cores moves origins) where
   pub kernel-same : (i j : ℕ) → i < length kernels → j < length kernels → row_at kernels i ≡ row_at kernels j → i ≡ j
   kernel-same i j l m e = elim (cases_lt i j) [
     | inl less ↦ absurd (part.distinct i j [] less m e)
@@ -173,7 +173,7 @@ numbers-below f n (w ∷ ws) h q e = elim (or_cases (eqb q (f w)) (list_any (eqb
 ]
 
 module _ (g : Grammar) (formed : IsWellFormed g) (productive : AllProductive g) (entry : 0 < length g.entries)
-  (kernels cores : List (List Item)) (moves : List (List Move)) (origins : List Origin) (whole : IsWhole g kernels cores moves origins) where
+    (kernels cores : List (List Item)) (moves : List (List Move)) (origins : List Origin) (whole : IsWhole g kernels cores moves origins) where
   part : IsPart g kernels cores moves origins
   part = whole.part
 
@@ -268,7 +268,7 @@ module _ (g : Grammar) (formed : IsWellFormed g) (productive : AllProductive g) 
   not-too-many t =
       let below = λ (w : List ℕ) (c : Contains t.prefixes w). (state-of-viable w (All-contains (Viable g) t.prefixes w t.viable c)).0 in
       let apart : AllPairs (λ (w h : List ℕ). state_of moves w ≡ state_of moves h → ⊥) t.prefixes = λ i j d l m e.
-          t.different i j d l m (same-core (get_or t.prefixes i d) (get_or t.prefixes j d) (t.viable i d (omega (arith, l, m))) (t.viable j d m) e) in
+      t.different i j d l m (same-core (get_or t.prefixes i d) (get_or t.prefixes j d) (t.viable i d (omega (arith, l, m))) (t.viable j d m) e) in
       let few = length-le_from_distinct_below (map (state_of moves) t.prefixes) (length kernels) (distinct-numbers (state_of moves) t.prefixes apart) (numbers-below (state_of moves) (length kernels) t.prefixes below) in
       let long = length-map t.prefixes (state_of moves) in
       let many = t.many in

@@ -49,7 +49,7 @@ pub quiet-without : (g : Grammar) → length g.entries ≡ 0 → IsQuiet g
 quiet-without g none w t c = let l = acts-entry g w t c.one c.does c.acts in omega (arith, l, none)
 
 module _ (g : Grammar) (formed : IsWellFormed g) (productive : AllProductive g) (entry : 0 < length g.entries)
-  (kernels cores : List (List Item)) (moves : List (List Move)) (origins : List Origin) (whole : IsWhole g kernels cores moves origins) where
+    (kernels cores : List (List Item)) (moves : List (List Move)) (origins : List Origin) (whole : IsWhole g kernels cores moves origins) where
   low-kernel : (s : ℕ) → s < length cores → s < length kernels
   low-kernel s l = let c = whole.cored in omega (arith, c, l)
 
@@ -88,19 +88,24 @@ module _ (g : Grammar) (formed : IsWellFormed g) (productive : AllProductive g) 
 
   pub leads-to : (s X : ℕ) → s < length cores → HasNext g (row_at cores s) X → Leads (viewed g cores) s X (goto moves s X)
   leads-to s X low h =
-      let b = whole.part.leads s X (let m = whole.moved in let c = whole.cored in omega (arith, m, c, low)) h in
-      ((let c = whole.cored in let l = b.0 in omega (arith, c, l)), λ w c.
-          let a = at-state s w low c.1 in
-          let v = longer-viable g formed productive entry kernels cores moves origins whole.part w (row_at cores s) X c.1 h in
-          subst (λ z. IsCore g (X ∷ w) (row_at cores (goto moves z X))) a.1 (core-there (X ∷ w) v).1)
+      let b = whole.part.leads s X (let m = whole.moved in let c = whole.cored in omega (arith, m, c, low)) h in (
+        (let c = whole.cored in let l = b.0 in omega (arith, c, l)),
+        λ w c.
+            let a = at-state s w low c.1 in
+            let v = longer-viable g formed productive entry kernels cores moves origins whole.part w (row_at cores s) X c.1 h in
+            subst (λ z. IsCore g (X ∷ w) (row_at cores (goto moves z X))) a.1 (core-there (X ∷ w) v).1,
+      )
 
 module _ (g : Grammar) (formed : IsWellFormed g) (productive : AllProductive g) (entry : 0 < length g.entries)
-  (kernels cores : List (List Item)) (moves : List (List Move)) (origins : List Origin) (nodes : List Node) (firsts : List ℕ) (rows : List (List Bool))
-  (full : IsFull g kernels cores moves origins nodes firsts rows) where
+    (kernels cores : List (List Item)) (moves : List (List Move)) (origins : List Origin) (nodes : List Node) (firsts : List ℕ) (rows : List (List Bool))
+    (full : IsFull g kernels cores moves origins nodes firsts rows) where
   pub acts-in-state : (s t m : ℕ) (a : Deed) → s < length cores → slice_index firsts s ≤ m → m < slice_index firsts (suc s) → Does g nodes rows t m a → ActsIn (viewed g cores) s t a
-  acts-in-state s t m a low l h d = ((node_at nodes m).item, λ w c.
-      let at = at-state g formed productive entry kernels cores moves origins full.whole s w low c.1 in
-      does-acts g formed productive entry kernels cores moves origins full.whole nodes firsts full.laid rows full.exact w t m a at.0 (subst (λ z. slice_index firsts z ≤ m) (sym at.1) l) (subst (λ z. m < slice_index firsts (suc z)) (sym at.1) h) d)
+  acts-in-state s t m a low l h d = (
+    (node_at nodes m).item,
+    λ w c.
+        let at = at-state g formed productive entry kernels cores moves origins full.whole s w low c.1 in
+        does-acts g formed productive entry kernels cores moves origins full.whole nodes firsts full.laid rows full.exact w t m a at.0 (subst (λ z. slice_index firsts z ≤ m) (sym at.1) l) (subst (λ z. m < slice_index firsts (suc z)) (sym at.1) h) d,
+  )
 
   pub stops : (s t : ℕ) → s < length cores → ((k : ℕ) (a : Deed) → slice_index firsts s ≤ k → k < slice_index firsts (suc s) → Does g nodes rows t k a → ⊥) → IsAction (viewed g cores) s t action.Stop
   stops s t low none w i a c h =

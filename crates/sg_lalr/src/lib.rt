@@ -5,8 +5,8 @@ mod closure;
 pub mod conflict;
 mod firsts;
 pub mod items;
-mod least_set;
 mod layout;
+mod least_set;
 mod lookaheads;
 pub mod making;
 mod moves;
@@ -14,6 +14,8 @@ mod productive;
 mod search;
 mod states;
 pub mod tables;
+#[cfg(test)]
+mod tests;
 
 /// Want of memory, while tables are made.
 type NoMemory = std::alloc::AllocError;

@@ -15,7 +15,6 @@ use sg_kinds::row::Row;
 use sg_sets::Relation;
 use std::alloc::Global;
 
-
 /// The most states.
 pub const MOST_STATES: usize = 65_536;
 

@@ -80,7 +80,13 @@ impl Model for Tables {
 }
 
 /// What a state does on a terminal, by its nodes.
-fn action_of(g: &Grammar, automaton: &Automaton, looks: &Lookaheads, state: u32, terminal: u32) -> Action
+fn action_of(
+    g: &Grammar,
+    automaton: &Automaton,
+    looks: &Lookaheads,
+    state: u32,
+    terminal: u32,
+) -> Action
     requires made { IsMade g.now (map (λ k. k.items) automaton.now.kernels.keys) automaton.now.cores.items automaton.now.moves.items automaton.now.origins.items looks.now.layout.nodes.items looks.now.layout.firsts.items looks.now.rows.rows }
     requires state { state < length automaton.now.cores.items }
     ensures { IsAction (viewed g.now automaton.now.cores.items) state terminal result }
@@ -88,7 +94,15 @@ fn action_of(g: &Grammar, automaton: &Automaton, looks: &Lookaheads, state: u32,
     g.sound();
     let from = looks.layout.firsts[state as usize];
     let to = looks.layout.firsts[state as usize + 1];
-    match first_but(g, looks.layout.nodes.as_slice(), &looks.rows, from, to, terminal, None) {
+    match first_but(
+        g,
+        looks.layout.nodes.as_slice(),
+        &looks.rows,
+        from,
+        to,
+        terminal,
+        None,
+    ) {
         Some((_, Deed::Shifts)) => Action::Shift(goto_of(&automaton.moves, state, terminal)),
         Some((_, Deed::Reduces(p))) => {
             if (p as usize) < g.rules().len() {
@@ -102,7 +116,13 @@ fn action_of(g: &Grammar, automaton: &Automaton, looks: &Lookaheads, state: u32,
 }
 
 /// The state behind a symbol in a state, or None where no item has its dot before it.
-fn after_of(g: &Grammar, automaton: &Automaton, looks: &Lookaheads, state: u32, x: u32) -> Option<u32>
+fn after_of(
+    g: &Grammar,
+    automaton: &Automaton,
+    looks: &Lookaheads,
+    state: u32,
+    x: u32,
+) -> Option<u32>
     requires made { IsMade g.now (map (λ k. k.items) automaton.now.kernels.keys) automaton.now.cores.items automaton.now.moves.items automaton.now.origins.items looks.now.layout.nodes.items looks.now.layout.firsts.items looks.now.rows.rows }
     requires state { state < length automaton.now.cores.items }
     requires symbol { x < g.now.symbols }
@@ -127,6 +147,13 @@ impl Tables {
         self.grammar.sound();
     }
 
+    /// How many states there are.
+    pub fn states(&self) -> usize
+        ensures { result ≡ length self.now.cores }
+    {
+        self.automaton.cores.len()
+    }
+
     /// What a state does on a terminal.
     pub fn action(&self, state: u32, terminal: u32) -> Action
         requires state { state < length self.now.cores }
@@ -143,7 +170,13 @@ impl Tables {
         ensures some { IfSome result (λ u. HasNext self.now.grammar (row_at self.now.cores state) nonterminal × Leads self.now state nonterminal u) }
         ensures none { IfNone result (HasNext self.now.grammar (row_at self.now.cores state) nonterminal → ⊥) }
     {
-        after_of(&self.grammar, &self.automaton, &self.looks, state, nonterminal)
+        after_of(
+            &self.grammar,
+            &self.automaton,
+            &self.looks,
+            state,
+            nonterminal,
+        )
     }
 
     /// A production by its number.

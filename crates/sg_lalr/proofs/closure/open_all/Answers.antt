@@ -17,7 +17,7 @@ loop-item-preserved c =
       | in-Some w ↦ rw w.set-is (
         w.open.ensures.width ∙ c.loop-item.invariant.0,
         opened-more c.args.g.now c.args.set.now c.loop-item.set w.open.new.set c.args.kernel.now n w.in-Some.x i c.loop-item-test.true is
-        (sym c.symbol_at.ensures ∙ w.in-Some.is) c.loop-item.invariant.1 (subst (λ rs. (q : ℕ) → Has w.open.new.set q ↔ (Has c.loop-item.set q ⊎ Opens rs w.in-Some.x q)) w.rules.ensures w.open.ensures.gains),
+            (sym c.symbol_at.ensures ∙ w.in-Some.is) c.loop-item.invariant.1 (subst (λ rs. (q : ℕ) → Has w.open.new.set q ↔ (Has c.loop-item.set q ⊎ Opens rs w.in-Some.x q)) w.rules.ensures w.open.ensures.gains),
       )
       | in_default w ↦ rw w.set-is (
         c.loop-item.invariant.0,

@@ -40,21 +40,21 @@ loop-m-preserved c =
     let symbol = c.symbol_of.ensures.symbol in
     elim c.if-is_none.branch [
       | then-is_none w ↦ rw (w.taken-is, w.best-is) (
-        let none : symbol_of g (node_at nodes m).item ≡ None = sym symbol ∙ is_none-None c.symbol_of.result c.is_none.result c.is_none.ensures w.if-is_none.true in
-        let row : w.row-then-is_none.result.now ≡ row_of rows m = w.row-then-is_none.ensures.row in
-        let shared : (t : ℕ) → Has c.loop-m.taken t → Holds rows m t → Shared c.loop-m.taken w.row.result.now t = λ t h k. (h, subst (λ r. Has r t) (sym w.row.ensures.row) k) in
-        taking-more g nodes rows c.args.from c.args.to c.loop-m.taken w.union.new.self c.loop-m.best w.lesser-best.result m (omega arith) (omega arith) none
-        (λ t h. let b = has-below (row_of rows m) t h in let wide = w.row-then-is_none.ensures.width in let long = ap length row in let f = c.requires.rows in omega (arith, b, wide, long, f))
-        w.union.ensures.width
-        (subst (λ r. (t : ℕ) → Has w.union.new.self t ↔ (Has c.loop-m.taken t ⊎ Has r t)) row w.union.ensures.joins)
-        (λ t h k. lesser-all w.first_shared.result w.lesser-best.result (Shared c.loop-m.taken w.row.result.now) w.first_shared.ensures.none w.first_shared.ensures.least w.lesser-best.ensures.least t (shared t h k))
-        w.lesser-best.ensures.below
-        (elim w.lesser-best.ensures.either [
-          | inl e ↦ inl e
-          | inr some ↦ (let s = some-shared w.first_shared.result (Shared c.loop-m.taken w.row.result.now) w.lesser-best.result some w.first_shared.ensures.shared in inr (s.0, subst (λ r. Has r w.lesser-best.result) w.row.ensures.row s.1))
-        ])
-        c.loop-m.invariant
-      )
+          let none : symbol_of g (node_at nodes m).item ≡ None = sym symbol ∙ is_none-None c.symbol_of.result c.is_none.result c.is_none.ensures w.if-is_none.true in
+          let row : w.row-then-is_none.result.now ≡ row_of rows m = w.row-then-is_none.ensures.row in
+          let shared : (t : ℕ) → Has c.loop-m.taken t → Holds rows m t → Shared c.loop-m.taken w.row.result.now t = λ t h k. (h, subst (λ r. Has r t) (sym w.row.ensures.row) k) in
+          taking-more g nodes rows c.args.from c.args.to c.loop-m.taken w.union.new.self c.loop-m.best w.lesser-best.result m (omega arith) (omega arith) none
+          (λ t h. let b = has-below (row_of rows m) t h in let wide = w.row-then-is_none.ensures.width in let long = ap length row in let f = c.requires.rows in omega (arith, b, wide, long, f))
+          w.union.ensures.width
+          (subst (λ r. (t : ℕ) → Has w.union.new.self t ↔ (Has c.loop-m.taken t ⊎ Has r t)) row w.union.ensures.joins)
+          (λ t h k. lesser-all w.first_shared.result w.lesser-best.result (Shared c.loop-m.taken w.row.result.now) w.first_shared.ensures.none w.first_shared.ensures.least w.lesser-best.ensures.least t (shared t h k))
+          w.lesser-best.ensures.below
+          (elim w.lesser-best.ensures.either [
+            | inl e ↦ inl e
+            | inr some ↦ (let s = some-shared w.first_shared.result (Shared c.loop-m.taken w.row.result.now) w.lesser-best.result some w.first_shared.ensures.shared in inr (s.0, subst (λ r. Has r w.lesser-best.result) w.row.ensures.row s.1))
+          ])
+          c.loop-m.invariant
+          )
       | else-is_none w ↦ rw (w.taken-is, w.best-is) (taking-same g nodes rows c.args.from c.args.to c.loop-m.taken c.loop-m.best m (λ e. is_none-Some c.symbol_of.result c.is_none.result c.is_none.ensures w.if-is_none.false (symbol ∙ e)) c.loop-m.invariant)
     ]
 

@@ -11,7 +11,7 @@ loop-d-preserved c = elim c.if-has_front.branch [
   | then-has_front w ↦ rw w.set-is (
     w.union.ensures.width ∙ c.loop-d.invariant.0,
     begun-more c.args.nullable.now c.args.symbols.now c.args.rows.now.rows c.loop-d.d c.loop-d.set w.union.new.self c.loop-d-test.true (c.has_front.ensures.0 w.if-has_front.true)
-    (subst (λ row. (u : ℕ) → Has w.union.new.self u ↔ (Has c.loop-d.set u ⊎ Has row u)) w.row.ensures.row w.union.ensures.joins) c.loop-d.invariant.1,
+        (subst (λ row. (u : ℕ) → Has w.union.new.self u ↔ (Has c.loop-d.set u ⊎ Has row u)) w.row.ensures.row w.union.ensures.joins) c.loop-d.invariant.1,
   )
   | else-has_front w ↦ rw w.set-is (c.loop-d.invariant.0, begun-same c.args.nullable.now c.args.symbols.now c.args.rows.now.rows c.loop-d.d c.loop-d.set (λ all. both_ways c.has_front.result w.if-has_front.false (c.has_front.ensures.1 all)) c.loop-d.invariant.1)
 ]

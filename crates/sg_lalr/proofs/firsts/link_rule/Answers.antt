@@ -16,10 +16,10 @@ loop-d-preserved c =
     let test = c.has_front.ensures in
     elim c.if-has_front.branch [
       | then-has_front+in_ok-push w ↦ rw w.links-is (
-        let items = w.in_ok-push.ensures.items in
-        subst (λ ls. Linking c.args.links.now.items ls r.left (StandsBelow set r.right (n + 1))) (sym (rw right at items))
-        (linking-more set r.right n r.left c.args.links.now.items c.loop-d.links.items (omega (arith, ap length right)) (rw right at (test.0 w.if-has_front.true)) c.loop-d.invariant)
-      )
+          let items = w.in_ok-push.ensures.items in
+          subst (λ ls. Linking c.args.links.now.items ls r.left (StandsBelow set r.right (n + 1))) (sym (rw right at items))
+          (linking-more set r.right n r.left c.args.links.now.items c.loop-d.links.items (omega (arith, ap length right)) (rw right at (test.0 w.if-has_front.true)) c.loop-d.invariant)
+          )
       | else-has_front w ↦ rw w.links-is (linking-same set r.right n r.left c.args.links.now.items c.loop-d.links.items (λ all. both_ways c.has_front.result w.if-has_front.false (test.1 (subst (λ l. All (Has set) (take n l)) (sym right) all))) c.loop-d.invariant)
     ]
 

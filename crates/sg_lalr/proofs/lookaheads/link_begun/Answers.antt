@@ -10,7 +10,7 @@ loop-b-preserved c =
     let P : ℕ → Type 0 = λ y. BeginsWith c.args.g.now (node_at c.args.nodes.now y).item c.args.x in
     elim c.if-begins_with.branch [
       | then-begins_with+in_ok-push w ↦ rw w.links-is (subst (λ ls. RangedTo c.args.links.now.items ls c.args.a c.args.from (c.loop-b.b + 1) P) (sym w.in_ok-push.ensures.items)
-        (ranged-more c.args.links.now.items c.loop-b.links.items c.args.a c.args.from c.loop-b.b P (omega arith) (c.begins_with.ensures.0 w.if-begins_with.true) c.loop-b.invariant))
+          (ranged-more c.args.links.now.items c.loop-b.links.items c.args.a c.args.from c.loop-b.b P (omega arith) (c.begins_with.ensures.0 w.if-begins_with.true) c.loop-b.invariant))
       | else-begins_with w ↦ rw w.links-is (ranged-same c.args.links.now.items c.loop-b.links.items c.args.a c.args.from c.loop-b.b P (λ e. both_ways c.begins_with.result w.if-begins_with.false (c.begins_with.ensures.1 e)) c.loop-b.invariant)
     ]
 

@@ -172,8 +172,8 @@ returns-in_ok-open_node-clause-links c =
     let it : c.index-node.result.now.item.dot + 1 ≡ suc (node_at nodes a).item.dot = (let e = ap (λ (n : Node). n.item.dot) is in omega (arith, e)) in
     let target : item c.index-node.result.now.item.production (c.index-node.result.now.item.dot + 1) ≡ moved (node_at nodes a).item = (λ i. item (is i).item.production (it i)) in
     let ranged : RangedTo old mid a (slice_index firsts v) (slice_index firsts (suc v)) (λ y. (node_at nodes y).item ≡ moved (node_at nodes a).item) =
-        ranged-as old mid a c.index.result.now c.index-2.result.now (slice_index firsts v) (slice_index firsts (suc v)) (λ y. (node_at c.deref-2.result.now y).item ≡ item c.index-node.result.now.item.production (c.index-node.result.now.item.dot + 1)) (λ y. (node_at nodes y).item ≡ moved (node_at nodes a).item) from to
-        (λ y h. sym (ap (λ ns. (node_at ns y).item) c.deref-2.ensures.value) ∙ h ∙ target) (λ y h. ap (λ ns. (node_at ns y).item) c.deref-2.ensures.value ∙ h ∙ sym target) c.in_ok-link_item.ensures in
+    ranged-as old mid a c.index.result.now c.index-2.result.now (slice_index firsts v) (slice_index firsts (suc v)) (λ y. (node_at c.deref-2.result.now y).item ≡ item c.index-node.result.now.item.production (c.index-node.result.now.item.dot + 1)) (λ y. (node_at nodes y).item ≡ moved (node_at nodes a).item) from to
+    (λ y h. sym (ap (λ ns. (node_at ns y).item) c.deref-2.ensures.value) ∙ h ∙ target) (λ y h. ap (λ ns. (node_at ns y).item) c.deref-2.ensures.value ∙ h ∙ sym target) c.in_ok-link_item.ensures in
     flows-open g moves cores nodes firsts laid a x there symbol low old mid c.open_node.new.flow.links.items ranged c.in_ok-open_node.ensures.links
 
 pub returns-else-x-terminals-clause-links : goal.returns-else-x-terminals-clause-links
@@ -205,8 +205,8 @@ returns-else-x-terminals-clause-links c =
     let it : c.index-node.result.now.item.dot + 1 ≡ suc (node_at nodes a).item.dot = (let e = ap (λ (n : Node). n.item.dot) is in omega (arith, e)) in
     let target : item c.index-node.result.now.item.production (c.index-node.result.now.item.dot + 1) ≡ moved (node_at nodes a).item = (λ i. item (is i).item.production (it i)) in
     let ranged : RangedTo old mid a (slice_index firsts v) (slice_index firsts (suc v)) (λ y. (node_at nodes y).item ≡ moved (node_at nodes a).item) =
-        ranged-as old mid a c.index.result.now c.index-2.result.now (slice_index firsts v) (slice_index firsts (suc v)) (λ y. (node_at c.deref-2.result.now y).item ≡ item c.index-node.result.now.item.production (c.index-node.result.now.item.dot + 1)) (λ y. (node_at nodes y).item ≡ moved (node_at nodes a).item) from to
-        (λ y h. sym (ap (λ ns. (node_at ns y).item) c.deref-2.ensures.value) ∙ h ∙ target) (λ y h. ap (λ ns. (node_at ns y).item) c.deref-2.ensures.value ∙ h ∙ sym target) c.in_ok-link_item.ensures in
+    ranged-as old mid a c.index.result.now c.index-2.result.now (slice_index firsts v) (slice_index firsts (suc v)) (λ y. (node_at c.deref-2.result.now y).item ≡ item c.index-node.result.now.item.production (c.index-node.result.now.item.dot + 1)) (λ y. (node_at nodes y).item ≡ moved (node_at nodes a).item) from to
+    (λ y h. sym (ap (λ ns. (node_at ns y).item) c.deref-2.ensures.value) ∙ h ∙ target) (λ y h. ap (λ ns. (node_at ns y).item) c.deref-2.ensures.value ∙ h ∙ sym target) c.in_ok-link_item.ensures in
     flows-shut g moves cores nodes firsts laid a x there symbol low old mid c.sound.ensures (let t = c.terminals.ensures in let f = c.if-x-terminals.false in omega (arith, t, f)) ranged
 
 pub returns-else-x-terminals-clause-seeds : goal.returns-else-x-terminals-clause-seeds

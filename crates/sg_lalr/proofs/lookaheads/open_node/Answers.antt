@@ -21,8 +21,8 @@ first_of-requires c =
     let rest : c.rest_of-rest.result.now ≡ rest_of g c.index-node.result.now.item = c.rest_of-rest.ensures in
     let count = c.requires.count in
     λ k d l. let f = rest-fits g c.index-node.result.now.item c.sound.ensures k d (omega (arith, l, ap length rest)) in
-        let e : get_or c.rest_of-rest.result.now k d ≡ get_or (rest_of g c.index-node.result.now.item) k d = ap (λ r. get_or r k d) rest in
-        omega (arith, f, e, count)
+    let e : get_or c.rest_of-rest.result.now k d ≡ get_or (rest_of g c.index-node.result.now.item) k d = ap (λ r. get_or r k d) rest in
+    omega (arith, f, e, count)
 
 pub returns-clause-seeds : goal.returns-clause-seeds
 returns-clause-seeds c =

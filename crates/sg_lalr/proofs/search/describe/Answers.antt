@@ -63,13 +63,13 @@ returns c =
     let w = c.in_ok-prefix.ensures.0 in
     let shown : w ≡ reverse c.new.result = sym (reverse-reverse w) ∙ sym (ap reverse (c.new.ensures ∙ c.in_ok-prefix.ensures.2)) in
     let all = least-conflict g c.sound.ensures c.requires.productive c.requires.entry (map (λ k. k.items) auto.kernels.keys) auto.cores.items auto.moves.items origins c.requires.whole nodes firsts laid rows c.requires.exact
-        s t (reverse c.new.result) low (subst (FoundBy origins s) shown (subst (λ os. FoundBy os s w) c.deref.ensures.value c.in_ok-prefix.ensures.1)) c.requires.clear c.requires.least c.requires.clashes.terminal
-        m n a b
-        (subst (λ z. z ≤ m) from within.0) (subst (λ z. m < z) to within.1) (subst (λ z. z ≤ n) from within2.0) (subst (λ z. n < z) to within2.1)
-        (subst (λ (ns : List Node). Does g ns rows t m a) value da) (subst (λ (ns : List Node). Does g ns rows t n b) value db)
-        (λ e. other (ap Some e))
-        (λ k d l h does. none-some d (sym (first k d (subst (λ z. z ≤ k) (sym from) l) h (subst (λ (ns : List Node). Does g ns rows t k d) (sym value) does))))
-        (λ k d l h does. same_Some d a (second k d (subst (λ z. z ≤ k) (sym from) l) h (subst (λ (ns : List Node). Does g ns rows t k d) (sym value) does))) in
+    s t (reverse c.new.result) low (subst (FoundBy origins s) shown (subst (λ os. FoundBy os s w) c.deref.ensures.value c.in_ok-prefix.ensures.1)) c.requires.clear c.requires.least c.requires.clashes.terminal
+    m n a b
+    (subst (λ z. z ≤ m) from within.0) (subst (λ z. m < z) to within.1) (subst (λ z. z ≤ n) from within2.0) (subst (λ z. n < z) to within2.1)
+    (subst (λ (ns : List Node). Does g ns rows t m a) value da) (subst (λ (ns : List Node). Does g ns rows t n b) value db)
+    (λ e. other (ap Some e))
+    (λ k d l h does. none-some d (sym (first k d (subst (λ z. z ≤ k) (sym from) l) h (subst (λ (ns : List Node). Does g ns rows t k d) (sym value) does))))
+    (λ k d l h does. same_Some d a (second k d (subst (λ z. z ≤ k) (sym from) l) h (subst (λ (ns : List Node). Does g ns rows t k d) (sym value) does))) in
     let there : m < length nodes = range-below auto.cores.items nodes firsts laid s m low (subst (λ z. m < z) to within.1) in
     let there2 : n < length nodes = range-below auto.cores.items nodes firsts laid s n low (subst (λ z. n < z) to within2.1) in
     let is : c.index.result.now ≡ node_at nodes m = get_or_read nodes m c.index.result.now there c.index.ensures (node 0 (item 0 0)) in

@@ -82,17 +82,19 @@ loop-state-preserved c =
     let from : c.index-from.result.now ≡ slice_index firsts s = get_or_read firsts s c.index-from.result.now (omega (arith, low, count)) c.index-from.ensures 0 in
     let next : s + 1 ≡ suc s = omega arith in
     let to : c.index-to.result.now ≡ slice_index firsts (suc s) = get_or_read firsts (s + 1) c.index-to.result.now (omega (arith, low, count)) c.index-to.ensures 0 ∙ ap (slice_index firsts) next in
-    let high = c.if-terminal-terminals.false in
-    (c.least_clash-terminal.ensures.width, λ r u l k. elim (cases_lt r s) [
-      | inl under ↦ c.loop-state.invariant.1 r u under k
-      | inr over ↦
-          let is : r ≡ s = omega (arith, l, over) in
-          let here = subst (λ z. Clashes g nodes rows (slice_index firsts z) (slice_index firsts (suc z)) u) is k in
-          let least = c.least_clash-terminal.ensures.least u (subst (λ (ns : List Node). Clashes g ns rows c.index-from.result.now c.index-to.result.now u) (sym value) (subst (λ x. Clashes g nodes rows x c.index-to.result.now u) (sym from) (subst (λ y. Clashes g nodes rows (slice_index firsts s) y u) (sym to) here))) in
-          let terminal = here.terminal in
-          let all = c.terminals-in-loop-state.ensures in
-          omega (arith, high, least, terminal, all)
-    ])
+    let high = c.if-terminal-terminals.false in (
+      c.least_clash-terminal.ensures.width,
+      λ r u l k. elim (cases_lt r s) [
+        | inl under ↦ c.loop-state.invariant.1 r u under k
+        | inr over ↦
+            let is : r ≡ s = omega (arith, l, over) in
+            let here = subst (λ z. Clashes g nodes rows (slice_index firsts z) (slice_index firsts (suc z)) u) is k in
+            let least = c.least_clash-terminal.ensures.least u (subst (λ (ns : List Node). Clashes g ns rows c.index-from.result.now c.index-to.result.now u) (sym value) (subst (λ x. Clashes g nodes rows x c.index-to.result.now u) (sym from) (subst (λ y. Clashes g nodes rows (slice_index firsts s) y u) (sym to) here))) in
+            let terminal = here.terminal in
+            let all = c.terminals-in-loop-state.ensures in
+            omega (arith, high, least, terminal, all)
+      ],
+    )
 
 pub returns-clause-none : goal.returns-clause-none
 returns-clause-none c =
@@ -100,4 +102,4 @@ returns-clause-none c =
     let a = c.args.automaton.now in
     let test = c.loop-state-test.false in
     quiet g c.sound.ensures c.requires.productive c.requires.entry (map (λ k. k.items) a.kernels.keys) a.cores.items a.moves.items a.origins.items c.requires.whole c.args.looks.now.layout.nodes.items c.args.looks.now.layout.firsts.items c.requires.laid c.args.looks.now.rows.rows c.requires.exact
-        (λ r u l. c.loop-state.invariant.1 r u (let end = c.len-state-end.ensures in let same = a.cores.ok.0 in omega (arith, l, test, end, same)))
+    (λ r u l. c.loop-state.invariant.1 r u (let end = c.len-state-end.ensures in let same = a.cores.ok.0 in omega (arith, l, test, end, same)))

@@ -14,10 +14,12 @@ origins-preserved c =
     let low : k < length origins = omega (arith, more, there) in
     let is : suc k ≡ at = omega (arith, more) in
     let back = c.requires.back k low in
-    let bound : (origin_at origins k).state ≤ length origins = omega (arith, back, low) in
-    (bound, λ w f.
-        let one = c.origins.invariant.1 ((origin_at origins k).symbol ∷ w) (subst (λ n. FoundBy origins n ((origin_at origins k).symbol ∷ w)) is (further k (origin_at origins k).state w low refl f)) in
-        subst (FoundBy origins c.args.state) (sym (append_assoc c.origins.symbols.items ((origin_at origins k).symbol ∷ []) w) ∙ ap (λ xs. xs ++ w) (sym c.in_ok-push.ensures.items)) one)
+    let bound : (origin_at origins k).state ≤ length origins = omega (arith, back, low) in (
+      bound,
+      λ w f.
+          let one = c.origins.invariant.1 ((origin_at origins k).symbol ∷ w) (subst (λ n. FoundBy origins n ((origin_at origins k).symbol ∷ w)) is (further k (origin_at origins k).state w low refl f)) in
+          subst (FoundBy origins c.args.state) (sym (append_assoc c.origins.symbols.items ((origin_at origins k).symbol ∷ []) w) ∙ ap (λ xs. xs ++ w) (sym c.in_ok-push.ensures.items)) one,
+    )
 
 pub returns : goal.returns
 returns c =

@@ -124,4 +124,4 @@ returns-in-None c =
     let to : c.index-to.result.now ≡ slice_index firsts (suc s) = get_or_read firsts (s + 1) c.index-to.result.now (omega (arith, low, count)) c.index-to.ensures 0 ∙ ap (slice_index firsts) next in
     let none : (k : ℕ) (a : Deed) → c.index-from.result.now ≤ k → k < c.index-to.result.now → Does g c.as_slice.result.now rows t k a → Some a ≡ None = c.in-None.ensures.none in
     stops g c.sound.ensures c.requires.made.productive entry kernels auto.cores.items auto.moves.items auto.origins.items nodes firsts rows full s t low
-        (λ k a l h does. none-some a (sym (none k a (subst (λ z. z ≤ k) (sym from) l) (subst (λ z. k < z) (sym to) h) (subst (λ (ns : List Node). Does g ns rows t k a) (sym value) does))))
+    (λ k a l h does. none-some a (sym (none k a (subst (λ z. z ≤ k) (sym from) l) (subst (λ z. k < z) (sym to) h) (subst (λ (ns : List Node). Does g ns rows t k a) (sym value) does))))

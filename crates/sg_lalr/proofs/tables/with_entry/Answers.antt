@@ -28,9 +28,9 @@ invariant_of-result c =
     let whole : IsWhole g kernels a.cores.items a.moves.items a.origins.items = rw c.in-Some.is at c.in_ok-automaton.ensures.whole in
     let quiet : IsQuiet g = rw c.in_default-2.is at c.in_ok-found.ensures.none in
     let all : IsMade g kernels a.cores.items a.moves.items a.origins.items l.layout.nodes.items l.layout.firsts.items l.rows.rows = record {
-        productive = c.requires.productive;
-        none = λ e. absurd (let some = c.requires.entry in omega (arith, some, e));
-        full = λ some. record { whole = whole; laid = c.in_ok-looks.ensures.laid; exact = c.in_ok-looks.ensures.exact; quiet = quiet; };
+      productive = c.requires.productive;
+      none = λ e. absurd (let some = c.requires.entry in omega (arith, some, e));
+      full = λ some. record { whole = whole; laid = c.in_ok-looks.ensures.laid; exact = c.in_ok-looks.ensures.exact; quiet = quiet };
     } in
     subst (λ (h : Grammar). IsMade h kernels a.cores.items a.moves.items a.origins.items l.layout.nodes.items l.layout.firsts.items l.rows.rows) (sym c.in_ok-grammar.ensures) all
 

@@ -6,9 +6,9 @@ use Rattle.sg_lalr.proofs.tables.without_entry.Goals as goal
 
 pub invariant_of-result : goal.invariant_of-result
 invariant_of-result c = record {
-    productive = subst AllProductive (sym c.in_ok-grammar.ensures) c.requires.productive;
-    none = λ e. c.new-2.ensures.items;
-    full = λ some. absurd (let none = ap (λ (g : Grammar). length g.entries) c.in_ok-grammar.ensures ∙ c.requires.none in omega (arith, some, none));
+  productive = subst AllProductive (sym c.in_ok-grammar.ensures) c.requires.productive;
+  none = λ e. c.new-2.ensures.items;
+  full = λ some. absurd (let none = ap (λ (g : Grammar). length g.entries) c.in_ok-grammar.ensures ∙ c.requires.none in omega (arith, some, none));
 }
 
 pub returns-clause-fit : goal.returns-clause-fit

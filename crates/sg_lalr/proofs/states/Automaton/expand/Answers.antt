@@ -25,7 +25,7 @@ symbols-init c =
     let deref = c.deref.ensures.value in
     record {
       expanding = start-row g cores.items core c.args.self.now.moves.items s here (map (λ k. k.items) keys) c.args.self.now.origins.items c.new-row.result.items c.next_symbol-x.result c.requires.part (omega (arith, next, here, long)) c.in_ok-core.ensures
-      (λ X h. c.next_symbol-x.ensures.least X (omega arith) (subst (λ l. HasNext g l X) (sym deref) h)) c.new-row.ensures.items;
+          (λ X h. c.next_symbol-x.ensures.least X (omega arith) (subst (λ l. HasNext g l X) (sym deref) h)) c.new-row.ensures.items;
       next = λ l. subst (λ r. HasNext g r c.next_symbol-x.result) deref (c.next_symbol-x.ensures.next l);
       cores = here;
       moves = omega (arith, moves, here);
@@ -55,10 +55,10 @@ symbols-preserved c =
     let low : c.symbols.x < g.symbols = omega arith in
     record {
       expanding = more-row g c.symbols.self.cores.items c.in_ok-core.core.items c.symbols.self.moves.items c.len-state.result c.symbols.invariant.cores (map (λ k. k.items) c.symbols.self.kernels.keys) (map (λ k. k.items) c.enter.new.kernels.keys) c.symbols.self.origins.items c.enter.new.origins.items
-      c.symbols.row.items c.push.new.self.items c.in_ok-kernel.kernel.items c.symbols.x next.result c.in-Some.target c.symbols.invariant.expanding (c.symbols.invariant.next low)
-      (elim (cases_lt next.result g.symbols) [ inl l ↦ (let b = next.ensures.bound l in omega (arith, b)) | inr h ↦ omega (arith, h, low) ])
-      (λ X l h. next.ensures.least X (omega (arith, l)) (subst (λ r. HasNext g r X) (sym deref2) h))
-      (c.in_ok-kernel.ensures ∙ ap (advance g c.symbols.x) deref) entered c.in_ok-push.ensures.items;
+          c.symbols.row.items c.push.new.self.items c.in_ok-kernel.kernel.items c.symbols.x next.result c.in-Some.target c.symbols.invariant.expanding (c.symbols.invariant.next low)
+          (elim (cases_lt next.result g.symbols) [ inl l ↦ (let b = next.ensures.bound l in omega (arith, b)) | inr h ↦ omega (arith, h, low) ])
+          (λ X l h. next.ensures.least X (omega (arith, l)) (subst (λ r. HasNext g r X) (sym deref2) h))
+          (c.in_ok-kernel.ensures ∙ ap (advance g c.symbols.x) deref) entered c.in_ok-push.ensures.items;
       next = λ l. subst (λ r. HasNext g r next.result) deref2 (next.ensures.next l);
       cores = c.symbols.invariant.cores;
       moves = c.symbols.invariant.moves;
