@@ -1,11 +1,9 @@
 -- First faults of declarations, and how many roots there are.
-use Rattle.std.proofs.Common.{◌≡◌, ℕ, suc, ◌+◌, ◌<◌, ◌≤◌, List, [], ◌∷◌, ◌++◌, length, map, flat_map, drop, get_or, Option, Some, None, refl, sym, ap, ◌∙◌, arith, length-append}
+use Rattle.std.proofs.Common.{◌≡◌, ℕ, ◌+◌, ◌<◌, ◌≤◌, List, [], ◌∷◌, ◌++◌, length, map, flat_map, drop, get_or, Option, Some, None, refl, sym, ap, ◌∙◌, arith, length-append}
 use Rattle.std.proofs.lemmas.List.{at_drop_more, at_drop_all}
 use Rattle.sg_ast.specs.FirstFault.{or_else, first}
 use Rattle.sg_ast.specs.View.{tree_of, trees_of}
 use Rattle.sg_ast.specs.declared.decl.Decl.{Decl}
-use Rattle.sg_ast.specs.declared.decl.Decl.TheVariants as decl
-use Rattle.sg_ast.specs.declared.name.Name.{Name}
 use Rattle.sg_ast.specs.Declarations as plain
 use Rattle.sg_names.specs.declared.table.Table.{Table}
 use Rattle.sg_names.specs.Shapes.{root_names, roots, list_shape_at, list_names, list_shape, optional_shape_at, optional_names, optional_shape, root_inherits_at, root_inherits}

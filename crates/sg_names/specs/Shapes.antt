@@ -1,11 +1,9 @@
 -- The faults of nonterminals' results, of the root, of lists and of optional phyla.
-use Rattle.std.specs.Prelude.{ℕ, Bool, true, false, not, ◌&&◌, if◌then◌else◌, nat_eq, length, count_by, List, [], ◌∷◌, flat_map, Option, Some, None, option_map, option_and_then, unwrap_or, slice_get}
+use Rattle.std.specs.Prelude.{ℕ, Bool, true, false, not, ◌&&◌, if◌then◌else◌, nat_eq, length, List, [], ◌∷◌, flat_map, Option, Some, None, option_map, option_and_then, unwrap_or, slice_get}
 use Rattle.std.specs.List.{list_any}
 use Rattle.sg_kinds.specs.Specification.{is_way_inherited, attrs_of, args_of}
-use Rattle.sg_kinds.specs.declared.marks.Way.TheVariants.{Synthesized, Inherited}
 use Rattle.sg_kinds.specs.declared.spec.Attr.{Attr}
 use Rattle.sg_kinds.specs.declared.spec.Phylum.{Phylum}
-use Rattle.sg_kinds.specs.declared.spec.Operator.{Operator}
 use Rattle.sg_kinds.specs.declared.fault.SpecFault.{SpecFault}
 use Rattle.sg_kinds.specs.declared.fault.SpecFault.TheVariants as fault
 use Rattle.sg_ast.specs.declared.name.Name.{Name}

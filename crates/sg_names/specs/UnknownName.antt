@@ -1,5 +1,5 @@
 -- A name that has no meaning where it stands.
-use Rattle.std.specs.Prelude.{ℕ, Bool, false, ◌||◌, if◌then◌else◌, List, Option, Some, None, is_some, option_and_then}
+use Rattle.std.specs.Prelude.{Bool, false, ◌||◌, if◌then◌else◌, List, Option, Some, None, is_some, option_and_then}
 use Rattle.sg_kinds.specs.Values.{Bytes}
 use Rattle.sg_kinds.specs.Specification.{has_shape, is_lexical_shape, is_leaf_shape}
 use Rattle.sg_kinds.specs.declared.fault.SpecFault.{SpecFault}
@@ -8,11 +8,10 @@ use Rattle.sg_ast.specs.declared.name.Name.{Name}
 use Rattle.sg_ast.specs.declared.name.Occurrence.TheVariants.{Own, Named}
 use Rattle.sg_ast.specs.declared.name.Occurrence.{Occurrence}
 use Rattle.sg_ast.specs.declared.name.Reference.{Reference}
-use Rattle.sg_ast.specs.declared.decl.Part.{Part}
 use Rattle.sg_ast.specs.Declarations.{Decl}
 use Rattle.sg_ast.specs.FirstFault.{first}
 use Rattle.sg_names.specs.declared.table.Table.{Table}
-use Rattle.sg_names.specs.Lookups.{phylum_named, usable_named, nonterminal_named, callable, operator_named, occurrence, reference, symbol, operand, symbol_type}
+use Rattle.sg_names.specs.Lookups.{phylum_named, usable_named, nonterminal_named, callable, occurrence, reference, symbol, operand, symbol_type}
 use Rattle.sg_names.specs.Names.{op_named}
 use Rattle.sg_names.specs.Uses.{Site, Use, InOperator, InProduction, Elsewhere, UsesPhylum, HasOperators, HasAttributes, UsesOperator, UsesSymbol, UsesResult, Refers, UsesVariable, Calls, Matches, is_visible, operator_at, uses}
 

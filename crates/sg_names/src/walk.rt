@@ -173,10 +173,10 @@ pub(crate) fn case(
     ensures scope { OnOk result (scope.new ≡ scope.old) }
     ensures found { OnOk result (found.new ≡ noted context.now.names.now found.old (uses.case_uses (site_of context.now.site) scope.old (pattern_of pattern.now) (expr_of body.now))) }
 {
-    let count = scope.len();
+    let visible = scope.len();
     self::pattern(context, scope, found, pattern)?;
     expr(context, scope, found, body)?;
-    scope.leave(count);
+    scope.leave(visible);
     Ok(())
 }
 

@@ -1,4 +1,4 @@
-use Rattle.std.proofs.Common.{◌≡◌, map, flat_map, fold, drop}
+use Rattle.std.proofs.Common.{◌≡◌, map, fold, drop}
 use Rattle.sg_kinds.specs.declared.spec.Local.{Local}
 use Rattle.sg_names.specs.Uses as uses
 use Rattle.sg_names.proofs.walked.local_scope.Given as goal

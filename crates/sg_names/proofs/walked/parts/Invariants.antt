@@ -1,4 +1,4 @@
-use Rattle.std.proofs.Common.{◌≡◌, map, flat_map, fold, drop}
+use Rattle.std.proofs.Common.{◌≡◌, flat_map, drop}
 use Rattle.sg_names.specs.Noted.{noted}
 use Rattle.sg_names.specs.Uses as uses
 use Rattle.sg_names.proofs.walked.parts.Given as goal
