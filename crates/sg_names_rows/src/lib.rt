@@ -1,0 +1,5 @@
+//! Tests of names and shapes over whole texts.
+#![tactic(auto)]
+
+#[cfg(test)]
+mod tests;
