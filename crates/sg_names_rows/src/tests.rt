@@ -1,13 +1,19 @@
 //! Faults of names and shapes, each as it is printed.
 use sg_kinds::fault::SpecFault;
+use sg_ast::decl::Decl;
+use sg_kinds::ids::{OpId, PhylumId};
+use sg_kinds::marks::{Shape, Unary};
+use sg_kinds::text::Text;
+use sg_names::names::Names;
 use sg_names::resolving::resolve_names;
+use sg_names::table::Callable;
 use sg_reader::read;
 use sg_text::lex;
 use std::alloc::Global;
 use std::test::Fail;
 
-/// The first fault of a text as its code, line and name, or `ok`.
-fn told(alloc: Global, text: &[u8]) -> Result<String, Fail> {
+/// The trees of a text.
+fn trees(alloc: Global, text: &[u8]) -> Result<Vec<Decl>, Fail> {
     if text.len() >= 1 << 32 {
         return Err("a long text")?;
     }
@@ -15,9 +21,15 @@ fn told(alloc: Global, text: &[u8]) -> Result<String, Fail> {
     if tokens.len() >= 1 << 32 {
         return Err("many tokens")?;
     }
-    let Ok(decls) = read(alloc, text, tokens.as_slice()) else {
-        return Err("no reading")?;
-    };
+    match read(alloc, text, tokens.as_slice()) {
+        Ok(decls) => Ok(decls),
+        Err(_) => Err("no reading")?,
+    }
+}
+
+/// The first fault of a text as its code, line and name, or `ok`.
+fn told(alloc: Global, text: &[u8]) -> Result<String, Fail> {
+    let decls = trees(alloc, text)?;
     let (code, place, name) = match resolve_names(alloc, &decls) {
         Ok(_) => return Ok(format!(in alloc; "ok")?),
         Err(SpecFault::RootCount(count)) => return Ok(format!(in alloc; "RootCount {count}")?),
@@ -116,5 +128,100 @@ fn whole_languages_resolve(rt: HostRuntime) -> Result<(), Fail> {
         let found = told(rt.alloc(), text)?;
         assert_eq!(rt; found.as_str(), "ok");
     }
+    Ok(())
+}
+
+/// The number of a phylum.
+fn phylum(alloc: Global, names: &Names, name: &[u8]) -> Result<PhylumId, Fail> {
+    let name = Text::from_slice(alloc, name)?;
+    Ok(names.phylum_named(&name).ok_or("no phylum")?)
+}
+
+/// The number of an operator.
+fn operator(alloc: Global, names: &Names, name: &[u8]) -> Result<OpId, Fail> {
+    let name = Text::from_slice(alloc, name)?;
+    Ok(names.op_named(&name).ok_or("no operator")?)
+}
+
+/// The shape of a phylum.
+fn shape(alloc: Global, names: &Names, name: &[u8]) -> Result<Shape, Fail> {
+    let phylum = phylum(alloc, names, name)?;
+    let found = names.table().phyla.place(phylum.number).ok_or("out of range")?;
+    Ok(found.shape)
+}
+
+#[test]
+fn the_tables_of_a_language(rt: HostRuntime) -> Result<(), Fail> {
+    let alloc = rt.alloc();
+    let decls = trees(alloc, LETS)?;
+    let Ok(names) = resolve_names(alloc, &decls) else {
+        return Err("a fault")?;
+    };
+    assert_eq!(rt; phylum(alloc, &names, b"STR")?.number, 2);
+    assert_eq!(rt; phylum(alloc, &names, b"prog")?.number, 3);
+    assert_eq!(rt; names.table().root.number, 3);
+    assert!(rt; shape(alloc, &names, b"INT")? == Shape::Numbers);
+    assert!(rt; shape(alloc, &names, b"stmts")? == Shape::Listed);
+    assert!(rt; shape(alloc, &names, b"stmt")? == Shape::Ordinary);
+    assert!(rt; shape(alloc, &names, b"ID")? == Shape::Lexemes(0));
+    assert!(rt; shape(alloc, &names, b"WHITESPACE")? == Shape::Lexemes(2));
+    let print = operator(alloc, &names, b"Print")?;
+    let pair = operator(alloc, &names, b"Stmts")?;
+    let stmts = phylum(alloc, &names, b"stmts")?;
+    assert_eq!(rt; names.args(pair).len(), 2);
+    assert!(rt; names.phylum_there(pair, 2) == Some(stmts));
+    assert!(rt; names.phylum_there(pair, 3).is_none());
+    assert_eq!(rt; names.locals(print).len(), 1);
+    let val = Text::from_slice(alloc, b"val")?;
+    assert_eq!(rt; names.local(print, &val), Some(0));
+    let out = Text::from_slice(alloc, b"out")?;
+    let stmt = phylum(alloc, &names, b"stmt")?;
+    assert_eq!(rt; names.attribute(stmt, &out), Some(1));
+    assert_eq!(rt; names.attrs(stmt).len(), 3);
+    assert!(rt; names.attribute_at(pair, 2, &out).is_none());
+    let pair_name = Text::from_slice(alloc, b"Stmts")?;
+    assert!(rt; names.operator_named(stmts, &pair_name) == Some(pair));
+    assert!(rt; names.operator_named(stmt, &pair_name).is_none());
+    let white = Text::from_slice(alloc, b"WHITESPACE")?;
+    assert!(rt; names.usable_named(&white).is_none());
+    let list = Text::from_slice(alloc, b"L")?;
+    assert_eq!(rt; names.nonterminal_named(&list), Some(1));
+    let t = Text::from_slice(alloc, b"t")?;
+    assert!(rt; names.symbol_type(&list, &t) == Some(stmts));
+    let look = Text::from_slice(alloc, b"look")?;
+    let look = names.callable(&look).ok_or("no function")?;
+    assert!(rt; look == Callable::Function(0));
+    assert_eq!(rt; names.arity(look), 2);
+    assert!(rt; names.param(look, 0) == Some(phylum(alloc, &names, b"ID")?));
+    let builtin = Callable::Builtin(Unary::TextLength);
+    assert!(rt; names.result(builtin) == Some(PhylumId { number: 1 }));
+    assert_eq!(rt; names.into_table().op_places.len(), 8);
+    Ok(())
+}
+
+/// The text around so many numbered names with commas between.
+fn around(alloc: Global, open: &str, count: usize, close: &str) -> Result<String, Fail> {
+    let mut text = format!(in alloc; "{open}")?;
+    for k in 0..count {
+        let name = format!(in alloc; "x{k},")?;
+        text.push_str(name.as_str())?;
+    }
+    text.push_str(close)?;
+    Ok(text)
+}
+
+#[test]
+fn a_mebibyte_takes_no_long_time(rt: HostRuntime) -> Result<(), Fail> {
+    let alloc = rt.alloc();
+    let open = "root r; r : A(); INT f(r a) { with (a) ( A(";
+    let text = around(alloc, open, 100_000, "x) : x, * : x0 ) };")?;
+    let found = told(alloc, text.as_bytes())?;
+    assert_eq!(rt; found.as_str(), "UnknownName line 1 x0");
+    let text = around(alloc, open, 100_000, "x) : x, * : 1 ) };")?;
+    let found = told(alloc, text.as_bytes())?;
+    assert_eq!(rt; found.as_str(), "Arity line 1 A");
+    let text = around(alloc, "root r; r : A(); INT f() { f(", 100_000, "1) };")?;
+    let found = told(alloc, text.as_bytes())?;
+    assert_eq!(rt; found.as_str(), "UnknownName line 1 x0");
     Ok(())
 }
