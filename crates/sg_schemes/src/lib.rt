@@ -5,3 +5,5 @@ pub mod laws;
 pub mod places;
 pub mod shown;
 pub mod strings;
+#[cfg(test)]
+mod tests;
