@@ -4,3 +4,5 @@
 pub mod grammar;
 mod named;
 pub mod numbering;
+#[cfg(test)]
+mod tests;
