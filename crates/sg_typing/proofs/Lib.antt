@@ -1,2 +1,4 @@
 pub mod CaseLemmas
 pub mod Smaller
+pub mod RecordTyped
+pub mod ExprTyped

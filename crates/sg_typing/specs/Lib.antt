@@ -12,3 +12,4 @@ pub mod Bodies
 pub mod BodiesView
 pub mod Shown
 pub mod Checked
+pub mod Written

@@ -7,6 +7,7 @@ mod bodies;
 mod checking;
 mod expr;
 mod found;
+pub mod laws;
 mod operators;
 mod pattern;
 mod scope;
