@@ -2,25 +2,31 @@
 ghost use Rattle.std.specs.Prelude.{◌≡◌, ℕ, List, ◌++◌, Some, None, is_some, true};
 ghost use Rattle.sg_ast.specs.Expressions.{Expr};
 ghost use Rattle.sg_ast.specs.Patterns.{Pattern};
-ghost use Rattle.sg_kinds.specs.Typing.{bound_types, type_of};
+ghost use Rattle.sg_kinds.specs.Typing.{bound_types, type_of, types_at};
+ghost use Rattle.sg_kinds.specs.declared.spec.Occurrence.{Occurrence};
 ghost use Rattle.sg_names.specs.declared.table.Table.{Table};
 ghost use Rattle.sg_typing.specs.declared.scope.Variable.{Variable};
-ghost use Rattle.sg_typing.specs.Bindings.{Owner};
+ghost use Rattle.sg_typing.specs.Bindings.{Owner, OfEquation};
 ghost use Rattle.sg_typing.specs.Drafted.{drafted};
 ghost use Rattle.sg_typing.specs.Expressions as expr;
 ghost use Rattle.sg_typing.specs.Patterns.{mismatch_in, recorded, variables_of};
-ghost use Rattle.sg_typing.specs.Written.{HasValues, AreWritten, IsUsable, HasLists, AreCallable, AreOutside, known};
+ghost use Rattle.sg_typing.specs.Written.{HasValues, AreWritten, HasLists, AreOutside, known};
 
 /// A pattern without a mismatch binds its variables in the record too, each with its type.
-#[tactic(auto, using(crate::proofs::RecordTyped::pattern_typed))]
+#[tactic(auto, using(crate::proofs::Kept::pattern_kept))]
 pub fn patterns_are_typed()
-    ensures { (t : Table) (q : Pattern) (p : ℕ) → IsUsable t → HasValues q → mismatch_in t q (Some p) ≡ None → bound_types (drafted t) (recorded t q) p ≡ known (variables_of t q (Some p)) }
+    ensures { (t : Table) (q : Pattern) (p : ℕ) → HasValues q → mismatch_in t q (Some p) ≡ None → bound_types (drafted t) (recorded t q) p ≡ known (variables_of t q (Some p)) }
 {}
 
-/// An expression without a mismatch has a type, and its expression in the record has the same, where the bindings have the
-/// types of what names them.
-#[tactic(auto, using(crate::proofs::ExprTyped::expr_type_kept, crate::proofs::ExprTyped::expr_has_type))]
+/// An expression without a mismatch has a type, and its expression in the record has the same, where the bindings before the
+/// variables have the types of what names them.
+#[tactic(auto, using(crate::proofs::Kept::expr_kept, crate::proofs::Kept::expr_typed))]
 pub fn expressions_are_typed()
-    ensures kept { (t : Table) → IsUsable t → HasLists t → AreCallable t → (w : Owner) (outer : List ℕ) → AreOutside t w outer → (vs : List Variable) (types : List ℕ) (e : Expr) → known vs ≡ Some types → AreWritten e → expr.mismatch_in t w vs e ≡ None → type_of (drafted t) (outer ++ types) (expr.recorded t w vs e) ≡ expr.type_in t w vs e }
-    ensures typed { (t : Table) → IsUsable t → HasLists t → AreCallable t → (w : Owner) (outer : List ℕ) → AreOutside t w outer → (vs : List Variable) (types : List ℕ) (e : Expr) → known vs ≡ Some types → AreWritten e → expr.mismatch_in t w vs e ≡ None → is_some (expr.type_in t w vs e) ≡ true }
+    ensures kept { (t : Table) → HasLists t → (w : Owner) (outer : List ℕ) → AreOutside t w outer → (vs : List Variable) (types : List ℕ) (e : Expr) → known vs ≡ Some types → AreWritten e → expr.mismatch_in t w vs e ≡ None → type_of (drafted t) (outer ++ types) (expr.recorded t w vs e) ≡ expr.type_in t w vs e }
+    ensures typed { (t : Table) → HasLists t → (w : Owner) (outer : List ℕ) → AreOutside t w outer → (vs : List Variable) (types : List ℕ) (e : Expr) → known vs ≡ Some types → AreWritten e → expr.mismatch_in t w vs e ≡ None → is_some (expr.type_in t w vs e) ≡ true }
+{}
+
+/// The bindings of an equation have the types of its arguments' slots.
+pub fn equations_have_arguments()
+    ensures { (t : Table) (op : ℕ) (args : List Occurrence) (types : List ℕ) → types_at (drafted t) op args ≡ Some types → AreOutside t (OfEquation op args) types }
 {}
