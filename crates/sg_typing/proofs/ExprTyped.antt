@@ -1,17 +1,15 @@
 -- Expressions of the record have the types that were found, where nothing mismatches.
-use Rattle.std.proofs.Common.{◌≡◌, refl, sym, ap, subst, ◌∙◌, arith, ℕ, zero, suc, ◌+◌, ◌<◌, pos, Bool, true, false, cond, nat_eq, List, [], ◌∷◌, ◌++◌, map, length, Option, Some, None, slice_get, append_assoc}
-use Rattle.std.specs.Prelude.{◌^◌, ◌&&◌, option_map, option_and_then, unwrap_or, is_some, bytes_eq}
-use Rattle.std.specs.List.{position}
+use Rattle.std.proofs.Common.{◌≡◌, refl, sym, ap, subst, ◌∙◌, ℕ, zero, suc, ◌+◌, Bool, true, false, List, [], ◌∷◌, ◌++◌, map, length, Option, Some, None, slice_get, append_assoc}
+use Rattle.std.specs.Prelude.{◌^◌, ◌&&◌, option_map, option_and_then, unwrap_or, is_some}
 use Rattle.std.proofs.Math.Nat.{suc-add, zero-add}
 use Rattle.std.proofs.lemmas.Option.{slice_get_within}
 use Rattle.sg_kinds.proofs.Pooled.{slice_get-left}
-use Rattle.sg_kinds.specs.Values.{Bytes, is_text}
-use Rattle.sg_kinds.specs.Specification.{truths, numbers, texts, args_of, phylum_of, has_shape, is_list_shape}
+use Rattle.sg_kinds.specs.Values.{Bytes}
+use Rattle.sg_kinds.specs.Specification.{truths, numbers, texts, has_shape, is_list_shape}
 use Rattle.sg_kinds.specs.Typing as typing
 use Rattle.sg_kinds.specs.Typing.{type_of, all_fit, rest_fits, case_type, bound_types, unary_type, is_found}
 use Rattle.sg_kinds.specs.Expressions as kept
 use Rattle.sg_kinds.specs.declared.fault.Position.{Position}
-use Rattle.sg_kinds.specs.declared.spec.Function.{Function}
 use Rattle.sg_kinds.specs.declared.marks.Unary.{Unary}
 use Rattle.sg_kinds.specs.declared.marks.Unary.TheVariants as unary
 use Rattle.sg_ast.specs.FirstFault.{or_else}
@@ -25,20 +23,19 @@ use Rattle.sg_ast.specs.declared.expr.Infix.TheVariants.{Or, And, Equal, Unequal
 use Rattle.sg_ast.specs.declared.expr.Prefix.{Prefix}
 use Rattle.sg_ast.specs.declared.expr.Prefix.TheVariants.{Minus, Not}
 use Rattle.sg_names.specs.declared.table.Table.{Table}
-use Rattle.sg_names.specs.declared.table.Signature.{Signature}
 use Rattle.sg_names.specs.declared.table.Callable.{Callable}
 use Rattle.sg_names.specs.declared.table.Callable.TheVariants as callable
 use Rattle.sg_names.specs.Names.{op_named}
 use Rattle.sg_names.specs.Lookups as look
 use Rattle.sg_typing.specs.declared.scope.Variable as scope
 use Rattle.sg_typing.specs.Drafted.{drafted, without_body}
-use Rattle.sg_typing.specs.Types.{unless, untyped, is_accepted, do_agree, list_of, list_at}
+use Rattle.sg_typing.specs.Types.{unless, is_accepted, do_agree, list_of, list_at}
 use Rattle.sg_typing.specs.Scopes.{found, place_of}
 use Rattle.sg_typing.specs.Bindings.{Owner, outside, behind, reference_at, local_at, variable_at, type_there, place_there}
 use Rattle.sg_typing.specs.Patterns.{variables_of, variables_of_all}
 use Rattle.sg_typing.specs.Patterns as pattern
-use Rattle.sg_typing.specs.Expressions.{type_in, mismatch_in, mismatch_in_all, mismatch_in_cases, recorded, recorded_all, recorded_cases, where_wanted, at_infix, given, taken, infix_in, prefix_type, prefix_of, surplus, only_in, params_in, at_cons, pair_in, called_in, called_type}
-use Rattle.sg_typing.specs.Written.{HasValues, AreWritten, AreWrittenAll, AreWrittenCases, IsUsable, HasLists, AreOutside, IsCallable, AreCallable, is_builtin, known}
+use Rattle.sg_typing.specs.Expressions.{type_in, mismatch_in, mismatch_in_all, mismatch_in_cases, recorded, recorded_all, recorded_cases, where_wanted, at_infix, given, infix_in, prefix_type, prefix_of, params_in, at_cons, pair_in, called_in, called_type}
+use Rattle.sg_typing.specs.Written.{AreWritten, AreWrittenAll, AreWrittenCases, IsUsable, HasLists, AreOutside, IsCallable, AreCallable, is_builtin, known}
 use Rattle.sg_typing.proofs.RecordTyped.{neither, unless_is, untyped_is, below_is, equal_to, known-append, pattern_typed}
 
 -- places in lists that are joined

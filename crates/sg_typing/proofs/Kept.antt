@@ -1,8 +1,7 @@
 -- The laws of what is kept of declarations, over every table.
 use Rattle.std.proofs.Common.{◌≡◌, ℕ, true, List, ◌++◌, Some, None}
 use Rattle.std.specs.Prelude.{is_some}
-use Rattle.sg_kinds.specs.Typing.{type_of, bound_types, types_at}
-use Rattle.sg_kinds.specs.declared.spec.Occurrence.{Occurrence}
+use Rattle.sg_kinds.specs.Typing.{type_of, bound_types}
 use Rattle.sg_ast.specs.Patterns.{Pattern}
 use Rattle.sg_ast.specs.Expressions.{Expr}
 use Rattle.sg_names.specs.declared.table.Table.{Table}

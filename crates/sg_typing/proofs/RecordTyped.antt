@@ -1,10 +1,9 @@
 -- The record that is made is typed as its definitions want, where nothing mismatches.
-use Rattle.std.proofs.Common.{◌≡◌, refl, sym, ap, subst, ◌∙◌, arith, ℕ, zero, suc, ◌+◌, ◌<◌, ℤ, pos, Bool, true, false, cond, nat_eq, List, [], ◌∷◌, ◌++◌, map, length, Option, Some, None, slice_get}
-use Rattle.std.specs.Prelude.{◌^◌, ◌&&◌, ◌||◌, nat_lt, option_map, option_and_then, unwrap_or}
+use Rattle.std.proofs.Common.{◌≡◌, refl, sym, arith, ℕ, zero, suc, ◌<◌, Bool, true, false, nat_eq, List, [], ◌∷◌, ◌++◌, Option, Some, None}
+use Rattle.std.specs.Prelude.{◌^◌, nat_lt, option_map, option_and_then, unwrap_or}
 use Rattle.std.proofs.lemmas.Bool.Decides.{nat_tests}
-use Rattle.sg_kinds.specs.Values as value
-use Rattle.sg_kinds.specs.Values.{is_text, is_number}
-use Rattle.sg_kinds.specs.Specification.{truths, numbers, texts, args_of, phylum_of}
+use Rattle.sg_kinds.specs.Values.{is_number}
+use Rattle.sg_kinds.specs.Specification.{truths, numbers}
 use Rattle.sg_kinds.specs.Typing.{only_if, constant_type, constant_fits, bound_types, bound_types_all, is_textual, is_usable}
 use Rattle.sg_kinds.specs.Typing as typing
 use Rattle.sg_kinds.specs.Expressions as kept

@@ -1,12 +1,12 @@
 -- What holds of every table of names, and of the arguments of equations.
-use Rattle.std.proofs.Common.{◌≡◌, refl, sym, ap, subst, ◌∙◌, arith, ℕ, zero, suc, Bool, true, false, cond, nat_eq, List, [], ◌∷◌, length, Option, Some, None, slice_get, get_or}
+use Rattle.std.proofs.Common.{◌≡◌, refl, sym, ap, subst, ◌∙◌, arith, ℕ, zero, suc, Bool, true, false, nat_eq, List, [], ◌∷◌, length, Option, Some, None, slice_get, get_or}
 use Rattle.std.specs.Prelude.{◌&&◌, not, if◌then◌else◌, option_map, option_and_then, unwrap_or, bytes_eq, codes}
 use Rattle.std.specs.List.{position}
 use Rattle.std.proofs.lemmas.List.Quantifiers.{position-Some}
 use Rattle.std.proofs.lemmas.Option.{slice_get-get_or}
 use Rattle.std.proofs.lemmas.Slice.Eq.{bytes_eq-Decides}
 use Rattle.sg_kinds.specs.Values.{Bytes}
-use Rattle.sg_kinds.specs.Specification.{phylum_of, has_shape, is_lexical_shape}
+use Rattle.sg_kinds.specs.Specification.{has_shape, is_lexical_shape}
 use Rattle.sg_kinds.specs.Typing.{is_usable, slot_type, types_at}
 use Rattle.sg_kinds.specs.declared.marks.Unary.{Unary}
 use Rattle.sg_kinds.specs.declared.marks.Unary.TheVariants.{TextToNumber, NumberToText, TextLength}
@@ -20,7 +20,7 @@ use Rattle.sg_names.specs.declared.table.Table.{Table}
 use Rattle.sg_names.specs.declared.table.Callable.{Callable}
 use Rattle.sg_names.specs.declared.table.Callable.TheVariants as callable
 use Rattle.sg_names.specs.Names.{op_named}
-use Rattle.sg_names.specs.Lookups.{phylum_named, usable_named, is_whitespace, function_named, builtin_named, reference, local}
+use Rattle.sg_names.specs.Lookups.{phylum_named, is_whitespace, function_named, builtin_named, reference}
 use Rattle.sg_typing.specs.Drafted.{drafted}
 use Rattle.sg_typing.specs.Bindings.{OfEquation, is_at, argument, local_slot}
 use Rattle.sg_typing.specs.Written.{IsUsable, IsCallable, AreCallable, AreOutside, is_builtin}
@@ -88,6 +88,7 @@ usable_is t n p h = by (phylum_named t n) refl h
         let x = position_there (λ (y : Phylum). bytes_eq n y.name) t.phyla q e in
         let name : n ≡ x.0.name = names_same n x.0.name x.2 in
         subst (λ k. is_usable (drafted t) k ≡ true) same (usable_there t q x.0 x.1 (subst (λ m. is_whitespace t q m ≡ false) name w))
+
     by : (o : Option ℕ) → phylum_named t n ≡ o → option_and_then (λ q. if is_whitespace t q n then None else Some q) o ≡ Some p → is_usable (drafted t) p ≡ true
     by None e f = cc
     by (Some q) e f = white q e (is_whitespace t q n) refl f
@@ -146,6 +147,7 @@ equation_outside t op args A h = record {
     references : (r : Reference) (x : ℕ × Option ℕ) (o : Option Occurrence) → option_and_then (λ (o : Occurrence). argument t op args o.at o.slot) o ≡ Some x → slice_get A x.0 ≡ x.1
     references r x None g = cc
     references r x (Some o) g = argument_typed t op args A o.at o.slot x h g
+
     locals : (x : ℕ × Option ℕ) (s : Option ℕ) → option_and_then (argument t op args 0) s ≡ Some x → slice_get A x.0 ≡ x.1
     locals x None g = cc
     locals x (Some s) g = argument_typed t op args A 0 s x h g

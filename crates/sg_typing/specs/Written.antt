@@ -1,5 +1,5 @@
 -- Trees whose literals are values, and variables whose types are known.
-use Rattle.std.specs.Prelude.{◌≡◌, ℕ, ◌^◌, ◌<◌, Bool, true, false, List, [], ◌∷◌, Option, Some, None, option_map, option_and_then, slice_get, length, ⊤}
+use Rattle.std.specs.Prelude.{◌≡◌, ℕ, ◌^◌, ◌<◌, Bool, true, false, List, [], ◌∷◌, Option, Some, option_map, option_and_then, slice_get, length, ⊤}
 use Rattle.sg_kinds.specs.Values.{Bytes, is_text}
 use Rattle.sg_kinds.specs.Typing.{is_usable}
 use Rattle.sg_ast.specs.Patterns.{Pattern, Patterns, NoPattern, AndPattern}
