@@ -22,7 +22,10 @@ enum Sign {
 use Sign::{Lexical, Nonterminal, Quoted};
 
 const WRITTEN: [(u32, &[Sign]); 4] = [
-    (0, &[Quoted(b"let"), Lexical(0), Quoted(b"="), Nonterminal(1)]),
+    (
+        0,
+        &[Quoted(b"let"), Lexical(0), Quoted(b"="), Nonterminal(1)],
+    ),
     (1, &[Nonterminal(1), Quoted(b"+"), Lexical(0)]),
     (1, &[Lexical(0), Quoted(b"=")]),
     (0, &[]),
