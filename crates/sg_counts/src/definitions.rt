@@ -38,7 +38,7 @@ pub(crate) struct Key<'a> {
 
 /// How a name is defined.
 #[derive(Clone, Copy, PartialEq, Eq)]
-pub(crate) enum Form {
+pub enum Form {
     Operators,
     Productions,
     Alone,
@@ -46,7 +46,7 @@ pub(crate) enum Form {
 
 /// A definition, and the place of its token.
 #[derive(Clone, Copy)]
-pub(crate) struct Definition<K> {
+pub struct Definition<K> {
     pub key: K,
     pub form: Form,
     pub place: Position,

@@ -3,7 +3,7 @@
 #![tactic(auto)]
 
 mod crowds;
-mod definitions;
+pub mod definitions;
 pub mod duplicates;
 pub mod limits;
 #[cfg(test)]

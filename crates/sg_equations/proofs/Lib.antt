@@ -1,3 +1,8 @@
 mod Places
 mod Ordered
 mod Below
+mod Counts
+mod RuleKeys
+mod Completed
+mod RuleTypes
+pub mod RulesSound

@@ -14,7 +14,8 @@ use Rattle.sg_ast.specs.FirstFault.{first, first_of, first_repeat}
 use Rattle.sg_names.specs.declared.table.Table.{Table}
 use Rattle.sg_equations.specs.declared.targets.Defined.{Defined}
 use Rattle.sg_equations.specs.Targets.{defined_in}
-use Rattle.sg_equations.specs.Owed.{owes, spec_with}
+use Rattle.sg_names.specs.Drafted.{drafted}
+use Rattle.sg_equations.specs.Owed.{owes}
 
 -- an equation that defines what its operator does not owe
 abbrev pub not_owed : Table → Defined → Option SpecFault
@@ -42,7 +43,7 @@ abbrev pub lacks_slot : Table → List Defined → ℕ → ℕ → ℕ → Bool
 lacks_slot t defs op k slot = let o = occurrence k slot in owes t op o && not (is_defined defs op o)
 
 abbrev pub lacks_at : Table → List Defined → ℕ → ℕ → Bool
-lacks_at t defs op k = list_any (lacks_slot t defs op k) (below (length (slots_there (spec_with t) op k)))
+lacks_at t defs op k = list_any (lacks_slot t defs op k) (below (length (slots_there (drafted t) op k)))
 
 abbrev pub lacks : Table → List Defined → ℕ → Bool
 lacks t defs op = list_any (lacks_at t defs op) (below (suc (length (args_of t.ops op))))

@@ -1,19 +1,12 @@
 -- The rules of the record: one for each equation, in the order of the text.
-use Rattle.std.specs.Prelude.{ℕ, suc, ◌+◌, List, [], ◌∷◌, ◌++◌, length, slice_get, Option, Some, None, option_map, unwrap_or}
+use Rattle.std.specs.Prelude.{ℕ, suc, ◌+◌, List, [], ◌∷◌, ◌++◌, slice_get, Option, Some, None, option_map, unwrap_or}
 use Rattle.sg_kinds.specs.declared.spec.Occurrence.{Occurrence}
 use Rattle.sg_kinds.specs.declared.spec.Rule.{Rule}
-use Rattle.sg_ast.specs.Declarations.{Decl, Equation, Equations, Function, Transform, Productions}
+use Rattle.sg_ast.specs.Declarations.{Decl, Equation, Equations}
 use Rattle.sg_names.specs.declared.table.Table.{Table}
 use Rattle.sg_typing.specs.declared.bodies.TypedExpr.{TypedExpr}
+use Rattle.sg_typing.specs.Bodies.{expr_count}
 use Rattle.sg_equations.specs.Targets.{operator_of, target_of}
-
--- how many expressions of the record a declaration has
-abbrev pub expr_count : Decl → ℕ
-expr_count (Equations p op locals es) = length es
-expr_count (Function of n params e) = 1
-expr_count (Transform p title q e) = 1
-expr_count (Productions n rights) = length rights
-expr_count d = 0
 
 -- what an expression of the record names
 abbrev pub args_of : List TypedExpr → ℕ → List Occurrence

@@ -2,6 +2,7 @@
 #![tactic(auto)]
 
 mod completeness;
+pub mod laws;
 mod narrow;
 mod owed;
 mod rules_of;

@@ -3,7 +3,8 @@ ghost use Rattle.std.specs.Prelude.{◌≡◌, ◌<◌, ◌^◌, length};
 ghost use Rattle.sg_kinds.specs.Dependencies.{phylum_there as there};
 ghost use Rattle.sg_kinds.specs.Specification.{rules_of};
 ghost use Rattle.sg_kinds.specs.Typing.{slots_there};
-ghost use Rattle.sg_equations.specs.Owed.{owes as owes_by, spec_with};
+ghost use Rattle.sg_names.specs.Drafted.{drafted};
+ghost use Rattle.sg_equations.specs.Owed.{owes as owes_by};
 ghost use Rattle.sg_equations.specs.Targets.{IsNarrow};
 
 use sg_kinds::ids::{OpId, PhylumId};
@@ -13,7 +14,7 @@ use sg_names::names::Names;
 
 /// The phylum at an occurrence of an operator: 0 is the left side, k + 1 argument k.
 fn phylum_there(names: &Names, op: OpId, at: u32) -> Option<PhylumId>
-    ensures { result ≡ there (rules_of (spec_with names.now)) op at }
+    ensures { result ≡ there (rules_of (drafted names.now)) op at }
 {
     let operator = names.table().ops.place(op.number)?;
     if at == 0 {
@@ -27,7 +28,7 @@ fn phylum_there(names: &Names, op: OpId, at: u32) -> Option<PhylumId>
 pub fn slot_count(names: &Names, op: OpId, at: u32) -> usize
     requires { IsNarrow names.now }
     ensures short { result < 2 ^ 32 }
-    ensures count { result ≡ length (slots_there (spec_with names.now) op at) }
+    ensures count { result ≡ length (slots_there (drafted names.now) op at) }
 {
     let attrs = match phylum_there(names, op, at) {
         Some(phylum) => names.attrs(phylum).len(),

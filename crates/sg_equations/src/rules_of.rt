@@ -15,20 +15,8 @@ use sg_kinds::memory::NoMemory;
 use sg_kinds::row::Row;
 use sg_kinds::spec::{Occurrence, Rule};
 use sg_names::names::Names;
-use sg_typing::{Typed, TypedExpr};
+use sg_typing::{Typed, TypedExpr, expr_count};
 use std::alloc::Global;
-
-/// How many expressions of the record a declaration has.
-fn expr_count(decl: &Decl) -> usize
-    ensures { result ≡ spec.expr_count (tree_of decl.now) }
-{
-    match decl {
-        Decl::Equations(_, _, _, equations) => equations.len(),
-        Decl::Function(..) | Decl::Transform(..) => 1,
-        Decl::Productions(_, rights) => rights.len(),
-        _ => 0,
-    }
-}
 
 /// What an expression of the record names.
 fn args_of(alloc: Global, exprs: &[TypedExpr], k: usize) -> Result<Row<Occurrence>, NoMemory>

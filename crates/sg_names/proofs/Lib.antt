@@ -8,5 +8,7 @@ pub mod Owned
 pub mod Written
 pub mod TableMade
 pub mod Roots
-pub mod ScopeLaws
+pub mod SeenLaws
 pub mod NotedLaws
+pub mod DraftedLaws
+pub mod OpPlaces

@@ -14,3 +14,5 @@ pub mod Shapes
 pub mod Noted
 pub mod SiteView
 pub mod Resolved
+pub mod Drafted
+pub mod Seen

@@ -1,10 +1,9 @@
--- The rows of names and shapes in their order, but limits and duplicates, which come before them, and completions.
+-- The rows of names and shapes in their order, before and after the row of completions.
 use Rattle.std.specs.Prelude.{List, Option}
 use Rattle.sg_kinds.specs.declared.fault.SpecFault.{SpecFault}
 use Rattle.sg_ast.specs.Declarations.{Decl}
 use Rattle.sg_ast.specs.FirstFault.{or_else}
 use Rattle.sg_names.specs.declared.table.Table.{Table}
-use Rattle.sg_names.specs.Names.{names_of}
 use Rattle.sg_names.specs.UnknownName.{unknown_name}
 use Rattle.sg_names.specs.TwiceBound.{twice_bound}
 use Rattle.sg_names.specs.Arity.{arity}
@@ -17,10 +16,3 @@ shape_rows t ds = or_else (unknown_name t ds) (or_else (result_count t) (or_else
 -- the rows after it
 abbrev pub binding_rows : Table → List Decl → Option SpecFault
 binding_rows t ds = or_else (root_inherits t ds) (or_else (twice_bound t ds) (arity t ds))
-
--- the first fault of these rows
-abbrev pub names_rows : Table → List Decl → Option SpecFault
-names_rows t ds = or_else (shape_rows t ds) (binding_rows t ds)
-
-unfoldable pub names_fault : List Decl → Option SpecFault
-names_fault ds = names_rows (names_of ds) ds

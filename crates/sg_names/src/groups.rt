@@ -9,7 +9,7 @@ use std::mem;
 
 /// The things of each owner.
 #[derive(Drop)]
-pub(crate) struct Groups<T> {
+pub struct Groups<T> {
     pub rows: Vec<Vec<T>>,
 }
 

@@ -13,7 +13,7 @@ use std::marker::Model;
 
 /// A phylum or nonterminal as it is first defined, and whether that is by a lexeme's pattern.
 #[derive(Drop)]
-pub(crate) struct Head {
+pub struct Head {
     pub name: Text,
     pub place: Position,
     pub lexical: bool,

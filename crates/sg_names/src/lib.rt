@@ -4,10 +4,11 @@
 mod callables;
 mod definitions;
 pub mod found;
-mod groups;
-mod heads;
+pub mod groups;
+pub mod heads;
 mod index;
 mod known;
+pub mod laws;
 pub mod names;
 mod occurrences;
 mod owners;

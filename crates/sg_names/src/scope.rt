@@ -2,23 +2,28 @@
 ghost use Rattle.std.specs.Prelude.{◌≡◌, [], length, take, OnOk};
 ghost use Rattle.sg_names.specs.Uses.{is_visible, with_variable};
 
-use indexmap::IndexSet;
 use sg_kinds::memory::NoMemory;
 use std::alloc::Global;
+use std::collections::BTreeSet;
 use std::marker::Model;
 
-/// The names that are visible, in the order in which they were bound. Contracts see their list.
+/// The names that are visible, in the order in which they were bound, beside an ordered set of them: an author may write
+/// many. Contracts see their list.
 #[derive(Drop)]
 pub(crate) struct Scope {
-    names: IndexSet<Vec<u8>>,
+    names: Vec<Vec<u8>>,
+    seen: BTreeSet<Vec<u8>>,
 }
 
 impl Model for Scope {
     ghost use Rattle.std.specs.Prelude.{List, ℕ, map};
+    ghost use Rattle.sg_names.specs.Seen.{IsSeen};
 
     ghost Value = { List (List ℕ) };
 
-    ghost view = { λ s. map (λ v. v.items) s.names.keys };
+    ghost view = { λ s. map (λ v. v.items) s.names.items };
+
+    ghost invariant = { λ s. IsSeen (map (λ v. v.items) s.names.items) s.seen };
 }
 
 impl Scope {
@@ -27,7 +32,8 @@ impl Scope {
         ensures { result ≡ [] }
     {
         Scope {
-            names: IndexSet::new(alloc),
+            names: Vec::new(alloc),
+            seen: BTreeSet::new(alloc),
         }
     }
 
@@ -39,27 +45,38 @@ impl Scope {
     }
 
     /// Whether a name is visible.
-    #[tactic(auto, using(crate::proofs::ScopeLaws::seen))]
     pub fn has(&self, name: &[u8]) -> bool
         ensures { result ≡ is_visible self.now name.now }
     {
-        self.names.contains(name)
+        self.seen.contains(name)
     }
 
     /// Makes a name visible.
-    #[tactic(auto, using(crate::proofs::ScopeLaws::bound))]
     pub fn bind(&mut self, alloc: Global, name: &[u8]) -> Result<(), NoMemory>
         ensures { OnOk result (self.new ≡ with_variable self.old name.now) }
     {
-        self.names.insert(Vec::from_slice(alloc, name)?)?;
-        Ok(())
+        if self.seen.contains(name) {
+            return Ok(());
+        }
+        let key = Vec::from_slice(alloc, name)?;
+        self.names.push(Vec::from_slice(alloc, name)?)?;
+        match self.seen.insert(key) {
+            Ok(_) => Ok(()),
+            Err(_) => {
+                self.names.pop();
+                Err(NoMemory)
+            }
+        }
     }
 
     /// Leaves the first names alone.
-    #[tactic(auto, using(crate::proofs::ScopeLaws::left))]
     pub fn leave(&mut self, count: usize)
         ensures { self.new ≡ take count self.old }
     {
-        self.names.truncate(count);
+        while self.names.len() > count {
+            if let Some(name) = self.names.pop() {
+                self.seen.remove(name.as_slice());
+            }
+        }
     }
 }

@@ -28,7 +28,7 @@ use Rattle.sg_names.specs.declared.table.Callable.TheVariants as callable
 use Rattle.sg_names.specs.Names.{op_named}
 use Rattle.sg_names.specs.Lookups as look
 use Rattle.sg_typing.specs.declared.scope.Variable as scope
-use Rattle.sg_typing.specs.Drafted.{drafted, without_body}
+use Rattle.sg_names.specs.Drafted.{drafted, without_body}
 use Rattle.sg_typing.specs.Types.{unless, is_accepted, do_agree, list_of, list_at}
 use Rattle.sg_typing.specs.Scopes.{found, place_of}
 use Rattle.sg_typing.specs.Bindings.{Owner, outside, behind, reference_at, local_at, variable_at, type_there, place_there}
@@ -39,10 +39,10 @@ use Rattle.sg_typing.specs.Written.{AreWritten, AreWrittenAll, AreWrittenCases, 
 use Rattle.sg_typing.proofs.RecordTyped.{neither, unless_is, untyped_is, below_is, equal_to, known-append, pattern_typed}
 
 -- places in lists that are joined
-left : {A : Type 0} (xs ys : List A) (k : ℕ) (x : A) → slice_get xs k ≡ Some x → slice_get (xs ++ ys) k ≡ Some x
+pub left : {A : Type 0} (xs ys : List A) (k : ℕ) (x : A) → slice_get xs k ≡ Some x → slice_get (xs ++ ys) k ≡ Some x
 left xs ys k x h = slice_get-left xs ys k (slice_get_within xs k x h) ∙ h
 
-right : {A : Type 0} (xs ys : List A) (k : ℕ) → slice_get (xs ++ ys) (length xs + k) ≡ slice_get ys k
+pub right : {A : Type 0} (xs ys : List A) (k : ℕ) → slice_get (xs ++ ys) (length xs + k) ≡ slice_get ys k
 right [] ys k = rw (zero-add k) refl
 right (x ∷ xs) ys k = rw (suc-add (length xs) k) (right xs ys k)
 

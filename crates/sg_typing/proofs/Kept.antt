@@ -6,7 +6,7 @@ use Rattle.sg_ast.specs.Patterns.{Pattern}
 use Rattle.sg_ast.specs.Expressions.{Expr}
 use Rattle.sg_names.specs.declared.table.Table.{Table}
 use Rattle.sg_typing.specs.declared.scope.Variable.{Variable}
-use Rattle.sg_typing.specs.Drafted.{drafted}
+use Rattle.sg_names.specs.Drafted.{drafted}
 use Rattle.sg_typing.specs.Bindings.{Owner}
 use Rattle.sg_typing.specs.Patterns as pattern
 use Rattle.sg_typing.specs.Expressions.{type_in, mismatch_in, recorded}

@@ -4,3 +4,7 @@ pub mod RecordTyped
 pub mod ExprTyped
 pub mod TableFacts
 pub mod Kept
+pub mod FirstPlaces
+pub mod ArgsTyped
+pub mod BodyTyped
+pub mod ListsThere

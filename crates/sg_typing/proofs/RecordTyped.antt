@@ -15,7 +15,7 @@ use Rattle.sg_names.specs.declared.table.Table.{Table}
 use Rattle.sg_names.specs.Lookups.{usable_named}
 use Rattle.sg_names.specs.Names.{op_named}
 use Rattle.sg_typing.specs.declared.scope.Variable as scope
-use Rattle.sg_typing.specs.Drafted.{drafted}
+use Rattle.sg_names.specs.Drafted.{drafted}
 use Rattle.sg_typing.specs.Types.{unless, untyped, is_accepted}
 use Rattle.sg_typing.specs.Patterns.{is_wanted, takes_texts, is_operator_of, parts_of, mismatch_in, mismatch_in_all, variables_of, variables_of_all, recorded, recorded_all, signed}
 use Rattle.sg_typing.specs.Written.{HasValues, HaveValues, IsUsable, known}

@@ -21,13 +21,13 @@ use Rattle.sg_names.specs.declared.table.Callable.{Callable}
 use Rattle.sg_names.specs.declared.table.Callable.TheVariants as callable
 use Rattle.sg_names.specs.Names.{op_named}
 use Rattle.sg_names.specs.Lookups.{phylum_named, is_whitespace, function_named, builtin_named, reference}
-use Rattle.sg_typing.specs.Drafted.{drafted}
+use Rattle.sg_names.specs.Drafted.{drafted}
 use Rattle.sg_typing.specs.Bindings.{OfEquation, is_at, argument, local_slot}
 use Rattle.sg_typing.specs.Written.{IsUsable, IsCallable, AreCallable, AreOutside, is_builtin}
 use Rattle.sg_typing.proofs.RecordTyped.{equal_is}
 
 -- what stands at the first place that passes
-position_there : {A : Type 0} (test : A → Bool) (xs : List A) (k : ℕ) → position test xs ≡ Some k → (x : A) × (slice_get xs k ≡ Some x) × (test x ≡ true)
+pub position_there : {A : Type 0} (test : A → Bool) (xs : List A) (k : ℕ) → position test xs ≡ Some k → (x : A) × (slice_get xs k ≡ Some x) × (test x ≡ true)
 position_there test [] k h = cc
 position_there test (x ∷ xs) k h =
     let b = position-Some test (x ∷ xs) k x h in

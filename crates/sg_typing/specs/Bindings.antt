@@ -14,7 +14,7 @@ use Rattle.sg_names.specs.declared.table.Table.{Table}
 use Rattle.sg_names.specs.declared.table.Operand.{Operand}
 use Rattle.sg_names.specs.Lookups.{local, reference, operand, phylum_there}
 use Rattle.sg_typing.specs.declared.scope.Variable.{Variable}
-use Rattle.sg_typing.specs.Drafted.{drafted}
+use Rattle.sg_names.specs.Drafted.{drafted}
 use Rattle.sg_typing.specs.Scopes.{found}
 
 -- where an expression stands: in an equation of an operator, whose arguments are these occurrences; in an input production;

@@ -1,5 +1,5 @@
 -- The expressions and patterns of declarations: what is kept of them, and their first mismatch.
-use Rattle.std.specs.Prelude.{ℕ, List, [], ◌∷◌, map, flat_map, slice_get, Option, Some, None, option_map, option_and_then, unwrap_or}
+use Rattle.std.specs.Prelude.{ℕ, List, [], ◌∷◌, map, length, flat_map, slice_get, Option, Some, None, option_map, option_and_then, unwrap_or}
 use Rattle.sg_kinds.specs.Expressions as kept
 use Rattle.sg_kinds.specs.Typing.{slot_type}
 use Rattle.sg_kinds.specs.declared.fault.Position.{Position}
@@ -17,7 +17,7 @@ use Rattle.sg_names.specs.declared.table.Table.{Table}
 use Rattle.sg_names.specs.Lookups.{phylum_named, operator_named, reference, symbol_attrs}
 use Rattle.sg_typing.specs.declared.scope.Variable.{Variable}
 use Rattle.sg_typing.specs.declared.bodies.TypedExpr.{TypedExpr}
-use Rattle.sg_typing.specs.Drafted.{drafted}
+use Rattle.sg_names.specs.Drafted.{drafted}
 use Rattle.sg_typing.specs.Bindings.{Owner, OfEquation, OfProduction, OfNothing, local_slot}
 use Rattle.sg_typing.specs.Arguments.{args_in}
 use Rattle.sg_typing.specs.Expressions.{type_in, mismatch_at, recorded}
@@ -84,6 +84,14 @@ exprs_at t (Function of n params e) = function_typed t params e ∷ []
 exprs_at t (Transform n title q e) = transform_typed t n q e ∷ []
 exprs_at t (Productions n rights) = map (right_typed t n) rights
 exprs_at t d = []
+
+-- how many expressions of the record a declaration has
+abbrev pub expr_count : Decl → ℕ
+expr_count (Equations p op locals es) = length es
+expr_count (Function of n params e) = 1
+expr_count (Transform p title q e) = 1
+expr_count (Productions n rights) = length rights
+expr_count d = 0
 
 abbrev pub patterns_at : Table → Decl → List kept.Pattern
 patterns_at t (Transform n title q e) = pattern.recorded t q ∷ []

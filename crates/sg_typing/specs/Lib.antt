@@ -1,4 +1,3 @@
-pub mod Drafted
 pub mod Types
 pub mod Scopes
 pub mod Patterns

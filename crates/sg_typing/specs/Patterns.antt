@@ -12,7 +12,7 @@ use Rattle.sg_names.specs.declared.table.Table.{Table}
 use Rattle.sg_names.specs.Lookups.{usable_named}
 use Rattle.sg_names.specs.Names.{op_named}
 use Rattle.sg_typing.specs.declared.scope.Variable as scope
-use Rattle.sg_typing.specs.Drafted.{drafted}
+use Rattle.sg_names.specs.Drafted.{drafted}
 use Rattle.sg_typing.specs.Types.{unless, is_accepted}
 
 -- whether the type that is wanted is this one; whether texts are of it

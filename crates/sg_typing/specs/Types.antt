@@ -5,7 +5,7 @@ use Rattle.sg_kinds.specs.Specification.{args_of, has_shape, is_list_shape}
 use Rattle.sg_kinds.specs.Typing.{agree, is_found}
 use Rattle.sg_kinds.specs.declared.fault.Position.{Position}
 use Rattle.sg_names.specs.declared.table.Table.{Table}
-use Rattle.sg_typing.specs.Drafted.{drafted}
+use Rattle.sg_names.specs.Drafted.{drafted}
 
 -- the place, where a fact does not hold
 abbrev pub unless : Bool → Position → Option Position

@@ -1,11 +1,12 @@
 -- Trees whose literals are values, and variables whose types are known.
-use Rattle.std.specs.Prelude.{◌≡◌, ℕ, ◌^◌, ◌<◌, Bool, true, false, List, [], ◌∷◌, Option, Some, option_map, option_and_then, slice_get, length, ⊤}
+use Rattle.std.specs.Prelude.{◌≡◌, ℕ, ◌^◌, ◌<◌, Bool, true, false, List, [], ◌∷◌, Option, Some, option_map, option_and_then, slice_get, length, All, ⊤}
 use Rattle.sg_kinds.specs.Values.{Bytes, is_text}
 use Rattle.sg_kinds.specs.Typing.{is_usable}
 use Rattle.sg_ast.specs.Patterns.{Pattern, Patterns, NoPattern, AndPattern}
 use Rattle.sg_ast.specs.Patterns as p
 use Rattle.sg_ast.specs.Expressions.{Expr, Exprs, Cases, NoExpr, AndExpr, NoCase, Default, Case}
 use Rattle.sg_ast.specs.Expressions as e
+use Rattle.sg_ast.specs.Declarations.{Decl, Equation, Right, Equations, Function, Transform, Productions}
 use Rattle.sg_names.specs.declared.table.Table.{Table}
 use Rattle.sg_names.specs.declared.table.Signature.{Signature}
 use Rattle.sg_names.specs.declared.table.Callable.{Callable}
@@ -16,7 +17,7 @@ use Rattle.sg_names.specs.Lookups.{usable_named, callable as callable_named}
 use Rattle.sg_typing.specs.declared.scope.Variable.{Variable}
 use Rattle.sg_kinds.specs.Specification.{phylum_of, args_of}
 use Rattle.sg_ast.specs.declared.name.Reference.{Reference}
-use Rattle.sg_typing.specs.Drafted.{drafted}
+use Rattle.sg_names.specs.Drafted.{drafted}
 use Rattle.sg_typing.specs.Types.{list_at}
 use Rattle.sg_typing.specs.Bindings.{Owner, outside, reference_at, local_at}
 
@@ -59,6 +60,14 @@ abbrev mutual
   AreWrittenCases NoCase = ⊤
   AreWrittenCases (Default a) = AreWritten a
   AreWrittenCases (Case q a cs) = HasValues q × AreWritten a × AreWrittenCases cs
+
+-- a declaration whose expressions and pattern are so
+abbrev pub IsWritten : Decl → Type 0
+IsWritten (Equations n op locals es) = All (λ (q : Equation). AreWritten q.expr) es
+IsWritten (Function of n params a) = AreWritten a
+IsWritten (Transform n title q a) = HasValues q × AreWritten a
+IsWritten (Productions n rights) = All (λ (r : Right). AreWritten r.expr) rights
+IsWritten d = ⊤
 
 -- the types of variables, where all are known
 abbrev pub known : List Variable → Option (List ℕ)

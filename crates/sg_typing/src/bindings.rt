@@ -3,7 +3,7 @@ ghost use Rattle.std.specs.Prelude.{◌≡◌, ◌-◌, ◌<◌, count_by, lengt
 ghost use Rattle.std.specs.List.{position};
 ghost use Rattle.sg_kinds.specs.Typing.{slot_type};
 ghost use Rattle.sg_typing.specs.Bindings as spec;
-ghost use Rattle.sg_typing.specs.Drafted.{drafted};
+ghost use Rattle.sg_names.specs.Drafted.{drafted};
 ghost use Rattle.sg_typing.specs.OwnersView.{owner_of};
 
 use crate::scope::Scope;
@@ -56,7 +56,7 @@ fn attrs_there(names: &Names, op: OpId, at: u32) -> &[Attr]
 }
 
 /// The slot of a local, which stands behind the attributes of the left side.
-pub(crate) fn local_slot(names: &Names, op: OpId, name: &Text) -> Option<usize>
+pub fn local_slot(names: &Names, op: OpId, name: &Text) -> Option<usize>
     ensures { result ≡ spec.local_slot names.now op name.now }
 {
     let place = names.local(op, name)?;

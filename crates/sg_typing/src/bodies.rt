@@ -61,6 +61,18 @@ pub(crate) struct Bodies {
     pub patterns: Vec<Pattern>,
 }
 
+/// How many expressions of the record a declaration has.
+pub fn expr_count(decl: &Decl) -> usize
+    ensures { result ≡ spec.expr_count (tree_of decl.now) }
+{
+    match decl {
+        Decl::Equations(_, _, _, equations) => equations.len(),
+        Decl::Function(..) | Decl::Transform(..) => 1,
+        Decl::Productions(_, rights) => rights.len(),
+        _ => 0,
+    }
+}
+
 fn walked(names: &Names, found: Found, wanted: &Option<PhylumId>, args: Vec<Occurrence>) -> Checked
     ensures typed { result.typed ≡ record { expr = view.expr_of found.tree; of = unwrap_or found.of 0; args = args.items } }
     ensures mismatch { result.mismatch ≡ where_wanted names.now wanted.now found.of found.place found.mismatch }

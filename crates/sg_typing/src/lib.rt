@@ -16,5 +16,7 @@ mod shown;
 mod tests;
 mod types;
 
-pub use bodies::TypedExpr;
+pub use bindings::local_slot;
+pub use bodies::{TypedExpr, expr_count};
 pub use checking::{Typed, check};
+pub use types::is_accepted;

@@ -1,27 +1,13 @@
 //! The variables that are visible.
-ghost use Rattle.std.specs.Prelude.{◌≡◌, ◌++◌, ◌∷◌, [], length, take, bytes_eq, OnOk, OnErr};
-ghost use Rattle.sg_typing.specs.Scopes.{found, place_of};
+ghost use Rattle.std.specs.Prelude.{◌≡◌, ◌++◌, ◌∷◌, [], length, take, OnOk, OnErr};
+ghost use Rattle.sg_typing.specs.Scopes.{found};
 
 use sg_kinds::ids::PhylumId;
 use sg_kinds::memory::NoMemory;
 use sg_kinds::text::Text;
 use std::alloc::Global;
+use std::collections::BTreeMap;
 use std::marker::Model;
-
-fn is(name: &Text, other: &Text) -> bool
-    ensures { result ≡ bytes_eq name.now other.now }
-{
-    name.as_slice() == other.as_slice()
-}
-
-/// The place of the first variable of a name.
-fn place_of(variables: &[Variable], name: &Text) -> Option<usize>
-    ensures { result ≡ place_of variables.now name.now }
-{
-    variables
-        .iter()
-        .position(|variable| is(name, &variable.name))
-}
 
 /// A variable, and its type if it has one.
 #[derive(Drop)]
@@ -30,19 +16,25 @@ pub(crate) struct Variable {
     pub of: Option<PhylumId>,
 }
 
-/// The variables that are visible, which contracts see as a list from the outermost on.
+/// The variables that are visible, which contracts see as a list from the outermost on, beside an ordered map of their first
+/// places: an author may write many.
 #[derive(Drop)]
 pub(crate) struct Scope {
+    alloc: Global,
     variables: Vec<Variable>,
+    places: BTreeMap<Vec<u8>, usize>,
 }
 
 impl Model for Scope {
     ghost use Rattle.std.specs.Prelude.{List};
+    ghost use Rattle.sg_typing.specs.Scopes.{AreFirst};
     ghost use Rattle.sg_typing.specs.declared.scope.Variable.{Variable};
 
     ghost Value = { List Variable };
 
     ghost view = { λ s. s.variables.items };
+
+    ghost invariant = { λ s. AreFirst s.variables.items s.places };
 }
 
 impl Scope {
@@ -51,7 +43,9 @@ impl Scope {
         ensures { result ≡ [] }
     {
         Scope {
+            alloc,
             variables: Vec::new(alloc),
+            places: BTreeMap::new(alloc),
         }
     }
 
@@ -67,22 +61,41 @@ impl Scope {
         ensures ok { OnOk result (self.new ≡ self.old ++ variable ∷ []) }
         ensures err { OnErr result (self.new ≡ self.old) }
     {
+        if self.places.contains_key(variable.name.as_slice()) {
+            self.variables.push(variable)?;
+            return Ok(());
+        }
+        let place = self.variables.len();
+        let key = Vec::from_slice(self.alloc, variable.name.as_slice())?;
         self.variables.push(variable)?;
-        Ok(())
+        match self.places.insert(key, place) {
+            Ok(_) => Ok(()),
+            Err(_) => {
+                self.variables.pop();
+                Err(NoMemory)
+            }
+        }
     }
 
     /// Leaves the first variables.
     pub fn leave(&mut self, count: usize)
         ensures { self.new ≡ take count self.old }
     {
-        self.variables.truncate(count);
+        while self.variables.len() > count {
+            if let Some(variable) = self.variables.pop() {
+                let first = self.places.get(variable.name.as_slice()).copied();
+                if first == Some(self.variables.len()) {
+                    self.places.remove(variable.name.as_slice());
+                }
+            }
+        }
     }
 
     /// The place of the first variable of a name, and its type.
     pub fn find(&self, name: &Text) -> Option<(usize, Option<PhylumId>)>
         ensures { result ≡ found self.now name.now }
     {
-        let place = place_of(&self.variables, name)?;
+        let place = *self.places.get(name.as_slice())?;
         let variable = self.variables.get(place)?;
         Some((place, variable.of))
     }

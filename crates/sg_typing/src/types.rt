@@ -1,7 +1,7 @@
 //! When types fit.
 ghost use Rattle.std.specs.Prelude.{◌≡◌, unwrap_or};
 ghost use Rattle.sg_ast.specs.FirstFault.{or_else};
-ghost use Rattle.sg_typing.specs.Drafted.{drafted};
+ghost use Rattle.sg_names.specs.Drafted.{drafted};
 ghost use Rattle.sg_typing.specs.Types as spec;
 ghost use Rattle.sg_typing.specs.Patterns.{is_wanted, takes_texts};
 ghost use Rattle.sg_kinds.specs.Typing as typing;
@@ -93,11 +93,7 @@ pub(crate) fn takes_texts(names: &Names, wanted: &Option<PhylumId>) -> bool
 }
 
 /// Whether a type is accepted where another is wanted: itself, and a lexeme phylum where STR is.
-pub(crate) fn is_accepted(
-    names: &Names,
-    wanted: &Option<PhylumId>,
-    found: &Option<PhylumId>,
-) -> bool
+pub fn is_accepted(names: &Names, wanted: &Option<PhylumId>, found: &Option<PhylumId>) -> bool
     ensures { result ≡ spec.is_accepted names.now wanted.now found.now }
 {
     match (wanted, found) {
