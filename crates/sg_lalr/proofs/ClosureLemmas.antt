@@ -1,15 +1,14 @@
 -- The items of a kernel with what it opens are those of its closure.
-use Rattle.std.proofs.Common.{◌≡◌, ℕ, zero, suc, ◌+◌, ◌<◌, ◌≤◌, ◌⊎◌, inl, inr, Bool, true, false, List, [], ◌∷◌, ◌++◌, length, get_or, replicate, refl, sym, ap, ◌∙◌, subst, arith, Option, Some, None}
-use Rattle.std.specs.Prelude.{◌↔◌, Contains, All, slice_get, option_map, unwrap_or}
+use Rattle.std.proofs.Common.{◌≡◌, ℕ, zero, suc, ◌<◌, ◌⊎◌, inl, inr, Bool, false, List, [], ◌∷◌, ◌++◌, length, replicate, refl, sym, ap, ◌∙◌, subst, arith, Some}
+use Rattle.std.specs.Prelude.{◌↔◌, Contains, slice_get, option_map, unwrap_or}
 use Rattle.std.proofs.lemmas.Bool.{false≢true}
-use Rattle.std.proofs.lemmas.List.{length-append}
-use Rattle.std.proofs.lemmas.Option.{slice_get_within, same_Some, none-some}
+use Rattle.std.proofs.lemmas.Option.{slice_get_within, none-some}
 use Rattle.std.proofs.lemmas.List.Elements.{All-contains}
 use Rattle.sg_sets.specs.Members.{Has}
 use Rattle.sg_grammar.specs.declared.grammar.Production.{Production}
 use Rattle.sg_grammar.specs.Grammar.{Grammar, right_of, symbol_at}
-use Rattle.sg_lalr.specs.Items.{Item, item, symbol_of, IsRising}
-use Rattle.sg_lalr.specs.Closure.{In, kept, opened, InRange, IsKernel, IsClosure, HasLeft, Corner, same, further, Opens, OpensAt, IsOpened}
+use Rattle.sg_lalr.specs.Items.{Item, item, IsRising}
+use Rattle.sg_lalr.specs.Closure.{In, kept, opened, InRange, IsKernel, IsClosure, Corner, same, further, OpensAt, IsOpened}
 use Rattle.sg_lalr.proofs.RisingLemmas.{All-contained}
 
 pub slice_get-front : {X : Type 0} (xs ys : List X) (n : ℕ) (x : X) → slice_get xs n ≡ Some x → slice_get (xs ++ ys) n ≡ Some x

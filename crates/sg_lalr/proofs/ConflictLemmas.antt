@@ -1,10 +1,10 @@
 -- Conflicts of prefixes are those of their states.
-use Rattle.std.proofs.Common.{◌≡◌, ◌≢◌, ℕ, zero, suc, ◌+◌, ◌<◌, ◌≤◌, ◌⊎◌, inl, inr, Bool, List, [], ◌∷◌, length, get_or, refl, sym, ap, ◌∙◌, subst, arith, Option, Some, None}
-use Rattle.std.specs.Prelude.{◌↔◌, Contains, AllPairs, slice_get, slice_index}
+use Rattle.std.proofs.Common.{◌≡◌, ◌≢◌, ℕ, suc, ◌+◌, ◌<◌, ◌≤◌, ◌⊎◌, inl, inr, Bool, List, [], ◌∷◌, length, get_or, sym, ap, ◌∙◌, subst, arith, None}
+use Rattle.std.specs.Prelude.{Contains, slice_get, slice_index}
 use Rattle.std.proofs.lemmas.Bool.{cases_lt}
-use Rattle.std.proofs.lemmas.Option.{same_Some, none-some, slice_get_within, slice_get-get_or}
+use Rattle.std.proofs.lemmas.Option.{none-some, slice_get_within, slice_get-get_or}
 use Rattle.sg_sets.specs.Rows.{Holds}
-use Rattle.sg_grammar.specs.Grammar.{Grammar, right_of, symbol_at}
+use Rattle.sg_grammar.specs.Grammar.{Grammar, right_of}
 use Rattle.sg_grammar.specs.WellFormed.{IsWellFormed}
 use Rattle.sg_grammar.specs.Derives.{AllProductive}
 use Rattle.sg_lalr.specs.declared.states.Move.{Move}
@@ -12,9 +12,9 @@ use Rattle.sg_lalr.specs.declared.states.Origin.{Origin}
 use Rattle.sg_lalr.specs.declared.lookaheads.Node.{Node}
 use Rattle.sg_lalr.specs.declared.conflict.Deed.{Deed}
 use Rattle.sg_lalr.specs.declared.conflict.Deed.TheVariants.{Shifts, Reduces}
-use Rattle.sg_lalr.specs.ValidItems.{Valid, start, close, step, InCore, Viable, SameCore, Looks}
+use Rattle.sg_lalr.specs.ValidItems.{Valid, start, close, step, InCore, Viable, Looks}
 use Rattle.sg_lalr.specs.Items.{Item, item, Before, symbol_of}
-use Rattle.sg_lalr.specs.Automaton.{row_at, goto, IsWhole, state_of, FoundBy}
+use Rattle.sg_lalr.specs.Automaton.{row_at, IsWhole, state_of, FoundBy}
 use Rattle.sg_lalr.specs.Prefixes.{Less}
 use Rattle.sg_lalr.specs.Lookaheads.{Triple, node, node_at, IsLaid, AreLookaheads}
 use Rattle.sg_lalr.specs.Conflict.{Acts, Conflict, LeastConflict, IsQuiet}

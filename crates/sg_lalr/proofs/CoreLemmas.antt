@@ -1,7 +1,6 @@
 -- Cores and the kernels from which they are closed, where each symbol derives some tokens.
-use Rattle.std.proofs.Common.{◌≡◌, ℕ, zero, suc, ◌+◌, ◌<◌, ◌≤◌, ◌⊎◌, inl, inr, List, [], ◌∷◌, ◌++◌, length, get_or, drop, refl, sym, ap, ◌∙◌, subst, arith, Option, Some, None}
-use Rattle.std.specs.Prelude.{◌↔◌, Contains, All, slice_get}
-use Rattle.std.proofs.lemmas.Bool.{cases_lt}
+use Rattle.std.proofs.Common.{◌≡◌, ℕ, zero, suc, ◌+◌, ◌<◌, List, [], ◌∷◌, ◌++◌, length, get_or, drop, refl, sym, subst, arith, Some}
+use Rattle.std.specs.Prelude.{◌↔◌, Contains, All}
 use Rattle.std.proofs.lemmas.List.{append-nil}
 use Rattle.std.proofs.lemmas.List.Elements.{All-drop, All-contains, All-head, All-tail}
 use Rattle.std.proofs.lemmas.Option.{slice_get_within}
@@ -10,11 +9,11 @@ use Rattle.sg_grammar.specs.Grammar.{Grammar, right_of, symbol_at}
 use Rattle.sg_grammar.specs.WellFormed.{IsWellFormed}
 use Rattle.sg_grammar.specs.Derives.{AllProductive}
 use Rattle.sg_lalr.specs.Least.{Grown, nothing, passes, under}
-use Rattle.sg_lalr.specs.ValidItems.{Begins, behind, here, inside, Valid, start, close, step, InCore, Viable, SameCore}
-use Rattle.sg_lalr.specs.Items.{Item, item, symbol_of, HasNext, moved, advance, IsRising}
-use Rattle.sg_lalr.specs.Closure.{In, kept, opened, InRange, IsKernel, IsClosure}
-use Rattle.sg_lalr.specs.Automaton.{starts_from, start_items}
-use Rattle.sg_lalr.proofs.RisingLemmas.{advance-from, advance-has, rising-same, Contains-front, Contains-behind, Contains-cons, Contains-nil}
+use Rattle.sg_lalr.specs.ValidItems.{Begins, behind, here, inside, Valid, start, close, step, InCore, SameCore}
+use Rattle.sg_lalr.specs.Items.{Item, item, advance}
+use Rattle.sg_lalr.specs.Closure.{In, kept, opened, IsKernel, IsClosure}
+use Rattle.sg_lalr.specs.Automaton.{start_items}
+use Rattle.sg_lalr.proofs.RisingLemmas.{advance-from, advance-has, rising-same}
 use Rattle.sg_lalr.proofs.StartLemmas.{starts-from, starts-has}
 use Rattle.sg_lalr.proofs.MoveLemmas.{right_of-fits}
 use Rattle.sg_lalr.proofs.ProductiveLemmas.{grown-productive}

@@ -1,12 +1,12 @@
 -- Lemmas on the terminals with which strings begin.
-use Rattle.std.proofs.Common.{◌≡◌, ℕ, zero, suc, ◌+◌, ◌-◌, ◌<◌, ◌≤◌, ◌⊎◌, inl, inr, Bool, true, false, List, [], ◌∷◌, ◌++◌, length, get_or, take, drop, refl, sym, ap, ◌∙◌, subst, arith, Option, Some, None}
+use Rattle.std.proofs.Common.{◌≡◌, ℕ, zero, suc, ◌+◌, ◌<◌, ◌≤◌, ◌⊎◌, inl, inr, Bool, List, [], ◌∷◌, ◌++◌, length, get_or, take, refl, sym, ap, ◌∙◌, subst, arith, Some}
 use Rattle.std.specs.Prelude.{◌↔◌, Contains, All, slice_get}
-use Rattle.std.proofs.lemmas.Bool.{cases_lt, cases_eq}
-use Rattle.std.proofs.lemmas.List.{take_more, take_all, append-nil}
-use Rattle.std.proofs.lemmas.List.Elements.{Contains-push, Contains-push_cases, Contains-append_left, All-head, All-tail, Contains-get_or}
+use Rattle.std.proofs.lemmas.Bool.{cases_lt}
+use Rattle.std.proofs.lemmas.List.{take_more, append-nil}
+use Rattle.std.proofs.lemmas.List.Elements.{Contains-push, Contains-push_cases, Contains-append_left, Contains-get_or}
 use Rattle.std.proofs.lemmas.Option.{slice_get_within, same_Some, none-some, slice_get-get_or, get_or_from_slice_get}
 use Rattle.sg_sets.specs.Members.{Has}
-use Rattle.sg_sets.specs.Paths.{Leads, Path, Reaches, Linked}
+use Rattle.sg_sets.specs.Paths.{Leads, Reaches, Linked}
 use Rattle.sg_sets.specs.Rows.{Holds, AreRows}
 use Rattle.sg_sets.proofs.PathsLemmas.{Reaches-step}
 use Rattle.sg_grammar.specs.declared.grammar.Production.{Production}
@@ -15,7 +15,7 @@ use Rattle.sg_grammar.specs.WellFormed.{IsRule, IsWellFormed}
 use Rattle.sg_lalr.specs.Least.{Grown, nothing, passes, under}
 use Rattle.sg_lalr.specs.ValidItems.{Begins, behind, here, inside}
 use Rattle.sg_lalr.specs.Firsts.{First, itself, within, Firsts, StandsBehind, StandsBelow, IsNullable}
-use Rattle.sg_lalr.proofs.CoreLemmas.{grown-onto, grown-all}
+use Rattle.sg_lalr.proofs.CoreLemmas.{grown-all}
 
 stands-later : (set : List Bool) (Xs : List ℕ) (n Y : ℕ) → StandsBelow set Xs n Y → StandsBelow set Xs (n + 1) Y
 stands-later set Xs n Y h = (h.0, (let l = h.1 in omega (arith, l)), h.2, h.3)

@@ -17,3 +17,5 @@ pub mod LookLemmas
 pub mod ClashLemmas
 pub mod ConflictLemmas
 pub mod TableLemmas
+pub mod TableLaws
+pub mod FaultLaws

@@ -1,32 +1,31 @@
 -- Lemmas on the lookaheads of nodes.
-use Rattle.std.proofs.Common.{◌≡◌, ℕ, zero, suc, ◌+◌, ◌-◌, ◌<◌, ◌≤◌, ◌⊎◌, inl, inr, Bool, true, false, List, [], ◌∷◌, ◌++◌, length, get_or, take, drop, map, refl, sym, ap, ◌∙◌, subst, arith, Option, Some, None}
-use Rattle.std.specs.Prelude.{◌↔◌, Contains, All, slice_get, slice_index}
-use Rattle.std.proofs.lemmas.Bool.{cases_lt}
+use Rattle.std.proofs.Common.{◌≡◌, ℕ, suc, ◌-◌, ◌<◌, ◌≤◌, ◌⊎◌, inl, inr, Bool, List, [], ◌∷◌, length, take, drop, refl, sym, ap, ◌∙◌, subst, arith, Some, None}
+use Rattle.std.specs.Prelude.{◌↔◌, Contains, All, slice_index}
 use Rattle.std.proofs.lemmas.List.{append-nil}
-use Rattle.std.proofs.lemmas.List.Elements.{All-drop, Contains-get_or, All-contains}
+use Rattle.std.proofs.lemmas.List.Elements.{All-drop, All-contains}
 use Rattle.std.proofs.lemmas.Option.{same_Some, none-some, slice_get_within, get_or_from_slice_get}
 use Rattle.sg_sets.specs.Members.{Has}
-use Rattle.sg_sets.specs.Paths.{Leads, Path, Reaches, Linked}
-use Rattle.sg_sets.specs.Rows.{Holds, AreRows}
+use Rattle.sg_sets.specs.Paths.{Leads, Reaches, Linked}
+use Rattle.sg_sets.specs.Rows.{Holds}
 use Rattle.sg_sets.proofs.PathsLemmas.{Reaches-step}
 use Rattle.sg_grammar.specs.declared.grammar.Production.{Production}
-use Rattle.sg_grammar.specs.Grammar.{Grammar, right_of, symbol_at}
-use Rattle.sg_grammar.specs.WellFormed.{IsRule, IsWellFormed}
+use Rattle.sg_grammar.specs.Grammar.{Grammar, right_of}
+use Rattle.sg_grammar.specs.WellFormed.{IsWellFormed}
 use Rattle.sg_grammar.specs.Derives.{AllProductive}
 use Rattle.sg_lalr.specs.declared.states.Move.{Move}
 use Rattle.sg_lalr.specs.declared.states.Origin.{Origin}
 use Rattle.sg_lalr.specs.declared.lookaheads.Node.{Node}
 use Rattle.sg_lalr.specs.Least.{Grown}
-use Rattle.sg_lalr.specs.ValidItems.{Begins, behind, Valid, start, close, step, InCore, Viable, SameCore, Looks}
+use Rattle.sg_lalr.specs.ValidItems.{Begins, behind, Valid, start, close, step, Viable}
 use Rattle.sg_lalr.specs.Items.{Item, item, HasNext, symbol_of, moved}
-use Rattle.sg_lalr.specs.Closure.{InRange, HasLeft, IsClosure}
-use Rattle.sg_lalr.specs.Automaton.{row_at, goto, IsPart, IsWhole, state_of, IsBehind}
+use Rattle.sg_lalr.specs.Closure.{InRange, HasLeft}
+use Rattle.sg_lalr.specs.Automaton.{row_at, goto, IsWhole, state_of}
 use Rattle.sg_lalr.specs.Firsts.{First, Firsts, StandsBehind, IsNullable}
 use Rattle.sg_lalr.specs.Lookaheads.{Triple, starts, closes, steps, node, node_at, IsLaid, rest_of, BeginsWith, MovesTo, OpensTo, FlowsTo, Gives, IsStart}
 use Rattle.sg_lalr.proofs.MoveLemmas.{right_of-fits}
 use Rattle.sg_lalr.proofs.FirstLemmas.{null-front, front-null, firsts-begins, begins-firsts, null-begins}
 use Rattle.sg_lalr.proofs.LinkLemmas.{RangedTo}
-use Rattle.sg_lalr.proofs.StateLemmas.{found-some, found-state, found-viable, core-of-state, state-of-viable, same-state, same-core}
+use Rattle.sg_lalr.proofs.StateLemmas.{found-some, found-state, found-viable, core-of-state, state-of-viable}
 
 -- the nodes of a state are those between its places
 pub in-range : (cores : List (List Item)) (nodes : List Node) (firsts : List ℕ) → IsLaid cores nodes firsts → (s m : ℕ) → s < length cores → m < length nodes → (node_at nodes m).state ≡ s → (slice_index firsts s ≤ m) × (m < slice_index firsts (suc s))

@@ -1,14 +1,13 @@
 -- Lemmas on the symbols behind the dots of items.
 use Rattle.std.proofs.Common.{◌≡◌, ℕ, zero, suc, ◌+◌, ◌^◌, ◌<◌, ◌≤◌, ◌⊎◌, inl, inr, Bool, true, false, cond, List, [], ◌∷◌, ◌++◌, length, get_or, take, map, refl, sym, ap, ◌∙◌, subst, arith, Option, Some, None}
-use Rattle.std.specs.Prelude.{◌↔◌, Contains, All, slice_get, option_map, unwrap_or, nat_eq, filter, IfSome}
-use Rattle.std.proofs.lemmas.Bool.{cases_lt}
-use Rattle.std.proofs.lemmas.List.{take_more, take_all}
+use Rattle.std.specs.Prelude.{All, slice_get, option_map, unwrap_or, filter, IfSome}
+use Rattle.std.proofs.lemmas.List.{take_more}
 use Rattle.std.proofs.lemmas.List.Elements.{All-append, Contains-push_cases, Contains-append_left, Contains-push}
 use Rattle.std.proofs.lemmas.Option.{slice_get_within, same_Some, none-some}
 use Rattle.sg_grammar.specs.declared.grammar.Production.{Production}
 use Rattle.sg_grammar.specs.Grammar.{Grammar, right_of, symbol_at}
-use Rattle.sg_grammar.specs.WellFormed.{IsRight, IsRule, IsWellFormed}
-use Rattle.sg_lalr.specs.Items.{Item, item, symbol_of, HasNext, moved, advance, is_before}
+use Rattle.sg_grammar.specs.WellFormed.{IsRight, IsWellFormed}
+use Rattle.sg_lalr.specs.Items.{Item, symbol_of, HasNext, moved, advance, is_before}
 
 slice_get-in : {X : Type 0} (P : X → Type 0) (xs : List X) (n : ℕ) (x : X) → All P xs → slice_get xs n ≡ Some x → P x
 slice_get-in P [] n x h is = absurd (none-some x is)

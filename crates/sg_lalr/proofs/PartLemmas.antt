@@ -1,16 +1,16 @@
 -- Lemmas on the part of the automaton that was found.
-use Rattle.std.proofs.Common.{◌≡◌, ◌≢◌, ℕ, zero, suc, ◌+◌, ◌<◌, ◌≤◌, ◌⊎◌, inl, inr, Bool, true, false, cond, List, [], ◌∷◌, ◌++◌, length, get_or, refl, sym, ap, ◌∙◌, subst, arith, Option, Some, None, eqb}
-use Rattle.std.specs.Prelude.{Contains, All, AllPairs, nat_eq, slice_index_or}
-use Rattle.std.proofs.lemmas.Bool.{cases_eq, cases_lt, eq-eqb, ne_eqb}
-use Rattle.std.proofs.lemmas.List.{get_or_append_left, get_or_push, get_or_default, length_push, length-append}
+use Rattle.std.proofs.Common.{◌≡◌, ◌≢◌, ℕ, zero, suc, ◌+◌, ◌<◌, ◌≤◌, inl, inr, cond, List, [], ◌∷◌, ◌++◌, length, get_or, refl, sym, ap, ◌∙◌, subst, arith}
+use Rattle.std.specs.Prelude.{Contains, All, nat_eq}
+use Rattle.std.proofs.lemmas.Bool.{cases_lt, eq-eqb, ne_eqb}
+use Rattle.std.proofs.lemmas.List.{get_or_append_left, get_or_push, get_or_default, length_push}
 use Rattle.std.proofs.lemmas.List.Elements.{All-push, All-contains, Contains-get_or}
 use Rattle.std.proofs.lemmas.List.Quantifiers.{all_pairs_push}
 use Rattle.sg_grammar.specs.Grammar.{Grammar}
 use Rattle.sg_lalr.specs.declared.states.Move.{Move}
 use Rattle.sg_lalr.specs.declared.states.Origin.{Origin}
-use Rattle.sg_lalr.specs.Items.{Item, item, HasNext, symbol_of, advance, moved, Before, IsRising}
+use Rattle.sg_lalr.specs.Items.{Item, item, HasNext, advance, Before, IsRising}
 use Rattle.sg_lalr.specs.Closure.{InRange, IsKernel, IsClosure}
-use Rattle.sg_lalr.specs.Automaton.{row_at, moves_at, target_of, goto, starts_from, start_items, origin, Earlier, NotLater, IsBehind, origin_at, ComesFrom, IsPart, Entered, Overflows}
+use Rattle.sg_lalr.specs.Automaton.{row_at, target_of, goto, starts_from, start_items, origin, Earlier, NotLater, IsBehind, origin_at, ComesFrom, IsPart, Entered, Overflows}
 use Rattle.sg_lalr.proofs.RisingLemmas.{advance-from, advance-rising, All-contained, pairs-nil, pairs-cons, Contains-nil}
 use Rattle.sg_lalr.proofs.StartLemmas.{starts-from}
 

@@ -1,5 +1,5 @@
 -- The least set above the terminals has what derives some tokens.
-use Rattle.std.proofs.Common.{◌≡◌, ℕ, List, [], ◌∷◌, refl}
+use Rattle.std.proofs.Common.{ℕ, List, [], ◌∷◌, refl}
 use Rattle.sg_grammar.specs.Grammar.{Grammar}
 use Rattle.sg_grammar.specs.Derives.{Token, Derives, plain, IsProductive}
 use Rattle.sg_grammar.specs.Derives as derives

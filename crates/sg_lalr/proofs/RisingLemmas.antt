@@ -1,12 +1,10 @@
 -- Lemmas on lists of items in their order.
-use Rattle.std.proofs.Common.{◌≡◌, ℕ, zero, suc, ◌+◌, ◌-◌, ◌<◌, ◌≤◌, ◌⊎◌, inl, inr, Bool, true, false, cond, List, [], ◌∷◌, ◌++◌, length, get_or, take, drop, map, refl, sym, ap, ◌∙◌, subst, arith, Option, Some, None}
-use Rattle.std.specs.Prelude.{◌↔◌, Contains, AllPairs, All, nat_eq, filter}
-use Rattle.std.proofs.lemmas.Bool.{cases_eq, cases_lt, eqb-true, eq-eqb, cases_order}
-use Rattle.std.proofs.lemmas.List.{get_or_append_left, get_or-append_right, get_or-drop, length-append, length-drop}
-use Rattle.std.proofs.lemmas.Option.{same_Some}
+use Rattle.std.proofs.Common.{◌≡◌, ℕ, zero, suc, ◌⊎◌, inl, inr, Bool, true, false, cond, List, [], ◌∷◌, ◌++◌, get_or, drop, map, refl, sym, ap, ◌∙◌, subst, arith, Option, Some, None}
+use Rattle.std.specs.Prelude.{◌↔◌, Contains, AllPairs, All, filter}
+use Rattle.std.proofs.lemmas.Bool.{eqb-true, eq-eqb}
 use Rattle.std.proofs.lemmas.List.Elements.{Contains-get_or}
 use Rattle.sg_grammar.specs.Grammar.{Grammar}
-use Rattle.sg_lalr.specs.Items.{Item, item, Before, IsRising, symbol_of, HasNext, is_before, moved, advance}
+use Rattle.sg_lalr.specs.Items.{Item, Before, IsRising, symbol_of, is_before, moved, advance}
 
 pub Contains-front : {X : Type 0} (x : X) (xs : List X) → Contains (x ∷ xs) x
 Contains-front x xs = (0, omega arith, refl)

@@ -1,20 +1,19 @@
 -- States and the prefixes that lead to them.
-use Rattle.std.proofs.Common.{◌≡◌, ◌≢◌, ℕ, zero, suc, ◌+◌, ◌<◌, ◌≤◌, ◌⊎◌, inl, inr, Bool, true, false, List, [], ◌∷◌, ◌++◌, length, map, get_or, refl, sym, ap, ◌∙◌, subst, arith, eqb}
-use Rattle.std.specs.Prelude.{◌↔◌, Contains, All, AllPairs, slice_index_or}
+use Rattle.std.proofs.Common.{◌≡◌, ℕ, zero, suc, ◌+◌, ◌<◌, ◌≤◌, ◌⊎◌, inl, inr, true, false, List, [], ◌∷◌, length, map, get_or, refl, sym, ap, ◌∙◌, subst, arith, eqb}
+use Rattle.std.specs.Prelude.{Contains, AllPairs}
 use Rattle.std.specs.List.{IsDistinct, list_any}
-use Rattle.std.proofs.lemmas.Bool.{cases_lt, cases_eq, ne_eqb, eqb-true, or_cases, false≢true}
-use Rattle.std.proofs.lemmas.List.{get_or_default, length-map}
+use Rattle.std.proofs.lemmas.Bool.{cases_lt, ne_eqb, eqb-true, or_cases, false≢true}
+use Rattle.std.proofs.lemmas.List.{length-map}
 use Rattle.std.proofs.lemmas.List.Elements.{Contains-get_or, All-contains, All-map, recursion_from_All}
 use Rattle.std.proofs.lemmas.Map.Steps.{length-le_from_distinct_below}
-use Rattle.sg_grammar.specs.Grammar.{Grammar, symbol_at}
+use Rattle.sg_grammar.specs.Grammar.{Grammar}
 use Rattle.sg_grammar.specs.WellFormed.{IsWellFormed}
 use Rattle.sg_grammar.specs.Derives.{AllProductive}
 use Rattle.sg_lalr.specs.declared.states.Move.{Move}
 use Rattle.sg_lalr.specs.declared.states.Origin.{Origin}
-use Rattle.sg_lalr.specs.ValidItems.{Valid, start, close, step, InCore, Viable, SameCore}
-use Rattle.sg_lalr.specs.Items.{Item, item, HasNext, symbol_of, advance, moved}
-use Rattle.sg_lalr.specs.Closure.{IsKernel, IsClosure}
-use Rattle.sg_lalr.specs.Automaton.{row_at, goto, origin, Earlier, NotLater, IsBehind, origin_at, ComesFrom, IsPart, IsWhole, start_items, state_of, FoundBy, at_first, further, Overflows}
+use Rattle.sg_lalr.specs.ValidItems.{start, step, Viable, SameCore}
+use Rattle.sg_lalr.specs.Items.{Item, item, HasNext, advance}
+use Rattle.sg_lalr.specs.Automaton.{row_at, goto, origin, IsBehind, origin_at, IsPart, IsWhole, state_of, FoundBy, at_first, further}
 use Rattle.sg_lalr.specs.Prefixes.{Less, TooMany}
 use Rattle.sg_lalr.proofs.StartLemmas.{starts-from}
 use Rattle.sg_lalr.proofs.RisingLemmas.{advance-has, pairs-cons, pairs-nil, pairs-head, pairs-tail, Contains-front, Contains-behind, Contains-cons, Contains-nil, All-contained}

@@ -1,6 +1,6 @@
 -- Tables are those of their grammar.
-use Rattle.std.proofs.Common.{◌≡◌, ◌≢◌, ℕ, zero, suc, ◌+◌, ◌<◌, ◌≤◌, ◌⊎◌, inl, inr, Bool, List, [], ◌∷◌, length, get_or, refl, sym, ap, ◌∙◌, subst, arith, Option, Some, None}
-use Rattle.std.specs.Prelude.{◌↔◌, All, Contains, slice_index}
+use Rattle.std.proofs.Common.{◌≡◌, ◌≢◌, ℕ, zero, suc, ◌+◌, ◌<◌, ◌≤◌, inl, inr, Bool, List, [], ◌∷◌, length, refl, sym, ap, ◌∙◌, subst, arith, Some}
+use Rattle.std.specs.Prelude.{All, Contains, slice_index}
 use Rattle.std.proofs.lemmas.Bool.{cases_lt}
 use Rattle.sg_grammar.specs.Grammar.{Grammar}
 use Rattle.sg_grammar.specs.WellFormed.{IsWellFormed}
@@ -11,15 +11,14 @@ use Rattle.sg_lalr.specs.declared.lookaheads.Node.{Node}
 use Rattle.sg_lalr.specs.declared.conflict.Deed.{Deed}
 use Rattle.sg_lalr.specs.declared.conflict.Deed.TheVariants.{Shifts, Reduces}
 use Rattle.sg_lalr.specs.declared.tables.Action.TheVariants as action
-use Rattle.sg_lalr.specs.ValidItems.{Valid, start, close, step, InCore, Viable, SameCore}
-use Rattle.sg_lalr.specs.Items.{Item, item, HasNext, symbol_of}
-use Rattle.sg_lalr.specs.Automaton.{row_at, goto, IsWhole, state_of, FoundBy}
+use Rattle.sg_lalr.specs.ValidItems.{Valid, start, close, step, Viable, SameCore}
+use Rattle.sg_lalr.specs.Items.{Item, HasNext, symbol_of}
+use Rattle.sg_lalr.specs.Automaton.{row_at, goto, IsWhole, state_of}
 use Rattle.sg_lalr.specs.Prefixes.{TooMany}
-use Rattle.sg_lalr.specs.Lookaheads.{node, node_at, IsLaid, AreLookaheads}
-use Rattle.sg_lalr.specs.Conflict.{Acts, Conflict, IsQuiet}
+use Rattle.sg_lalr.specs.Lookaheads.{node_at}
+use Rattle.sg_lalr.specs.Conflict.{Acts, IsQuiet}
 use Rattle.sg_lalr.specs.Clashes.{Does}
-use Rattle.sg_lalr.specs.Tables.{View, viewed, IsCore, IsTables, Leads, ActsIn, IsAction, IsFull, IsMade}
-use Rattle.sg_lalr.proofs.RisingLemmas.{Contains-nil}
+use Rattle.sg_lalr.specs.Tables.{viewed, IsCore, IsTables, Leads, ActsIn, IsAction, IsFull, IsMade}
 use Rattle.sg_lalr.proofs.CoreLemmas.{CoreOf}
 use Rattle.sg_lalr.proofs.StateLemmas.{longer-viable, found-some, found-state, found-viable, core-of-state, state-of-viable, same-state}
 use Rattle.sg_lalr.proofs.LookLemmas.{range-below}

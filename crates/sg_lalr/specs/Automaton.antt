@@ -1,5 +1,5 @@
 -- The automaton, and how much of it was found so far.
-use Rattle.std.specs.Prelude.{◌≡◌, ◌≢◌, ℕ, zero, suc, ◌+◌, ◌<◌, ◌≤◌, ◌⊎◌, if◌then◌else◌, nat_eq, List, [], ◌∷◌, ◌++◌, map, length, slice_index_or, All, AllPairs, Contains}
+use Rattle.std.specs.Prelude.{◌≡◌, ◌≢◌, ℕ, zero, suc, ◌<◌, ◌≤◌, ◌⊎◌, if◌then◌else◌, nat_eq, List, [], ◌∷◌, ◌++◌, length, slice_index_or, AllPairs, Contains}
 use Rattle.sg_grammar.specs.Grammar.{Grammar}
 use Rattle.sg_lalr.specs.declared.states.Move.{Move}
 use Rattle.sg_lalr.specs.declared.states.Origin.{Origin}

@@ -1,5 +1,5 @@
 -- Conflicts within a state, by its nodes and their rows.
-use Rattle.std.specs.Prelude.{◌≡◌, ◌≢◌, ℕ, ◌<◌, ◌≤◌, ◌⊎◌, Bool, List, Option, Some, None, suc, slice_index}
+use Rattle.std.specs.Prelude.{◌≡◌, ◌≢◌, ℕ, ◌<◌, ◌≤◌, Bool, List, Some, None, suc, slice_index}
 use Rattle.sg_grammar.specs.Grammar.{Grammar}
 use Rattle.sg_sets.specs.Rows.{Holds}
 use Rattle.sg_lalr.specs.declared.lookaheads.Node.{Node}

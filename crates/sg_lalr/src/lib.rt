@@ -5,6 +5,7 @@ mod closure;
 pub mod conflict;
 mod firsts;
 pub mod items;
+pub mod laws;
 mod layout;
 mod least_set;
 mod lookaheads;

@@ -40,3 +40,4 @@ pub mod SoundRules
 pub mod Owns
 pub mod Pairs
 pub mod ValidFacts
+pub mod OneFault

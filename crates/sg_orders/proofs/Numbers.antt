@@ -43,7 +43,7 @@ number_attr rules p (suc k) a low =
     cond-false (nat_eq (suc k) 0 && nat_le (attrs_here rules p) a) (attrs_before rules p (suc (length (args_of rules.ops p))) + (a - attrs_here rules p)) (attrs_before rules p (suc k) + a)
     (and_left (nat_eq (suc k) 0) (nat_le (attrs_here rules p) a) (eqb-suc-zero k))
 
-number_local : (rules : Rules) (p a : ℕ) → attrs_here rules p ≤ a → vertex rules p (occurrence 0 a) ≡ attrs_before rules p (suc (length (args_of rules.ops p))) + (a - attrs_here rules p)
+pub number_local : (rules : Rules) (p a : ℕ) → attrs_here rules p ≤ a → vertex rules p (occurrence 0 a) ≡ attrs_before rules p (suc (length (args_of rules.ops p))) + (a - attrs_here rules p)
 number_local rules p a past =
     cond-true (nat_eq 0 0 && nat_le (attrs_here rules p) a) (attrs_before rules p (suc (length (args_of rules.ops p))) + (a - attrs_here rules p)) (attrs_before rules p 0 + a)
     (and_from (nat_eq 0 0) (nat_le (attrs_here rules p) a) refl (le-leb (attrs_here rules p) a past))

@@ -1,5 +1,5 @@
 //! Laws of the ordering, each as the contract of a function without code.
-ghost use Rattle.std.specs.Prelude.{◌≡◌, ℕ, ◌<◌, length, Some, Contains};
+ghost use Rattle.std.specs.Prelude.{◌≡◌, ◌≢◌, ℕ, ◌<◌, length, Some, Contains};
 ghost use Rattle.sg_kinds.specs.Dependencies.{IsAttr};
 ghost use Rattle.sg_kinds.specs.Fits.{Fits};
 ghost use Rattle.sg_kinds.specs.FromScratch.{leaf_or, site_value, value_in};
@@ -7,6 +7,7 @@ ghost use Rattle.sg_kinds.specs.Instances.{Site, site_of};
 ghost use Rattle.sg_kinds.specs.Keys.{key, IsLess};
 ghost use Rattle.sg_kinds.specs.Layers.{IsLayering};
 ghost use Rattle.sg_kinds.specs.Nets.{Reference, referred, net_of};
+ghost use Rattle.sg_kinds.specs.Ordered.{IsOrdered};
 ghost use Rattle.sg_kinds.specs.Places.{Place};
 ghost use Rattle.sg_kinds.specs.Sound.{AreCounted, HasShapes, HasRules};
 ghost use Rattle.sg_kinds.specs.Specification.{rules_of};
@@ -16,10 +17,13 @@ ghost use Rattle.sg_kinds.specs.declared.plans.Plans.{Plans};
 ghost use Rattle.sg_kinds.specs.declared.spec.Occurrence.{Occurrence};
 ghost use Rattle.sg_kinds.specs.declared.spec.Rules.{Rules};
 ghost use Rattle.sg_kinds.specs.declared.spec.Spec.{Spec};
+ghost use Rattle.sg_orders.specs.Faults.{IsFault};
 ghost use Rattle.sg_orders.specs.LiveSites.{IsLive};
 ghost use Rattle.sg_orders.specs.PlanFacts.{HasPlanFacts};
 ghost use Rattle.sg_orders.specs.Proper.{AreProper};
 ghost use Rattle.sg_orders.specs.Vertices.{AreInRange};
+ghost use Rattle.sg_orders.specs.declared.fault.OrderFault.TheVariants as fault;
+ghost use Rattle.sg_orders.specs.declared.fault.OrderFault.{OrderFault};
 
 /// What the ordering requires of equations holds where the counts, the shapes and the equations of their specification are
 /// sound.
@@ -49,4 +53,14 @@ pub fn keys_fall()
 /// equations is never reached.
 pub fn from_scratch_values()
     ensures { (spec : Spec) (plans : Plans) (t : Term) (root : ℕ) → AreInRange (rules_of spec) → AreValid (rules_of spec) plans → Fits spec t root → (a : Reference Place) → value_in spec t a ≡ leaf_or ((net_of t).label a.node) (site_value spec (net_of t) (value_in spec t) (site_of (rules_of spec) (net_of t) a)) }
+{}
+
+/// Equations have one fault at most, besides want of memory.
+pub fn one_fault()
+    ensures { (rules : Rules) → AreInRange rules → (e f : OrderFault) → IsFault rules e → IsFault rules f → e ≢ fault.NoMemory → f ≢ fault.NoMemory → e ≡ f }
+{}
+
+/// Ordered equations have no fault.
+pub fn no_fault()
+    ensures { (rules : Rules) → AreInRange rules → IsOrdered rules → (e : OrderFault) → IsFault rules e → e ≢ fault.NoMemory → ⊥ }
 {}

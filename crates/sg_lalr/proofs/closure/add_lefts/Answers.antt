@@ -1,4 +1,4 @@
-use Rattle.std.proofs.Common.{◌≡◌, sym, ◌∙◌, ap, refl, arith, length, Some}
+use Rattle.std.proofs.Common.{◌≡◌, sym, ◌∙◌, refl, arith, length, Some}
 use Rattle.std.specs.Prelude.{slice_get}
 use Rattle.std.proofs.lemmas.Option.{slice_get_read}
 use Rattle.sg_lalr.specs.Closure.{HasLeft}

@@ -1,8 +1,8 @@
-use Rattle.std.proofs.Common.{◌≡◌, ℕ, ◌⊎◌, sym, ◌∙◌, ap, subst, length, inl, inr, refl}
+use Rattle.std.proofs.Common.{ℕ, ◌⊎◌, ap, subst, length, inl, inr}
 use Rattle.std.specs.Prelude.{◌↔◌, Contains}
 use Rattle.sg_sets.specs.Members.{Has}
-use Rattle.sg_lalr.specs.Items.{Item, IsRising}
-use Rattle.sg_lalr.specs.Closure.{IsOpened, OpensAt, IsClosure}
+use Rattle.sg_lalr.specs.Items.{Item}
+use Rattle.sg_lalr.specs.Closure.{IsOpened, OpensAt}
 use Rattle.sg_lalr.proofs.ClosureLemmas.{closure-from, none-held}
 use Rattle.sg_lalr.proofs.closure.closure.Goals as goal
 

@@ -1,4 +1,4 @@
-use Rattle.std.proofs.Common.{◌≡◌, ℕ, ◌<◌, length, subst, arith}
+use Rattle.std.proofs.Common.{ℕ, ◌<◌, length, subst, arith}
 use Rattle.std.specs.Prelude.{◌↔◌}
 use Rattle.sg_sets.specs.Rows.{Holds}
 use Rattle.sg_lalr.specs.Closure.{LeadsTo}

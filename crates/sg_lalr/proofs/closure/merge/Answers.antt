@@ -1,8 +1,7 @@
-use Rattle.std.proofs.Common.{◌≡◌, ℕ, ◌+◌, ◌++◌, ◌⊎◌, sym, ap, ◌∙◌, drop, subst, arith, get_or}
+use Rattle.std.proofs.Common.{◌≡◌, ◌+◌, ◌++◌, ◌⊎◌, sym, ap, ◌∙◌, drop, subst, arith, get_or}
 use Rattle.std.proofs.lemmas.List.{get_or_default, take_rest}
 use Rattle.std.proofs.lemmas.Bool.{both_ways}
 use Rattle.std.specs.Prelude.{◌↔◌, Contains}
-use Rattle.sg_sets.specs.Members.{Has}
 use Rattle.sg_lalr.specs.Items.{Item, item, IsRising}
 use Rattle.sg_lalr.specs.Closure.{IsOpened}
 use Rattle.sg_lalr.proofs.MergeLemmas.{Merged, merged-opened, merged-passed, merged-kept, merged-next, merged-done, merged-rising, merged-has}

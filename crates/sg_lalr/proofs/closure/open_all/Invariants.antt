@@ -1,4 +1,4 @@
-use Rattle.std.proofs.Common.{◌≡◌, ℕ, ◌<◌, ◌⊎◌, length, take}
+use Rattle.std.proofs.Common.{◌≡◌, ℕ, ◌⊎◌, length, take}
 use Rattle.std.specs.Prelude.{◌↔◌, Contains}
 use Rattle.sg_sets.specs.Members.{Has}
 use Rattle.sg_lalr.specs.Items.{Item}

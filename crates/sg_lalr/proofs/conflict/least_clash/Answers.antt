@@ -1,14 +1,12 @@
-use Rattle.std.proofs.Common.{◌≡◌, ℕ, ◌<◌, ◌≤◌, ◌⊎◌, inl, inr, Bool, false, List, None, Some, sym, ap, ◌∙◌, subst, length, arith}
-use Rattle.std.specs.Prelude.{◌↔◌, replicate}
-use Rattle.std.proofs.lemmas.List.{length-replicate}
+use Rattle.std.proofs.Common.{◌≡◌, ℕ, ◌⊎◌, inl, inr, None, sym, ap, ◌∙◌, subst, length, arith}
+use Rattle.std.specs.Prelude.{◌↔◌}
 use Rattle.sg_sets.specs.Members.{Has, Shared}
 use Rattle.sg_sets.specs.Rows.{row_of, Holds}
 use Rattle.sg_sets.proofs.MembersLemmas.{has-below}
 use Rattle.sg_lalr.specs.Items.{symbol_of}
 use Rattle.sg_lalr.specs.Lookaheads.{node_at}
-use Rattle.sg_lalr.specs.Clashes.{Clashes, ShiftsThere, ReducesThere}
 use Rattle.sg_lalr.proofs.ClosureLemmas.{none-held}
-use Rattle.sg_lalr.proofs.ClashLemmas.{Taking, PairAt, taking-more, taking-same, pair-clashes, clash-pair, is_none-None, is_none-Some, lesser-all, some-shared}
+use Rattle.sg_lalr.proofs.ClashLemmas.{taking-more, taking-same, pair-clashes, clash-pair, is_none-None, is_none-Some, lesser-all, some-shared}
 use Rattle.sg_lalr.proofs.conflict.least_clash.Goals as goal
 use Rattle.sg_lalr.proofs.conflict.least_clash.Goals.{then-is_none, else-is_none}
 

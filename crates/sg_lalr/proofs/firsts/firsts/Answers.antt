@@ -1,6 +1,5 @@
-use Rattle.std.proofs.Common.{◌≡◌, ℕ, ◌<◌, ◌∙◌, sym, subst, arith}
+use Rattle.std.proofs.Common.{◌≡◌, ℕ, ◌<◌, sym, subst, arith}
 use Rattle.std.specs.Prelude.{◌↔◌}
-use Rattle.sg_sets.specs.Paths.{Reaches, Linked}
 use Rattle.sg_sets.specs.Rows.{Holds}
 use Rattle.sg_lalr.proofs.FirstLemmas.{LinkedBy, links-within, first-exact}
 use Rattle.sg_lalr.proofs.firsts.firsts.Goals as goal

@@ -1,4 +1,4 @@
-use Rattle.std.proofs.Common.{◌≡◌, ℕ, ◌+◌, ◌++◌, ◌∷◌, [], ◌∙◌, sym, ap, subst, get_or, arith, length, ◌<◌, take}
+use Rattle.std.proofs.Common.{◌≡◌, ◌+◌, sym, ap, subst, arith, length, take}
 use Rattle.std.proofs.lemmas.Bool.{both_ways}
 use Rattle.std.specs.Prelude.{All}
 use Rattle.sg_sets.specs.Members.{Has}

@@ -1,7 +1,7 @@
-use Rattle.std.proofs.Common.{◌≡◌, ◌+◌, ◌++◌, ◌∷◌, [], ◌∙◌, sym, ap, subst, length, map, take, get_or, arith, List}
-use Rattle.std.proofs.lemmas.List.{take_more, take_all}
+use Rattle.std.proofs.Common.{◌≡◌, ◌+◌, ◌++◌, ◌∷◌, [], ◌∙◌, sym, ap, length, map, take, arith, List}
+use Rattle.std.proofs.lemmas.List.{take_more}
 use Rattle.sg_lalr.specs.Items.{Item}
-use Rattle.sg_lalr.specs.Lookaheads.{node, IsLaid}
+use Rattle.sg_lalr.specs.Lookaheads.{node}
 use Rattle.sg_lalr.proofs.LayoutLemmas.{laid-none, laid-more, length-front}
 use Rattle.sg_lalr.proofs.layout.lay.Goals as goal
 

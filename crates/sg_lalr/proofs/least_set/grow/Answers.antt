@@ -1,4 +1,4 @@
-use Rattle.std.proofs.Common.{ap, subst, take, arith}
+use Rattle.std.proofs.Common.{subst, arith}
 use Rattle.std.proofs.lemmas.Bool.{OnTrue_at, OnFalse_at, OnFalse_from}
 use Rattle.std.proofs.lemmas.List.{take_all}
 use Rattle.sg_lalr.specs.Least.{IsClosed}

@@ -1,6 +1,6 @@
-use Rattle.std.proofs.Common.{[], ◌∷◌, ℕ, zero, ◌<◌, subst, arith}
+use Rattle.std.proofs.Common.{[], ◌∷◌, zero, subst, arith}
 use Rattle.std.proofs.lemmas.Bool.{OnFalse_at}
-use Rattle.sg_lalr.specs.Least.{Grown, passes, nothing, IsClosed}
+use Rattle.sg_lalr.specs.Least.{passes, nothing, IsClosed}
 use Rattle.sg_lalr.proofs.LeastLemmas.{closed-has}
 use Rattle.sg_lalr.proofs.least_set.least_set.Goals as goal
 

@@ -1,8 +1,8 @@
-use Rattle.std.proofs.Common.{◌≡◌, ℕ, zero, ◌+◌, ◌<◌, ◌≤◌, ◌⊎◌, inl, inr, Bool, false, List, [], sym, ap, ◌∙◌, subst, length, map, arith}
+use Rattle.std.proofs.Common.{◌≡◌, ℕ, ◌<◌, inl, inr, false, List, sym, ap, ◌∙◌, subst, length, map, arith}
 use Rattle.std.specs.Prelude.{◌↔◌, replicate}
 use Rattle.std.proofs.lemmas.List.{length-replicate}
 use Rattle.sg_sets.specs.Paths.{Linked}
-use Rattle.sg_sets.specs.Rows.{Holds, Table, table}
+use Rattle.sg_sets.specs.Rows.{Holds, Table}
 use Rattle.sg_lalr.specs.declared.lookaheads.Node.{Node}
 use Rattle.sg_lalr.specs.Lookaheads.{node_at, IsStart, IsLaid, Gives, FlowsTo}
 use Rattle.sg_lalr.proofs.RisingLemmas.{Contains-nil}

@@ -1,4 +1,4 @@
-use Rattle.std.proofs.Common.{◌≡◌, ℕ, ◌+◌, ◌≤◌, ◌<◌, sym, subst, arith, ◌∙◌}
+use Rattle.std.proofs.Common.{ℕ, ◌+◌, sym, subst, arith}
 use Rattle.std.proofs.lemmas.Bool.{both_ways}
 use Rattle.sg_lalr.specs.Lookaheads.{node_at, BeginsWith}
 use Rattle.sg_lalr.proofs.LinkLemmas.{RangedTo, ranged-more, ranged-same}

@@ -1,5 +1,4 @@
-use Rattle.std.proofs.Common.{◌≡◌, ℕ, ◌+◌, ◌≤◌, ◌<◌, sym, subst, arith, ◌∙◌}
-use Rattle.sg_lalr.specs.Items.{Item}
+use Rattle.std.proofs.Common.{◌≡◌, ℕ, ◌+◌, sym, subst, arith, ◌∙◌}
 use Rattle.std.proofs.lemmas.Bool.{both_ways}
 use Rattle.sg_lalr.specs.Lookaheads.{node_at}
 use Rattle.sg_lalr.proofs.KernelLemmas.{item-decides}

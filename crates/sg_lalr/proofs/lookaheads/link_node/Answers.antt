@@ -1,4 +1,4 @@
-use Rattle.std.proofs.Common.{◌≡◌, ℕ, suc, ◌+◌, ◌<◌, ◌≤◌, List, Some, None, sym, ap, ◌∙◌, subst, length, map, get_or, arith}
+use Rattle.std.proofs.Common.{◌≡◌, ℕ, suc, ◌+◌, ◌<◌, List, Some, sym, ap, ◌∙◌, subst, length, map, arith}
 use Rattle.std.specs.Prelude.{slice_index}
 use Rattle.std.proofs.lemmas.List.{get_or_read}
 use Rattle.sg_lalr.specs.declared.lookaheads.Node.{Node}
@@ -8,7 +8,7 @@ use Rattle.sg_lalr.specs.Closure.{InRange}
 use Rattle.sg_lalr.specs.Automaton.{goto}
 use Rattle.sg_lalr.specs.Lookaheads.{node, node_at}
 use Rattle.sg_lalr.proofs.LinkLemmas.{RangedTo, ranged-as}
-use Rattle.sg_lalr.proofs.LookLemmas.{node-range, node-target, flows-open, flows-shut, gives-shut, ends-links, ends-gives}
+use Rattle.sg_lalr.proofs.LookLemmas.{node-range, node-target, flows-open, flows-shut, gives-shut}
 use Rattle.sg_lalr.proofs.lookaheads.link_node.Goals as goal
 
 pub symbol_of-requires : goal.symbol_of-requires

@@ -1,6 +1,6 @@
 use Rattle.std.proofs.Common.{◌≡◌, ℕ, ◌≤◌, ◌⊎◌, sym, ◌∙◌, take, subst, arith, Some, get_or, Option}
 use Rattle.std.proofs.lemmas.List.{take_all, take_more}
-use Rattle.sg_lalr.specs.Items.{Item, item, symbol_of, HasNext}
+use Rattle.sg_lalr.specs.Items.{Item, item, HasNext}
 use Rattle.sg_lalr.proofs.MoveLemmas.{IsLeast, least-more}
 use Rattle.sg_lalr.proofs.moves.next_symbol.Goals as goal
 

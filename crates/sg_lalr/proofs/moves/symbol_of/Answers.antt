@@ -1,4 +1,4 @@
-use Rattle.std.proofs.Common.{◌^◌, ◌<◌, sym, ◌∙◌}
+use Rattle.std.proofs.Common.{sym, ◌∙◌}
 use Rattle.sg_lalr.proofs.MoveLemmas.{symbol-within, dot-within, if_some}
 use Rattle.sg_lalr.proofs.moves.symbol_of.Goals as goal
 

@@ -1,10 +1,10 @@
-use Rattle.std.proofs.Common.{◌≡◌, ◌≢◌, ℕ, suc, ◌+◌, ◌<◌, ◌≤◌, List, length, get_or, reverse, map, Option, Some, None, refl, sym, ap, ◌∙◌, subst, arith}
-use Rattle.std.specs.Prelude.{slice_index, IfSome}
+use Rattle.std.proofs.Common.{◌≡◌, ◌≢◌, ℕ, suc, ◌+◌, ◌<◌, ◌≤◌, List, length, reverse, map, Some, None, sym, ap, ◌∙◌, subst, arith}
+use Rattle.std.specs.Prelude.{slice_index}
 use Rattle.std.proofs.lemmas.List.{get_or_read, reverse-reverse}
 use Rattle.std.proofs.lemmas.Option.{same_Some, none-some}
 use Rattle.sg_lalr.specs.declared.lookaheads.Node.{Node}
 use Rattle.sg_lalr.specs.declared.conflict.Deed.{Deed}
-use Rattle.sg_lalr.specs.Items.{Item, item}
+use Rattle.sg_lalr.specs.Items.{item}
 use Rattle.sg_lalr.specs.Closure.{InRange}
 use Rattle.sg_lalr.specs.Automaton.{FoundBy}
 use Rattle.sg_lalr.specs.Lookaheads.{node, node_at}

@@ -1,7 +1,7 @@
-use Rattle.std.proofs.Common.{◌≡◌, ℕ, suc, ◌+◌, ◌-◌, ◌<◌, ◌≤◌, List, [], ◌∷◌, ◌++◌, length, get_or, reverse, refl, sym, ap, ◌∙◌, subst, arith}
+use Rattle.std.proofs.Common.{◌≡◌, suc, ◌-◌, ◌<◌, ◌≤◌, List, [], ◌∷◌, ◌++◌, length, refl, sym, ap, ◌∙◌, subst, arith}
 use Rattle.std.proofs.lemmas.List.{append-nil, append_assoc}
 use Rattle.sg_lalr.specs.declared.states.Origin.{Origin}
-use Rattle.sg_lalr.specs.Automaton.{origin, origin_at, FoundBy, at_first, further}
+use Rattle.sg_lalr.specs.Automaton.{origin_at, FoundBy, at_first, further}
 use Rattle.sg_lalr.proofs.search.prefix_of.Goals as goal
 
 pub origins-preserved : goal.origins-preserved

@@ -1,6 +1,6 @@
-use Rattle.std.proofs.Common.{◌≡◌, ◌++◌, ◌∷◌, [], ◌∙◌, sym, ap, length, map, subst, arith, refl}
+use Rattle.std.proofs.Common.{◌≡◌, ◌++◌, ◌∷◌, [], ◌∙◌, ap, length, map, arith, refl}
 use Rattle.std.proofs.lemmas.List.{length-map}
-use Rattle.sg_lalr.specs.Automaton.{start_items, IsPart}
+use Rattle.sg_lalr.specs.Automaton.{start_items}
 use Rattle.sg_lalr.proofs.PartLemmas.{part-none}
 use Rattle.sg_lalr.proofs.states.all_states.Goals as goal
 

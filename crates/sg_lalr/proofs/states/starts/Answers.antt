@@ -1,4 +1,4 @@
-use Rattle.std.proofs.Common.{◌≡◌, suc, ◌+◌, ◌++◌, ◌∷◌, [], ◌∙◌, sym, ap, length, subst, arith}
+use Rattle.std.proofs.Common.{◌≡◌, suc, ◌+◌, ◌++◌, ◌∷◌, [], ◌∙◌, sym, ap, length, arith}
 use Rattle.sg_lalr.specs.Items.{item}
 use Rattle.sg_lalr.specs.Automaton.{starts_from}
 use Rattle.sg_lalr.proofs.PartLemmas.{starts_from-push}

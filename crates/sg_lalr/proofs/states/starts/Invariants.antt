@@ -1,4 +1,4 @@
-use Rattle.std.proofs.Common.{◌≡◌, length}
+use Rattle.std.proofs.Common.{◌≡◌}
 use Rattle.sg_lalr.specs.Automaton.{starts_from}
 use Rattle.sg_lalr.proofs.states.starts.Given as goal
 

@@ -1,7 +1,6 @@
-use Rattle.std.proofs.Common.{◌≡◌, ℕ, ◌<◌, List, [], length, get_or, map, refl, sym, ap, ◌∙◌, subst, arith}
+use Rattle.std.proofs.Common.{◌≡◌, List, [], map, sym, ap, ◌∙◌, subst, arith}
 use Rattle.std.specs.Prelude.{All}
 use Rattle.std.proofs.lemmas.List.{get_or_read}
-use Rattle.sg_lalr.specs.declared.lookaheads.Node.{Node}
 use Rattle.sg_lalr.specs.Items.{Item, HasNext}
 use Rattle.sg_lalr.specs.Closure.{InRange}
 use Rattle.sg_lalr.specs.Automaton.{row_at, goto}

@@ -1,8 +1,7 @@
-use Rattle.std.proofs.Common.{◌≡◌, ◌∙◌, sym, ap, subst, map, length, Some, arith, ◌<◌}
+use Rattle.std.proofs.Common.{◌∙◌, sym, ap, subst, arith}
 use Rattle.std.specs.Prelude.{option_copied}
 use Rattle.std.proofs.lemmas.List.{length-map}
 use Rattle.sg_lalr.specs.Closure.{IsKernel, IsClosure}
-use Rattle.sg_lalr.specs.Automaton.{row_at}
 use Rattle.sg_lalr.proofs.KernelLemmas.{kernel-at}
 use Rattle.sg_lalr.proofs.states.Automaton.core_of.Goals as goal
 

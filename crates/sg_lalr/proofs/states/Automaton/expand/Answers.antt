@@ -1,11 +1,7 @@
-use Rattle.std.proofs.Common.{◌≡◌, ℕ, suc, ◌<◌, ◌≤◌, ◌∙◌, ◌++◌, ◌∷◌, [], sym, ap, subst, map, length, Some, None, arith, inl, inr, List}
-use Rattle.std.specs.Bool.{OnTrue}
+use Rattle.std.proofs.Common.{◌≡◌, ◌<◌, ◌∙◌, ◌++◌, ◌∷◌, [], sym, ap, subst, map, length, arith, inl, inr}
 use Rattle.std.proofs.lemmas.List.{length-map}
 use Rattle.std.proofs.lemmas.Bool.{cases_lt}
-use Rattle.std.specs.Prelude.{Contains}
-use Rattle.sg_lalr.specs.Items.{Item, HasNext, advance}
-use Rattle.sg_lalr.specs.Closure.{IsClosure}
-use Rattle.sg_lalr.specs.Automaton.{row_at, origin, Entered, IsPart}
+use Rattle.sg_lalr.specs.Items.{HasNext, advance}
 use Rattle.sg_lalr.proofs.MoveLemmas.{next-within}
 use Rattle.sg_lalr.proofs.PartLemmas.{start-row, more-row, overflow-row, end-row}
 use Rattle.sg_lalr.proofs.states.Automaton.expand.Goals as goal
