@@ -1,0 +1,16 @@
+pub mod PiecesMade
+pub mod Lists
+pub mod Aligned
+pub mod TableKept
+pub mod Known
+pub mod ExprThere
+pub mod FunctionsTyped
+pub mod TransformsTyped
+pub mod Nonterminals
+pub mod Symbols
+pub mod ProductionsTyped
+pub mod RecordSchemes
+pub mod RecordEntries
+pub mod RecordNames
+pub mod RecordSound
+pub mod Assembled

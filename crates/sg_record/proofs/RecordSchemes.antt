@@ -1,0 +1,330 @@
+-- The schemes of the record.
+use Rattle.std.proofs.Common.{◌≡◌, ℕ, zero, suc, ◌+◌, ◌<◌, ◌≤◌, ◌⊎◌, inl, inr, Bool, true, false, cond, not, ◌&&◌, if◌then◌else◌, List, [], ◌∷◌, ◌++◌, map, flat_map, length, replicate, set, Option, Some, None, slice_get, nat_eq, bytes_eq, refl, sym, ap, subst, ◌∙◌, arith}
+use Rattle.std.specs.Prelude.{option_map, option_and_then, unwrap_or, count_by, IsTrue, MatchOption}
+use Rattle.std.specs.List.{AllByRecursion as Each, All, Contains}
+use Rattle.std.proofs.lemmas.List.{length-append}
+use Rattle.std.proofs.lemmas.List.Sums.{sum_by-cons}
+use Rattle.std.proofs.lemmas.List.Elements.{All-from_recursion, All-contains}
+use Rattle.std.proofs.lemmas.Option.{slice_get_within}
+use Rattle.sg_kinds.specs.Sound.{HasSchemes, HasShapes, IsScheme, IsItem, IsShown, is_place, separators_fit, is_pair, root, argument}
+use Rattle.sg_kinds.specs.Specification.{args_of, phylum_of, has_shape, is_lexical_shape, is_list_shape, is_leaf_shape}
+use Rattle.sg_kinds.specs.Typing.{slot_type, is_usable, whitespace}
+use Rattle.sg_kinds.specs.declared.marks.Way.TheVariants.{Synthesized}
+use Rattle.sg_kinds.specs.declared.spec.Attr.{Attr}
+use Rattle.sg_kinds.specs.declared.fault.Position.{Position}
+use Rattle.sg_kinds.specs.declared.fault.SpecFault.{SpecFault}
+use Rattle.sg_kinds.specs.declared.fault.SpecFault.TheVariants.{NoScheme, SchemeKids}
+use Rattle.sg_kinds.specs.declared.spec.Occurrence.{Occurrence}
+use Rattle.sg_kinds.specs.declared.spec.Operator.{Operator}
+use Rattle.sg_kinds.specs.declared.spec.Phylum.{Phylum}
+use Rattle.sg_kinds.specs.declared.spec.Scheme.{Scheme}
+use Rattle.sg_kinds.specs.declared.spec.Spec.{Spec}
+use Rattle.sg_ast.specs.declared.decl.Item.{Item as Written}
+use Rattle.sg_ast.specs.declared.decl.Item.TheVariants.{Writes, Child, Shows, Separates}
+use Rattle.sg_ast.specs.declared.decl.SchemeDecl.{SchemeDecl}
+use Rattle.sg_ast.specs.declared.decl.Target.{Target}
+use Rattle.sg_ast.specs.declared.decl.Target.TheVariants as target
+use Rattle.sg_ast.specs.declared.name.Name.{Name}
+use Rattle.sg_ast.specs.Declarations.{Decl, Schemes}
+use Rattle.sg_ast.specs.FirstFault.{first}
+use Rattle.sg_ast.proofs.FirstLaws.{first-none}
+use Rattle.sg_names.specs.declared.table.Table.{Table}
+use Rattle.sg_names.specs.Drafted.{drafted, HasTable}
+use Rattle.sg_names.specs.Lookups.{phylum_named, operator_named, reference}
+use Rattle.sg_names.specs.Names.{map_from, owned, op_named, if_of, names_of}
+use Rattle.sg_names.proofs.DraftedLaws.{args_kept, phylum_kept, slot_kept}
+use Rattle.sg_names.proofs.OpPlaces.{places_count}
+use Rattle.sg_names.proofs.Owned.{owned_append}
+use Rattle.sg_schemes.specs.Places as places
+use Rattle.sg_schemes.specs.Places.{places_fault, operator_faults, phylum_faults, kids_fault, scheme_kids}
+use Rattle.sg_schemes.specs.Shown.{flag, give_to, operator_at, give, give_all, given, fault_at, is_missing, missing_from, no_scheme}
+use Rattle.sg_schemes.specs.Shown as marks
+use Rattle.sg_schemes.proofs.Least.{all_shown}
+use Rattle.sg_typing.specs.Bindings.{local_slot}
+use Rattle.sg_typing.specs.Bodies.{reference_type, target_type}
+use Rattle.sg_typing.specs.Bodies as body
+use Rattle.sg_typing.specs.Shown.{hidden, hidden_item, hidden_scheme, hidden_at, first_hidden, target_place}
+use Rattle.sg_typing.proofs.RecordTyped.{unless_is}
+use Rattle.sg_record.specs.Premises.{IsWritten}
+use Rattle.sg_record.specs.Record.{first_slot, shown, item_of, scheme_of, schemes_under, schemes_at, schemes_of, with_scheme, with_schemes}
+use Rattle.sg_record.proofs.Lists.{both_true, each_append, each_both, each_flat, each_map, equal_is, equal_to, contains_at, slice_get-map_from}
+
+-- what stands at a place of a list whose elements are made with their places
+made_there : {A B : Type 0} (f : ℕ → A → B) (xs : List A) (k : ℕ) (y : B) → slice_get (map_from f 0 xs) k ≡ Some y → (x : A) × (slice_get xs k ≡ Some x) × (f k x ≡ y)
+made_there {A} {B} f xs k y h = by (slice_get xs k) refl (sym (slice_get-map_from f 0 xs k) ∙ h)
+  where
+    by : (o : Option A) → slice_get xs k ≡ o → option_map (f (0 + k)) o ≡ Some y → (x : A) × (slice_get xs k ≡ Some x) × (f k x ≡ y)
+    by None e g = absurd (cc g)
+    by (Some x) e g = let z : 0 + k ≡ k = omega arith in (x, e, ap (λ j. f j x) (sym z) ∙ (let s : f (0 + k) x ≡ y = cc g in s))
+
+-- the operator of a phylum by name
+operator_there : (t : Table) (p op : ℕ) (n : List ℕ) → operator_named t p n ≡ Some op → phylum_of t.ops op ≡ Some p
+operator_there t p op n h = by (op_named t.ops n) h
+  where
+    test : (j : ℕ) (o : Option ℕ) → phylum_of t.ops j ≡ o → (if unwrap_or (option_map (nat_eq p) o) false then Some j else None) ≡ Some op → phylum_of t.ops op ≡ Some p
+    test j None e f = absurd (cc f)
+    test j (Some q) e f = is (nat_eq p q) refl f
+      where
+        is : (b : Bool) → nat_eq p q ≡ b → (if b then Some j else None) ≡ Some op → phylum_of t.ops op ≡ Some p
+        is true g k = let same : j ≡ op = cc k in ap (phylum_of t.ops) (sym same) ∙ e ∙ ap Some (sym (equal_is p q g))
+        is false g k = absurd (cc k)
+
+    by : (o : Option ℕ) → option_and_then (if_of t.ops p) o ≡ Some op → phylum_of t.ops op ≡ Some p
+    by None f = absurd (cc f)
+    by (Some j) f = test j (phylum_of t.ops j) refl f
+
+at_there : (t : Table) (p op : Name) (k : ℕ) → operator_at t p op ≡ Some k → (P : ℕ) × (phylum_named t p.text ≡ Some P) × (operator_named t P op.text ≡ Some k)
+at_there t p op k h = by (phylum_named t p.text) refl h
+  where
+    by : (o : Option ℕ) → phylum_named t p.text ≡ o → option_and_then (λ P. operator_named t P op.text) o ≡ Some k → (P : ℕ) × (phylum_named t p.text ≡ Some P) × (operator_named t P op.text ≡ Some k)
+    by None e f = absurd (cc f)
+    by (Some P) e f = (P, e, f)
+
+-- places and separators are those that were written
+same_places : (t : Table) (op : ℕ) (items : List Written) → count_by is_place (map (item_of t op) items) ≡ count_by places.is_place items
+same_places t op [] = refl
+same_places t op (x ∷ items) = more (is_place (item_of t op x)) (places.is_place x) (same_place x) (same_places t op items)
+  where
+    same_place : (y : Written) → is_place (item_of t op y) ≡ places.is_place y
+    same_place (Writes s) = refl
+    same_place (Child how) = refl
+    same_place (Shows s) = refl
+    same_place (Separates ss) = refl
+
+    more : (a b : Bool) → a ≡ b → count_by is_place (map (item_of t op) items) ≡ count_by places.is_place items → count_by is_place (map (item_of t op) (x ∷ items)) ≡ count_by places.is_place (x ∷ items)
+    more a b e h =
+        sum_by-cons (λ y. cond (is_place y) 1 0) (item_of t op x) (map (item_of t op) items)
+        ∙ (λ i. cond (same_place x i) 1 0 + h i)
+        ∙ sym (sum_by-cons (λ y. cond (places.is_place y) 1 0) x items)
+
+same_separators : (t : Table) (op : ℕ) (may : Bool) (n : ℕ) (items : List Written) → separators_fit may n (map (item_of t op) items) ≡ places.separators_fit may n items
+same_separators t op may n [] = refl
+same_separators t op may n (Writes s ∷ items) = same_separators t op may n items
+same_separators t op may n (Child how ∷ items) = same_separators t op may (suc n) items
+same_separators t op may n (Shows x ∷ items) = same_separators t op may n items
+same_separators t op may n (Separates ss ∷ items) = ap (λ b. may && (nat_eq n 1 && b)) (same_separators t op false n items)
+
+fitting_is : (pair : Bool) (arity : ℕ) (op : Name) (s : SchemeDecl) → places_fault pair arity op s ≡ None → places.is_fitting pair arity s ≡ true
+fitting_is pair arity op s h = by (places.is_fitting pair arity s) h
+  where
+    by : (b : Bool) → (if b then None else Some (SchemeKids s.place op.text)) ≡ None → b ≡ true
+    by true e = refl
+    by false e = absurd (cc e)
+
+module _ (t : Table) (spec : Spec) (kept : HasTable t spec) where
+  same_pair : (p op : ℕ) → phylum_of t.ops op ≡ Some p → is_pair spec op ≡ places.is_pair t p op
+  same_pair p op own =
+      ap (λ o. unwrap_or (option_map (λ q. has_shape spec.phyla is_list_shape q && nat_eq (length (args_of spec.ops op)) 2) o) false) (phylum_kept t spec kept op ∙ own)
+      ∙ (λ i. has_shape (kept.phyla i) is_list_shape p && nat_eq (length (args_kept t spec kept op i)) 2)
+
+  -- what is shown
+  type_shown : (op : ℕ) (x : Target) (p : ℕ) → target_type t op x ≡ Some p → slot_type spec op (shown t op x).at (shown t op x).slot ≡ Some p
+  type_shown op (target.Attribute r) p h = by (reference t op r) h
+    where
+      by : (o : Option Occurrence) → reference_type t op o ≡ Some p → slot_type spec op (unwrap_or o first_slot).at (unwrap_or o first_slot).slot ≡ Some p
+      by None e = absurd (cc e)
+      by (Some o) e = slot_kept t spec kept op o.at o.slot ∙ e
+  type_shown op (target.Local n) p h = by (local_slot t op n.text) h
+    where
+      by : (o : Option ℕ) → option_and_then (slot_type (drafted t) op 0) o ≡ Some p
+          → slot_type spec op (unwrap_or (option_map (λ s. record { at = 0; slot = s }) o) first_slot).at (unwrap_or (option_map (λ s. record { at = 0; slot = s }) o) first_slot).slot ≡ Some p
+      by None e = absurd (cc e)
+      by (Some s) e = slot_kept t spec kept op 0 s ∙ e
+
+  leaf_shown : (op : ℕ) (x : Target) (place : Position) (o : Option ℕ) → target_type t op x ≡ o → hidden t place o ≡ None → IsItem spec op (item_of t op (Shows x))
+  leaf_shown op x place None e h = absurd (cc h)
+  leaf_shown op x place (Some p) e h =
+      let leaf : has_shape spec.phyla is_leaf_shape p ≡ true = ap (λ l. has_shape l is_leaf_shape p) kept.phyla ∙ unless_is (has_shape t.phyla is_leaf_shape p) place h in
+      subst (λ (o : Option ℕ). MatchOption o ⊥ (λ q. IsTrue (has_shape spec.phyla is_leaf_shape q))) (sym (type_shown op x p e)) leaf
+
+  item_fine : (op : ℕ) (i : Written) → hidden_item t op i ≡ None → IsItem spec op (item_of t op i)
+  item_fine op (Writes s) h = tt
+  item_fine op (Child how) h = tt
+  item_fine op (Separates ss) h = tt
+  item_fine op (Shows x) h = leaf_shown op x (target_place x) (target_type t op x) refl h
+
+  scheme_fine : (p op : ℕ) (n : Name) (s : SchemeDecl) → phylum_of t.ops op ≡ Some p → (places_fault (places.is_pair t p op) (length (args_of t.ops op)) n s ≡ None) × (hidden_scheme t op s ≡ None) → IsScheme spec op (scheme_of t op s)
+  scheme_fine p op n s own h =
+      let fits = both_true (nat_eq (count_by places.is_place s.items) (length (args_of t.ops op))) (places.separators_fit (places.is_pair t p op) 0 s.items) (fitting_is (places.is_pair t p op) (length (args_of t.ops op)) n s h.0) in
+      record {
+        places = same_places t op s.items ∙ equal_is (count_by places.is_place s.items) (length (args_of t.ops op)) fits.0 ∙ ap length (sym (args_kept t spec kept op));
+        separators = same_separators t op (is_pair spec op) 0 s.items ∙ ap (λ b. places.separators_fit b 0 s.items) (same_pair p op own) ∙ fits.1;
+        shown = All-from_recursion (IsItem spec op) (map (item_of t op) s.items) (each_map (IsItem spec op) (λ i. hidden_item t op i ≡ None) (item_of t op) s.items (item_fine op) (first-none (hidden_item t op) s.items h.1));
+      }
+
+  -- the schemes of a declaration, each of its operator
+  abbrev IsOfOperator : ℕ × Scheme → Type 0
+  IsOfOperator x = IsScheme spec x.0 x.1
+
+  schemes_fine : (p op : Name) (ss : List SchemeDecl) (o : Option ℕ) → operator_at t p op ≡ o → kids_fault t (Schemes p op None ss) ≡ None → first (hidden_scheme t (body.operator t p op)) ss ≡ None → Each IsOfOperator (schemes_under t ss o)
+  schemes_fine p op ss None e kids hid = tt
+  schemes_fine p op ss (Some k) e kids hid =
+      let there = at_there t p op k e in
+      let own = operator_there t there.0 k op.text there.2 in
+      let none : operator_faults t there.0 k op ss ≡ None =
+      ap (option_and_then (λ j. operator_faults t there.0 j op ss)) (sym there.2) ∙ ap (option_and_then (λ P. phylum_faults t P op ss)) (sym there.1) ∙ kids in
+      let number : body.operator t p op ≡ k = ap (λ o. unwrap_or o 0) e in
+      let shows : first (hidden_scheme t k) ss ≡ None = ap (λ j. first (hidden_scheme t j) ss) (sym number) ∙ hid in
+      each_map IsOfOperator (λ s. (places_fault (places.is_pair t there.0 k) (length (args_of t.ops k)) op s ≡ None) × (hidden_scheme t k s ≡ None)) (λ s. (k, scheme_of t k s)) ss
+      (λ s h. scheme_fine there.0 k op s own h)
+      (each_both (λ s. places_fault (places.is_pair t there.0 k) (length (args_of t.ops k)) op s ≡ None) (λ s. hidden_scheme t k s ≡ None) ss
+      (first-none (places_fault (places.is_pair t there.0 k) (length (args_of t.ops k)) op) ss none) (first-none (hidden_scheme t k) ss shows))
+
+  decl_fine : (d : Decl) → (kids_fault t d ≡ None) × (hidden_at t d ≡ None) → Each IsOfOperator (schemes_at t d)
+  decl_fine (Schemes p op None ss) h = schemes_fine p op ss (operator_at t p op) refl h.0 h.1
+  decl_fine d h = tt
+
+  owned_fine : (pairs : List (ℕ × Scheme)) (k : ℕ) → Each IsOfOperator pairs → Each (IsScheme spec k) (owned pairs k)
+  owned_fine [] k h = tt
+  owned_fine (x ∷ pairs) k h = each_append (IsScheme spec k) _ (owned pairs k) (one (nat_eq x.0 k) refl) (owned_fine pairs k h.1)
+    where
+      one : (b : Bool) → nat_eq x.0 k ≡ b → Each (IsScheme spec k) (if b then x.1 ∷ [] else [])
+      one true e = (subst (λ j. IsScheme spec j x.1) (equal_is x.0 k e) h.0, tt)
+      one false e = tt
+
+  all_fine : (ds : List Decl) (k : ℕ) → scheme_kids t ds ≡ None → first_hidden t ds ≡ None → Each (IsScheme spec k) (schemes_of t ds k)
+  all_fine ds k kids hid =
+      owned_fine (flat_map (schemes_at t) ds) k
+      (each_flat IsOfOperator (λ d. (kids_fault t d ≡ None) × (hidden_at t d ≡ None)) (schemes_at t) ds decl_fine
+      (each_both (λ d. kids_fault t d ≡ None) (λ d. hidden_at t d ≡ None) ds (first-none (kids_fault t) ds kids) (first-none (hidden_at t) ds hid)))
+
+-- an operator whose flag stands has a scheme
+set_was : (F : List Bool) (k p : ℕ) → flag (set F k true) p ≡ true → (flag F p ≡ true) ⊎ (k ≡ p)
+set_was [] k p h = inl h
+set_was (b ∷ F) zero zero h = inr refl
+set_was (b ∷ F) zero (suc p) h = inl h
+set_was (b ∷ F) (suc k) zero h = inl h
+set_was (b ∷ F) (suc k) (suc p) h = by (set_was F k p h)
+  where
+    by : (flag F p ≡ true) ⊎ (k ≡ p) → (flag F p ≡ true) ⊎ (suc k ≡ suc p)
+    by (inl f) = inl f
+    by (inr e) = inr (ap suc e)
+
+some_owned : (t : Table) (k : ℕ) (ss : List SchemeDecl) → (ss ≡ [] → ⊥) → 1 ≤ length (owned (map (λ s. (k, scheme_of t k s)) ss) k)
+some_owned t k [] some = absurd (some refl)
+some_owned t k (s ∷ ss) some =
+    let e : owned (map (λ x. (k, scheme_of t k x)) (s ∷ ss)) k ≡ scheme_of t k s ∷ owned (map (λ x. (k, scheme_of t k x)) ss) k =
+    ap (λ b. (if b then scheme_of t k s ∷ [] else []) ++ owned (map (λ x. (k, scheme_of t k x)) ss) k) (equal_to k) in
+    let n : length (owned (map (λ x. (k, scheme_of t k x)) (s ∷ ss)) k) ≡ suc (length (owned (map (λ x. (k, scheme_of t k x)) ss) k)) = ap length e in
+    omega (arith, n)
+
+gives : (t : Table) (F : List Bool) (k : ℕ) (d : Decl) → IsWritten d → flag (give t F d) k ≡ true → (flag F k ≡ true) ⊎ (1 ≤ length (owned (schemes_at t d) k))
+gives t F k (Schemes p op None ss) written h = by (operator_at t p op) h
+  where
+    by : (o : Option ℕ) → flag (give_to F o) k ≡ true → (flag F k ≡ true) ⊎ (1 ≤ length (owned (schemes_under t ss o) k))
+    by None e = inl e
+    by (Some j) e = is (set_was F j k e)
+      where
+        is : (flag F k ≡ true) ⊎ (j ≡ k) → (flag F k ≡ true) ⊎ (1 ≤ length (owned (schemes_under t ss (Some j)) k))
+        is (inl f) = inl f
+        is (inr same) = inr (subst (λ m. 1 ≤ length (owned (schemes_under t ss (Some j)) m)) same (some_owned t j ss written))
+gives t F k d written h = inl h
+
+given_has : (t : Table) (F : List Bool) (k : ℕ) (ds : List Decl) → Each IsWritten ds → flag (give_all t F ds) k ≡ true → (flag F k ≡ true) ⊎ (1 ≤ length (schemes_of t ds k))
+given_has t F k [] written h = inl h
+given_has t F k (d ∷ ds) written h =
+    let parts : length (schemes_of t (d ∷ ds) k) ≡ length (owned (schemes_at t d) k) + length (schemes_of t ds k) =
+    ap length (owned_append (schemes_at t d) (flat_map (schemes_at t) ds) k) ∙ length-append (owned (schemes_at t d) k) (schemes_of t ds k) in
+    by parts (given_has t (give t F d) k ds written.1 h)
+  where
+    first_has : length (schemes_of t (d ∷ ds) k) ≡ length (owned (schemes_at t d) k) + length (schemes_of t ds k) → (flag F k ≡ true) ⊎ (1 ≤ length (owned (schemes_at t d) k)) → (flag F k ≡ true) ⊎ (1 ≤ length (schemes_of t (d ∷ ds) k))
+    first_has e (inl f) = inl f
+    first_has e (inr n) = inr (omega (arith, e, n))
+
+    by : length (schemes_of t (d ∷ ds) k) ≡ length (owned (schemes_at t d) k) + length (schemes_of t ds k) → (flag (give t F d) k ≡ true) ⊎ (1 ≤ length (schemes_of t ds k)) → (flag F k ≡ true) ⊎ (1 ≤ length (schemes_of t (d ∷ ds) k))
+    by e (inl f) = first_has e (gives t F k d written.0 f)
+    by e (inr n) = inr (omega (arith, e, n))
+
+none_up : (n p : ℕ) → flag (replicate n false) p ≡ true → ⊥
+none_up zero p h = absurd (cc h)
+none_up (suc n) zero h = absurd (cc h)
+none_up (suc n) (suc p) h = none_up n p h
+
+-- no operator is missing
+place_there : (xs : List Position) (k : ℕ) → k < length xs → (p : Position) × (slice_get xs k ≡ Some p)
+place_there [] k h = absurd (omega (arith, h))
+place_there (x ∷ xs) zero h = (x, refl)
+place_there (x ∷ xs) (suc k) h = place_there xs k (omega (arith, h))
+
+found_at : (t : Table) (k : ℕ) (o : Operator) → k < length t.op_places → fault_at t k o ≡ None → ⊥
+found_at t k o low h = let p = place_there t.op_places k low in cc (ap (option_map (λ place. NoScheme place o.name)) p.1, h)
+
+passed : (t : Table) (k : ℕ) (o : Operator) (rest : Option SpecFault) (b : Bool) → k < length t.op_places → (if b then fault_at t k o else rest) ≡ None → (b ≡ false) × (rest ≡ None)
+passed t k o rest true low h = absurd (found_at t k o low h)
+passed t k o rest false low h = (refl, h)
+
+not_missing : (t : Table) (shown given : List Bool) (k : ℕ) (ops : List Operator) (j : ℕ) (o : Operator) → k + length ops ≤ length t.op_places → missing_from t shown given k ops ≡ None → slice_get ops j ≡ Some o → is_missing shown given (k + j) o ≡ false
+not_missing t shown given k [] j o low h at = absurd (cc at)
+not_missing t shown given k (x ∷ ops) zero o low h at =
+    let same : x ≡ o = cc at in
+    let z : k ≡ k + 0 = omega arith in
+    let here : k < length t.op_places = omega (arith, low) in
+    ap (λ m. is_missing shown given m o) (sym z) ∙ ap (is_missing shown given k) (sym same) ∙ (passed t k x (missing_from t shown given (suc k) ops) (is_missing shown given k x) here h).0
+not_missing t shown given k (x ∷ ops) (suc j) o low h at =
+    let e : k + suc j ≡ suc k + j = omega arith in
+    let here : k < length t.op_places = omega (arith, low) in
+    ap (λ m. is_missing shown given m o) e
+    ∙ not_missing t shown given (suc k) ops j o (omega (arith, low)) (passed t k x (missing_from t shown given (suc k) ops) (is_missing shown given k x) here h).1 at
+
+flag_stands : (a b : Bool) → a && not b ≡ false → a ≡ true → b ≡ true
+flag_stands true true h e = refl
+flag_stands true false h e = absurd (cc h)
+flag_stands false b h e = absurd (cc e)
+
+-- shown phyla are those of the draft
+module _ (t : Table) (spec : Spec) (kept : HasTable t spec) where
+  shown_kept : {p : ℕ} → IsShown spec p → IsShown (drafted t) p
+  shown_kept root = subst (IsShown (drafted t)) (sym kept.root) root
+  shown_kept (argument op p q own is there) =
+      argument op p q (sym (phylum_kept t spec kept op) ∙ own) (shown_kept is) (subst (λ (l : List ℕ). Contains l q) (args_kept t spec kept op) there)
+
+  root_there : HasShapes spec → t.root < length t.phyla
+  root_there shapes = by (slice_get spec.phyla spec.root) refl shapes.root
+    where
+      by : (o : Option Phylum) → slice_get spec.phyla spec.root ≡ o → MatchOption o ⊥ (λ x. (1 ≤ length x.ops) × All (λ (a : Attr). a.way ≡ Synthesized) x.attrs) → t.root < length t.phyla
+      by None e h = absurd h
+      by (Some x) e h =
+          let low : spec.root < length spec.phyla = slice_get_within spec.phyla spec.root x e in
+          subst (λ m. m < length t.phyla) kept.root (subst (λ (l : List Phylum). spec.root < length l) kept.phyla low)
+
+  arg_there : HasShapes spec → (op q : ℕ) → Contains (args_of t.ops op) q → q < length t.phyla
+  arg_there shapes op q there = by (slice_get spec.ops op) refl (subst (λ (l : List ℕ). Contains l q) (sym (args_kept t spec kept op)) there)
+    where
+      usable : (p : ℕ) → is_usable spec p ≡ true → p < length t.phyla
+      usable p h = some (slice_get spec.phyla p) refl h
+        where
+          some : (o : Option Phylum) → slice_get spec.phyla p ≡ o → unwrap_or (option_map (λ (x : Phylum). not (is_lexical_shape x.shape && bytes_eq x.name whitespace)) o) false ≡ true → p < length t.phyla
+          some None e f = absurd (cc f)
+          some (Some x) e f = subst (λ (l : List Phylum). p < length l) kept.phyla (slice_get_within spec.phyla p x e)
+
+      by : (o : Option Operator) → slice_get spec.ops op ≡ o → Contains (unwrap_or (option_map (λ (x : Operator). x.args) o) []) q → q < length t.phyla
+      by None e c = absurd (omega (arith, c.1))
+      by (Some o) e c =
+          usable q (All-contains (λ p. IsTrue (is_usable spec p)) o.args q (All-contains (λ (x : Operator). All (λ p. IsTrue (is_usable spec p)) x.args) spec.ops o shapes.args (contains_at spec.ops op o e)) c)
+
+-- the schemes of the record fit their operators, and the operators of shown phyla have some
+pub record_schemes : (ds : List Decl) (spec : Spec) → HasTable (names_of ds) spec → spec.ops ≡ with_schemes (schemes_of (names_of ds) ds) (names_of ds).ops → HasShapes spec → Each IsWritten ds
+    → no_scheme (names_of ds) ds ≡ None → scheme_kids (names_of ds) ds ≡ None → first_hidden (names_of ds) ds ≡ None → HasSchemes spec
+record_schemes ds spec kept made shapes written none kids hid = record { shown = shown_have; schemes = schemes_fit }
+  where
+    schemes_fit : (op : ℕ) (o : Operator) → slice_get spec.ops op ≡ Some o → All (IsScheme spec op) o.schemes
+    schemes_fit op o at =
+        let there = made_there (with_scheme (schemes_of (names_of ds) ds)) (names_of ds).ops op o (ap (λ l. slice_get l op) (sym made) ∙ at) in
+        All-from_recursion (IsScheme spec op) o.schemes
+        (subst (Each (IsScheme spec op)) (ap (λ (x : Operator). x.schemes) there.2) (all_fine (names_of ds) spec kept ds op kids hid))
+
+    shown_have : (op : ℕ) (o : Operator) → slice_get spec.ops op ≡ Some o → IsShown spec o.phylum → 1 ≤ length o.schemes
+    shown_have op o at is =
+        let there = made_there (with_scheme (schemes_of (names_of ds) ds)) (names_of ds).ops op o (ap (λ l. slice_get l op) (sym made) ∙ at) in
+        let own : there.0.phylum ≡ o.phylum = ap (λ (x : Operator). x.phylum) there.2 in
+        let up : flag (marks.shown (names_of ds)) o.phylum ≡ true = all_shown (drafted (names_of ds)) (root_there (names_of ds) spec kept shapes) (arg_there (names_of ds) spec kept shapes) (shown_kept (names_of ds) spec kept is) in
+        let low : 0 + length (names_of ds).ops ≤ length (names_of ds).op_places = let e = places_count ds in omega (arith, e) in
+        let z : 0 + op ≡ op = omega arith in
+        let fine : is_missing (marks.shown (names_of ds)) (given (names_of ds) ds) op there.0 ≡ false =
+        ap (λ k. is_missing (marks.shown (names_of ds)) (given (names_of ds) ds) k there.0) (sym z) ∙ not_missing (names_of ds) (marks.shown (names_of ds)) (given (names_of ds) ds) 0 (names_of ds).ops op there.0 low none there.1 in
+        let stands : flag (given (names_of ds) ds) op ≡ true = flag_stands (flag (marks.shown (names_of ds)) there.0.phylum) (flag (given (names_of ds) ds) op) fine (ap (flag (marks.shown (names_of ds))) own ∙ up) in
+        subst (λ (x : Operator). 1 ≤ length x.schemes) there.2 (by op (given_has (names_of ds) (replicate (length (names_of ds).ops) false) op ds written stands))
+      where
+        by : (k : ℕ) → (flag (replicate (length (names_of ds).ops) false) k ≡ true) ⊎ (1 ≤ length (schemes_of (names_of ds) ds k)) → 1 ≤ length (schemes_of (names_of ds) ds k)
+        by k (inl f) = absurd (none_up (length (names_of ds).ops) k f)
+        by k (inr n) = n

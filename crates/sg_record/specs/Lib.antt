@@ -1,0 +1,5 @@
+pub mod Record
+pub mod PiecesView
+pub mod Entries
+pub mod Premises
+pub mod RecordView

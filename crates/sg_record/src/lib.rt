@@ -1,0 +1,13 @@
+//! The record of a specification, and the faults of its entries.
+#![tactic(auto)]
+
+mod bodies;
+pub mod entries;
+pub mod laws;
+pub mod pieces;
+mod productions;
+pub mod record;
+mod schemes;
+#[cfg(test)]
+mod tests;
+mod transforms;

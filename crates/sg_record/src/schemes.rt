@@ -1,0 +1,185 @@
+//! The schemes of declarations.
+ghost use Rattle.std.specs.Prelude.{◌≡◌, ◌++◌, ℕ, map, unwrap_or, IfOk, OnOk};
+ghost use Rattle.sg_ast.specs.View.{tree_of, trees_of};
+ghost use Rattle.sg_names.specs.Names.{owned};
+ghost use Rattle.sg_names.specs.Rows.{row_at};
+ghost use Rattle.sg_record.specs.Record as spec;
+ghost use Rattle.sg_schemes.specs.Shown as schemes;
+ghost use Rattle.sg_typing.specs.Arguments.{local_of};
+
+use crate::pieces::pieces;
+use sg_ast::decl::{Decl, Item as Written, SchemeDecl, Target};
+use sg_ast::name::{Name, Quoted};
+use sg_kinds::ids::OpId;
+use sg_kinds::memory::NoMemory;
+use sg_kinds::row::Row;
+use sg_kinds::spec::{Item, Occurrence, Operator, Piece, Scheme};
+use sg_kinds::text::Text;
+use sg_names::groups::Groups;
+use sg_names::names::Names;
+use sg_typing::local_slot;
+use std::alloc::Global;
+
+/// The pieces of a string; none where it has none.
+fn pieces_in(alloc: Global, text: &[u8]) -> Result<Row<Piece>, NoMemory>
+    ensures { IfOk result (λ r. r ≡ spec.pieces_in text.now) }
+{
+    match pieces(alloc, text)? {
+        Some(pieces) => Ok(Row::new(pieces)),
+        None => Ok(Row::new(Vec::new(alloc))),
+    }
+}
+
+/// The strings of a separator, one behind the other.
+fn bytes_in(alloc: Global, strings: &[Quoted]) -> Result<Vec<u8>, NoMemory>
+    ensures { IfOk result (λ v. v.items ≡ spec.bytes_in strings.now) }
+{
+    let mut bytes = Vec::new(alloc);
+    for string in strings {
+        bytes.extend_from_slice(string.text.as_slice())?;
+    }
+    Ok(bytes)
+}
+
+const FIRST: Occurrence = Occurrence { at: 0, slot: 0 };
+
+/// A local as what a scheme shows.
+fn shown_local(names: &Names, op: OpId, name: &Text) -> Result<Occurrence, NoMemory>
+    ensures { IfOk result (λ o. o ≡ unwrap_or (local_of names.now op name.now) spec.first_slot) }
+{
+    let Some(slot) = local_slot(names, op, name) else {
+        return Ok(FIRST);
+    };
+    let Ok(slot) = u32::try_from(slot) else {
+        return Err(NoMemory);
+    };
+    Ok(Occurrence { at: 0, slot })
+}
+
+/// What a scheme of an operator shows.
+fn shown(names: &Names, op: OpId, target: &Target) -> Result<Occurrence, NoMemory>
+    ensures { IfOk result (λ o. o ≡ spec.shown names.now op target.now) }
+{
+    match target {
+        Target::Attribute(reference) => match names.reference(op, reference) {
+            Some(occurrence) => Ok(occurrence),
+            None => Ok(FIRST),
+        },
+        Target::Local(name) => shown_local(names, op, &name.text),
+    }
+}
+
+/// An item of a scheme.
+fn item(alloc: Global, names: &Names, op: OpId, item: &Written) -> Result<Item, NoMemory>
+    ensures { IfOk result (λ i. i ≡ spec.item_of names.now op item.now) }
+{
+    match item {
+        Written::Writes(string) => {
+            let pieces = pieces_in(alloc, string.text.as_slice())?;
+            Ok(Item::Writes(pieces))
+        }
+        Written::Child(how) => Ok(Item::Child(*how)),
+        Written::Shows(target) => {
+            let occurrence = shown(names, op, target)?;
+            Ok(Item::Shows(occurrence))
+        }
+        Written::Separates(strings) => {
+            let bytes = bytes_in(alloc, strings.as_slice())?;
+            let pieces = pieces_in(alloc, bytes.as_slice())?;
+            Ok(Item::Separates(pieces))
+        }
+    }
+}
+
+fn items(alloc: Global, names: &Names, op: OpId, items: &[Written]) -> Result<Vec<Item>, NoMemory>
+    ensures { IfOk result (λ v. v.items ≡ map (spec.item_of names.now op) items.now) }
+{
+    let mut made = Vec::new(alloc);
+    for each in items {
+        made.push(item(alloc, names, op, each)?)?;
+    }
+    Ok(made)
+}
+
+/// A scheme of an operator.
+fn scheme(alloc: Global, names: &Names, op: OpId, scheme: &SchemeDecl) -> Result<Scheme, NoMemory>
+    ensures { IfOk result (λ s. s ≡ spec.scheme_of names.now op scheme.now) }
+{
+    let items = items(alloc, names, op, scheme.items.as_slice())?;
+    Ok(Scheme {
+        rests: scheme.rests,
+        editable: scheme.editable,
+        items: Row::new(items),
+    })
+}
+
+/// The operator of a phylum, by their names.
+fn operator_at(names: &Names, phylum: &Name, op: &Name) -> Option<OpId>
+    ensures { result ≡ schemes.operator_at names.now phylum.now op.now }
+{
+    let phylum = names.phylum_named(&phylum.text)?;
+    names.operator_named(phylum, &op.text)
+}
+
+/// Puts schemes of an operator behind its others.
+fn add_schemes(
+    alloc: Global,
+    names: &Names,
+    found: &mut Groups<Scheme>,
+    op: OpId,
+    schemes: &[SchemeDecl],
+) -> Result<(), NoMemory>
+    ensures { OnOk result ((k : ℕ) → row_at found.new k ≡ row_at found.old k ++ owned (map (λ s. (op, spec.scheme_of names.now op s)) schemes.now) k) }
+{
+    let owner = op.number;
+    for each in schemes {
+        found.put(alloc, owner, scheme(alloc, names, op, each)?)?;
+    }
+    Ok(())
+}
+
+/// The same of a declaration, if its schemes are of the ordinary view.
+fn add_schemes_at(
+    alloc: Global,
+    names: &Names,
+    found: &mut Groups<Scheme>,
+    decl: &Decl,
+) -> Result<(), NoMemory>
+    ensures { OnOk result ((k : ℕ) → row_at found.new k ≡ row_at found.old k ++ owned (spec.schemes_at names.now (tree_of decl.now)) k) }
+{
+    if let Decl::Schemes(phylum, op, None, schemes) = decl
+        && let Some(op) = operator_at(names, phylum, op)
+    {
+        add_schemes(alloc, names, found, op, schemes.as_slice())?;
+    }
+    Ok(())
+}
+
+/// The schemes of each operator.
+pub(crate) fn schemes(
+    alloc: Global,
+    decls: &[Decl],
+    names: &Names,
+) -> Result<Groups<Scheme>, NoMemory>
+    ensures { IfOk result (λ g. (k : ℕ) → row_at g k ≡ spec.schemes_of names.now (trees_of decls.now) k) }
+{
+    let mut found = Groups::new(alloc);
+    for decl in decls {
+        add_schemes_at(alloc, names, &mut found, decl)?;
+    }
+    Ok(found)
+}
+
+/// Gives the operators their schemes.
+pub(crate) fn with_schemes(
+    alloc: Global,
+    mut ops: Vec<Operator>,
+    mut schemes: Groups<Scheme>,
+) -> Vec<Operator>
+    ensures { result.items ≡ spec.with_schemes (row_at schemes) ops.items }
+{
+    for place in 0..ops.len() {
+        ops[place].schemes = schemes.take(alloc, place);
+    }
+    ops
+}

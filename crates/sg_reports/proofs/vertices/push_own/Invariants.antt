@@ -1,0 +1,7 @@
+use Rattle.std.proofs.Common.{◌≡◌, ◌++◌, map, take}
+use Rattle.sg_kinds.specs.declared.spec.Attr.{Attr}
+use Rattle.sg_kinds.specs.declared.fault.PrintedVertex.TheVariants as vertex
+use Rattle.sg_reports.proofs.vertices.push_own.Given as goal
+
+abbrev pub invariant-loop-attr : goal.invariant-loop-attr
+invariant-loop-attr l = l.vertices.items ≡ l.initial.vertices.items ++ map (λ (a : Attr). vertex.Own a.name) (take l.attr-index l.attrs)

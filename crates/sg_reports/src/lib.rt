@@ -1,0 +1,12 @@
+//! Faults of tables and of ordering, as they are printed.
+#![tactic(auto)]
+
+mod items;
+pub mod laws;
+pub mod orders;
+mod places;
+mod symbols;
+pub mod tables;
+#[cfg(test)]
+mod tests;
+mod vertices;

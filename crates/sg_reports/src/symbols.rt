@@ -1,0 +1,160 @@
+//! The symbols of the grammar as they are printed.
+ghost use Rattle.std.specs.Prelude.{◌≡◌, ◌++◌, map, IfOk, OnOk};
+ghost use Rattle.sg_patterns.specs.Lexemes.{literals_of};
+ghost use Rattle.sg_reports.specs.Symbols.{phylum_name, marker_of, lexeme_symbols, nonterminal_symbols, printed_symbols, symbol_in, name_of};
+
+use sg_kinds::fault::PrintedSymbol;
+use sg_kinds::ids::PhylumId;
+use sg_kinds::marks::Shape;
+use sg_kinds::memory::NoMemory;
+use sg_kinds::row::Row;
+use sg_kinds::spec::{Entry, Phylum, Production, Spec};
+use sg_kinds::text::Text;
+use sg_patterns::Lexemes;
+use std::alloc::Global;
+
+/// The name of a phylum.
+pub(crate) fn phylum_name(
+    alloc: Global,
+    phyla: &Row<Phylum>,
+    phylum: PhylumId,
+) -> Result<Text, NoMemory>
+    ensures { IfOk result (λ t. t ≡ phylum_name phyla.now phylum) }
+{
+    match phyla.place(phylum.number) {
+        Some(phylum) => Ok(phylum.name.copy(alloc)?),
+        None => Ok(Text::new(Vec::new(alloc))),
+    }
+}
+
+/// Puts the markers of entries behind the other symbols.
+fn push_markers(
+    alloc: Global,
+    symbols: &mut Vec<PrintedSymbol>,
+    phyla: &Row<Phylum>,
+    entries: &[Entry],
+) -> Result<(), NoMemory>
+    ensures { OnOk result (symbols.new.items ≡ symbols.old.items ++ map (marker_of phyla.now) entries.now) }
+{
+    for entry in entries {
+        let name = phylum_name(alloc, phyla, entry.phylum)?;
+        symbols.push(PrintedSymbol::Marker(name))?;
+    }
+    Ok(())
+}
+
+/// Puts literals behind the other symbols.
+fn push_literals(
+    alloc: Global,
+    symbols: &mut Vec<PrintedSymbol>,
+    literals: &[Text],
+) -> Result<(), NoMemory>
+    ensures { OnOk result (symbols.new.items ≡ symbols.old.items ++ map PrintedSymbol.Literal literals.now) }
+{
+    for literal in literals {
+        let text = literal.copy(alloc)?;
+        symbols.push(PrintedSymbol::Literal(text))?;
+    }
+    Ok(())
+}
+
+/// Puts the lexeme phyla behind the other symbols.
+fn push_lexemes(
+    alloc: Global,
+    symbols: &mut Vec<PrintedSymbol>,
+    phyla: &[Phylum],
+) -> Result<(), NoMemory>
+    ensures { OnOk result (symbols.new.items ≡ symbols.old.items ++ lexeme_symbols phyla.now) }
+{
+    for phylum in phyla {
+        if let Shape::Lexemes(_) = phylum.shape {
+            let name = phylum.name.copy(alloc)?;
+            symbols.push(PrintedSymbol::Name(name))?;
+        }
+    }
+    Ok(())
+}
+
+/// Puts the nonterminals behind the other symbols, each where its first production stands.
+fn push_nonterminals(
+    alloc: Global,
+    symbols: &mut Vec<PrintedSymbol>,
+    productions: &[Production],
+) -> Result<(), NoMemory>
+    ensures { OnOk result (symbols.new.items ≡ symbols.old.items ++ nonterminal_symbols 0 productions.now) }
+{
+    let mut next = 0usize;
+    for production in productions {
+        if production.left as usize == next {
+            let name = production.name.copy(alloc)?;
+            symbols.push(PrintedSymbol::Name(name))?;
+            next += 1;
+        }
+    }
+    Ok(())
+}
+
+/// The symbols of the grammar of a specification, in the order of their numbers.
+pub(crate) fn printed_symbols(alloc: Global, spec: &Spec) -> Result<Vec<PrintedSymbol>, NoMemory>
+    ensures { IfOk result (λ v. v.items ≡ printed_symbols spec.now) }
+{
+    let lexemes = Lexemes::new(alloc, spec)?;
+    let mut symbols = Vec::new(alloc);
+    symbols.push(PrintedSymbol::End)?;
+    push_markers(alloc, &mut symbols, &spec.phyla, spec.entries.as_slice())?;
+    push_literals(alloc, &mut symbols, lexemes.literals.as_slice())?;
+    push_lexemes(alloc, &mut symbols, spec.phyla.as_slice())?;
+    push_nonterminals(alloc, &mut symbols, spec.productions.as_slice())?;
+    Ok(symbols)
+}
+
+/// An equal symbol.
+fn copy(alloc: Global, symbol: &PrintedSymbol) -> Result<PrintedSymbol, NoMemory>
+    ensures { IfOk result (λ s. s ≡ symbol.now) }
+{
+    match symbol {
+        PrintedSymbol::End => Ok(PrintedSymbol::End),
+        PrintedSymbol::Marker(text) => Ok(PrintedSymbol::Marker(text.copy(alloc)?)),
+        PrintedSymbol::Literal(text) => Ok(PrintedSymbol::Literal(text.copy(alloc)?)),
+        PrintedSymbol::Name(text) => Ok(PrintedSymbol::Name(text.copy(alloc)?)),
+    }
+}
+
+/// The symbol with a number.
+pub(crate) fn symbol_in(
+    alloc: Global,
+    symbols: &[PrintedSymbol],
+    x: u32,
+) -> Result<PrintedSymbol, NoMemory>
+    ensures { IfOk result (λ s. s ≡ symbol_in symbols.now x) }
+{
+    match symbols.get(x as usize) {
+        Some(symbol) => Ok(copy(alloc, symbol)?),
+        None => Ok(PrintedSymbol::End),
+    }
+}
+
+/// The symbols with these numbers.
+pub(crate) fn symbols_in(
+    alloc: Global,
+    symbols: &[PrintedSymbol],
+    numbers: &[u32],
+) -> Result<Row<PrintedSymbol>, NoMemory>
+    ensures { IfOk result (λ r. r ≡ map (symbol_in symbols.now) numbers.now) }
+{
+    let mut found = Vec::new(alloc);
+    for x in numbers {
+        found.push(symbol_in(alloc, symbols, *x)?)?;
+    }
+    Ok(Row::new(found))
+}
+
+/// The name of the symbol with a number, if it has one.
+pub(crate) fn name_in(alloc: Global, symbols: &[PrintedSymbol], x: u32) -> Result<Text, NoMemory>
+    ensures { IfOk result (λ t. t ≡ name_of (symbol_in symbols.now x)) }
+{
+    match symbols.get(x as usize) {
+        Some(PrintedSymbol::Name(name)) => Ok(name.copy(alloc)?),
+        _ => Ok(Text::new(Vec::new(alloc))),
+    }
+}

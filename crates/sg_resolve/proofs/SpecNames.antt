@@ -1,0 +1,67 @@
+-- The counts and the names of a specification with the table of declarations.
+use Rattle.std.proofs.Common.{◌≡◌, ◌≤◌, List, [], ◌∷◌, ◌++◌, length, map, take, None, refl, sym, ap, subst, ◌∙◌}
+use Rattle.std.specs.List.{AllByRecursion}
+use Rattle.std.proofs.lemmas.List.{length-map}
+use Rattle.std.proofs.lemmas.List.Elements.{All-from_recursion}
+use Rattle.sg_kinds.specs.Values.{Bytes}
+use Rattle.sg_kinds.specs.Sound.{AreDistinct, builtin_names}
+use Rattle.sg_kinds.specs.declared.spec.Spec.{Spec}
+use Rattle.sg_kinds.specs.declared.spec.Attr.{Attr}
+use Rattle.sg_kinds.specs.declared.spec.Local.{Local}
+use Rattle.sg_kinds.specs.declared.spec.Operator.{Operator}
+use Rattle.sg_kinds.specs.declared.spec.Phylum.{Phylum}
+use Rattle.sg_kinds.specs.declared.spec.Function.{Function}
+use Rattle.sg_ast.specs.Declarations.{Decl}
+use Rattle.sg_counts.specs.Limits.{limit}
+use Rattle.sg_counts.specs.Duplicates.{duplicate}
+use Rattle.sg_names.specs.declared.table.Signature.{Signature}
+use Rattle.sg_names.specs.Names.{names_of}
+use Rattle.sg_names.specs.Drafted.{without_schemes, signature_of, HasTable}
+use Rattle.sg_resolve.specs.CountsNames.{CountsNames}
+use Rattle.sg_resolve.specs.OwnNames.{HasOwnNames}
+use Rattle.sg_resolve.proofs.Counting.{all_seen}
+use Rattle.sg_resolve.proofs.Limiting.{within_limits}
+use Rattle.sg_resolve.proofs.TableNames.{phyla_limited, ops_limited, args_limited, attrs_limited, locals_limited, functions_limited, params_limited, base_named, phyla_distinct, callables_distinct, attrs_distinct, locals_distinct}
+
+-- what holds of the table's operators and functions, where schemes and bodies say nothing
+of_ops : (P : Operator → Type 0) (ds : List Decl) (spec : Spec) → HasTable (names_of ds) spec → AllByRecursion P (names_of ds).ops → AllByRecursion (λ o. P (without_schemes o)) spec.ops
+of_ops P ds spec is all = all_seen P without_schemes spec.ops (subst (AllByRecursion P) (sym is.ops) all)
+
+of_functions : (P : Signature → Type 0) (ds : List Decl) (spec : Spec) → HasTable (names_of ds) spec → AllByRecursion P (names_of ds).functions → AllByRecursion (λ f. P (signature_of f)) spec.functions
+of_functions P ds spec is all = all_seen P signature_of spec.functions (subst (AllByRecursion P) (sym is.functions) all)
+
+of_phyla : (P : Phylum → Type 0) (ds : List Decl) (spec : Spec) → HasTable (names_of ds) spec → AllByRecursion P (names_of ds).phyla → AllByRecursion P spec.phyla
+of_phyla P ds spec is all = subst (AllByRecursion P) (sym is.phyla) all
+
+pub counts_names : (ds : List Decl) (spec : Spec) → limit ds ≡ None → HasTable (names_of ds) spec → CountsNames spec
+counts_names ds spec e is =
+    let low = within_limits ds e in
+    record {
+      phyla = subst (λ (xs : List Phylum). length xs ≤ 515) (sym is.phyla) (phyla_limited ds low);
+      ops = subst (λ n. n ≤ 2048) (sym (sym (length-map spec.ops without_schemes) ∙ ap length is.ops)) (ops_limited ds low);
+      args = All-from_recursion (λ (o : Operator). length o.args ≤ 16) spec.ops (of_ops (λ (o : Operator). length o.args ≤ 16) ds spec is (args_limited ds low));
+      attrs = All-from_recursion (λ (x : Phylum). length x.attrs ≤ 32) spec.phyla (of_phyla (λ (x : Phylum). length x.attrs ≤ 32) ds spec is (attrs_limited ds low));
+      locals = All-from_recursion (λ (o : Operator). length o.locals ≤ 32) spec.ops (of_ops (λ (o : Operator). length o.locals ≤ 32) ds spec is (locals_limited ds low));
+      functions = subst (λ n. n ≤ 1024) (sym (sym (length-map spec.functions signature_of) ∙ ap length is.functions)) (functions_limited ds low);
+      params = All-from_recursion (λ (f : Function). length f.params ≤ 16) spec.functions (of_functions (λ (f : Signature). length f.params ≤ 16) ds spec is (params_limited ds low));
+    }
+
+op_names : (ops : List Operator) → map (λ (o : Operator). o.name) (map without_schemes ops) ≡ map (λ (o : Operator). o.name) ops
+op_names [] = refl
+op_names (o ∷ ops) = ap (λ (l : List Bytes). o.name ∷ l) (op_names ops)
+
+function_names : (functions : List Function) → map (λ (f : Signature). f.name) (map signature_of functions) ≡ map (λ (f : Function). f.name) functions
+function_names [] = refl
+function_names (f ∷ functions) = ap (λ (l : List Bytes). f.name ∷ l) (function_names functions)
+
+pub own_names : (ds : List Decl) (spec : Spec) → duplicate ds ≡ None → HasTable (names_of ds) spec → HasOwnNames spec
+own_names ds spec e is =
+    let ops : map (λ (o : Operator). o.name) (names_of ds).ops ≡ map (λ (o : Operator). o.name) spec.ops = ap (map (λ (o : Operator). o.name)) (sym is.ops) ∙ op_names spec.ops in
+    let functions : map (λ (f : Signature). f.name) (names_of ds).functions ≡ map (λ (f : Function). f.name) spec.functions = ap (map (λ (f : Signature). f.name)) (sym is.functions) ∙ function_names spec.functions in
+    record {
+      base = ap (λ (xs : List Phylum). map (λ (x : Phylum). x.name) (take 3 xs)) is.phyla ∙ base_named ds;
+      phyla = subst (λ (xs : List Phylum). AreDistinct (map (λ (x : Phylum). x.name) xs)) (sym is.phyla) (phyla_distinct ds);
+      callables = subst AreDistinct (λ i. ops i ++ (functions i ++ builtin_names)) (callables_distinct ds e);
+      attrs = All-from_recursion (λ (x : Phylum). AreDistinct (map (λ (a : Attr). a.name) x.attrs)) spec.phyla (of_phyla (λ (x : Phylum). AreDistinct (map (λ (a : Attr). a.name) x.attrs)) ds spec is (attrs_distinct ds e));
+      locals = All-from_recursion (λ (o : Operator). AreDistinct (map (λ (l : Local). l.name) o.locals)) spec.ops (of_ops (λ (o : Operator). AreDistinct (map (λ (l : Local). l.name) o.locals)) ds spec is (locals_distinct ds e));
+    }

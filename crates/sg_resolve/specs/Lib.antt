@@ -1,0 +1,5 @@
+pub mod ShapeLexemes
+pub mod Resolved
+pub mod Limited
+pub mod CountsNames
+pub mod OwnNames

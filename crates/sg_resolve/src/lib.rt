@@ -1,0 +1,10 @@
+//! The names of a specification, or the first fault of its names and shapes.
+#![tactic(auto)]
+
+pub mod laws;
+mod resolving;
+pub mod shape_laws;
+#[cfg(test)]
+mod tests;
+
+pub use resolving::resolve;
