@@ -1,2 +1,16 @@
 mod Tokens
 mod PatternSteps
+mod WrittenText
+mod WrittenMarks
+mod WrittenTrees
+mod WrittenDecls
+pub mod WrittenLaws
+pub mod FirstLaws
+pub mod LexemeFaults
+pub mod Phases
+pub mod RecordApart
+pub mod RecordSchemes
+pub mod RecordCounts
+pub mod RecordNamed
+pub mod SoundSpec
+pub mod Judging

@@ -73,10 +73,26 @@ patterns_more [] (q ∷ ps) s p h is = absurd h
 patterns_more (t ∷ ss) [] s p h is = absurd h
 patterns_more (t ∷ ss) (q ∷ ps) s p h is = (h.0, patterns_more ss ps s p h.1 is)
 
+-- no other patterns
+only_more : (ss : List Quoted) (ps : List Lexeme) (s : Quoted) (p : Lexeme) → ((qs : List Lexeme) → ArePatterns ss qs → qs ≡ ps) → ((q : Lexeme) → IsPattern deepest q s.text → q ≡ p)
+    → (qs : List Lexeme) → ArePatterns (ss ++ s ∷ []) qs → qs ≡ ps ++ p ∷ []
+only_more ss ps s p only one qs h =
+    let parts = split ss qs h in
+    parts.1.1 ∙ (λ i. only parts.0 parts.1.2 i ++ one parts.1.0 parts.1.3 i ∷ [])
+  where
+    split : (ss : List Quoted) (qs : List Lexeme) → ArePatterns (ss ++ s ∷ []) qs → (front : List Lexeme) × ((last : Lexeme) × (qs ≡ front ++ last ∷ []) × ArePatterns ss front × IsPattern deepest last s.text)
+    split [] [] h = absurd h
+    split [] (q ∷ []) h = ([], (q, refl, tt, h.0))
+    split [] (q ∷ r ∷ qs) h = absurd h.1
+    split (t ∷ ss) [] h = absurd h
+    split (t ∷ ss) (q ∷ qs) h = let p = split ss qs h.1 in (q ∷ p.0, (p.1.0, ap (λ l. q ∷ l) p.1.1, (h.0, p.1.2), p.1.3))
+
 pub other : (ds : List Decl) (n : ℕ) (d : Decl) (ps : List Lexeme) (e : Option ℕ) → slice_get ds n ≡ Some d → IsOther d → ArePatternsOf ds n ps e → ArePatternsOf ds (n + 1) ps e
 other ds n d ps e there is so_far = record {
   lexemes = let same : flat_map text_at (take (n + 1) ds) ≡ flat_map text_at (take n ds) = texts_more ds n d there ∙ ap (λ t. flat_map text_at (take n ds) ++ t) (no_text d is) ∙ append-nil (flat_map text_at (take n ds)) in
       subst (λ ss. ArePatterns ss ps) (sym same) so_far.lexemes;
+  only = let same : flat_map text_at (take (n + 1) ds) ≡ flat_map text_at (take n ds) = texts_more ds n d there ∙ ap (λ t. flat_map text_at (take n ds) ++ t) (no_text d is) ∙ append-nil (flat_map text_at (take n ds)) in
+      λ qs h. so_far.only qs (subst (λ ss. ArePatterns ss qs) same h);
   formed = none_more HasNoForm ds n d there (no_fault d is).0 so_far.formed;
   some = so_far.some;
   none = λ h. none_more MatchesEmpty ds n d there (no_fault d is).1 (so_far.none h);
@@ -114,6 +130,7 @@ added ds n nm s ps qs e b there new so_far =
       lexemes =
           let more : ArePatterns (flat_map text_at (take n ds) ++ s ∷ []) (ps ++ new.pattern ∷ []) = patterns_more (flat_map text_at (take n ds)) ps s new.pattern so_far.lexemes new.form in
           subst (λ ss. ArePatterns ss (ps ++ new.pattern ∷ [])) (sym (texts_more ds n (LexemeOf nm s) there)) more;
+      only = λ rs h. only_more (flat_map text_at (take n ds)) ps s new.pattern so_far.only new.only rs (subst (λ ss. ArePatterns ss rs) (texts_more ds n (LexemeOf nm s) there) h);
       formed = none_more HasNoForm ds n (LexemeOf nm s) there (λ h. h new.pattern new.form) so_far.formed;
       some = λ h. All-append (λ p. Matches p [] → ⊥) ps (new.pattern ∷ []) (so_far.some (none_before e b h)) (All-cons (λ p. Matches p [] → ⊥) new.pattern [] (not_empty e b h new.empty_is) (All-nil (λ p. Matches p [] → ⊥)));
       none = λ h. none_more MatchesEmpty ds n (LexemeOf nm s) there (λ m. not_empty e b h new.empty_is (matches_there nm s new.pattern new.form new.only m)) (so_far.none (none_before e b h));

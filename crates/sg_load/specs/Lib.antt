@@ -2,3 +2,9 @@ pub mod Trees
 pub mod Rows
 pub mod Patterns
 pub mod PatternsSoFar
+pub mod SpecOf
+pub mod FirstFault
+pub mod Verdict
+pub mod Only
+pub mod Loaded
+pub mod PartsOf

@@ -34,6 +34,7 @@ pub record IsFirstEmpty (ds : List Decl) (place : ℕ) : Type 0 where
 
 pub record ArePatternsOf (ds : List Decl) (n : ℕ) (ps : List Lexeme) (empty : Option ℕ) : Type 0 where
   pub lexemes : AreLexemes (take n ds) ps
+  pub only : (qs : List Lexeme) → AreLexemes (take n ds) qs → qs ≡ ps
   pub formed : NoneBefore HasNoForm ds n
   pub some : empty ≡ None → All (λ p. Matches p [] → ⊥) ps
   pub none : empty ≡ None → NoneBefore MatchesEmpty ds n

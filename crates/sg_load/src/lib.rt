@@ -1,10 +1,16 @@
-//! The loading of a specification: its record, or its first fault.
+//! The loading of a specification: its record with what belongs to it, or its first static fault.
 #![tactic(auto)]
 
+pub mod laws;
+mod loaded;
+mod loading;
+mod parts;
 mod patterns;
 #[cfg(test)]
 mod tests;
 mod trees;
 
+pub use loaded::Loaded;
+pub use loading::load;
 pub use patterns::lexemes;
 pub use trees::read;

@@ -1,5 +1,5 @@
 //! The patterns of lexeme phyla.
-ghost use Rattle.std.specs.Prelude.{◌≡◌, ◌≢◌, [], IfOk, IfErr, MatchOption, All};
+ghost use Rattle.std.specs.Prelude.{◌≡◌, ◌≢◌, List, [], IfOk, IfErr, OnOk, MatchOption, All};
 ghost use Rattle.sg_kinds.specs.Lexemes as plain;
 ghost use Rattle.sg_kinds.specs.Matches.{Matches};
 ghost use Rattle.sg_patterns.specs.Spelling.{IsPattern, deepest};
@@ -7,7 +7,8 @@ ghost use Rattle.sg_ast.specs.Declarations.{LexemeOf};
 ghost use Rattle.sg_ast.specs.View.{tree_of, trees_of};
 ghost use Rattle.sg_load.specs.PatternsSoFar as spec;
 ghost use Rattle.sg_load.specs.PatternsSoFar.{IsAdded};
-ghost use Rattle.sg_load.specs.Patterns.{HasNoForm, IsFormFault, IsEmptyFault, IsLexemeFault, IsOther, AreLexemes};
+ghost use Rattle.sg_load.specs.Patterns.{HasNoForm, MatchesEmpty, IsFormFault, IsEmptyFault, IsLexemeFault, IsOther, AreLexemes};
+ghost use Rattle.sg_load.specs.Rows.{HasNone};
 
 use sg_ast::decl::Decl;
 use sg_ast::name::{Name, Quoted};
@@ -89,7 +90,9 @@ fn empty_fault(alloc: Global, decl: &Decl) -> SpecFault
 /// that of the first pattern that matches the empty text.
 pub fn lexemes(alloc: Global, decls: &[Decl]) -> Result<Row<Lexeme>, SpecFault>
     ensures lexemes { IfOk result (AreLexemes (trees_of decls.now)) }
+    ensures only { IfOk result (λ ps. (qs : List plain.Lexeme) → AreLexemes (trees_of decls.now) qs → qs ≡ ps) }
     ensures some { IfOk result (λ ps. All (λ p. Matches p [] → ⊥) ps) }
+    ensures none { OnOk result (HasNone HasNoForm (trees_of decls.now) × HasNone MatchesEmpty (trees_of decls.now)) }
     ensures fault { IfErr result (λ f. f ≢ SpecFault.NoMemory → IsLexemeFault (trees_of decls.now) f) }
 {
     let mut patterns = Vec::new(alloc);

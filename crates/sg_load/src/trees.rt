@@ -2,6 +2,7 @@
 ghost use Rattle.std.specs.Prelude.{◌≡◌, ◌≢◌, ◌≤◌, length, IfOk, IfErr, Ok, Err};
 ghost use Rattle.sg_text.specs.Lines.{line_at as line_of};
 ghost use Rattle.sg_ast.specs.View.{trees_of};
+ghost use Rattle.sg_record.specs.Premises.{HaveWritten};
 ghost use Rattle.sg_load.specs.Trees.{token_fault as fault_of, trees_in};
 
 use sg_ast::decl::Decl;
@@ -36,9 +37,9 @@ fn token_fault(bytes: &[u8], fault: LexFault) -> SpecFault
     }
 }
 
-/// The declarations of a text, or the first fault of its length, its tokens and its syntax.
+/// The declarations that a text spells, or the first fault of its length, its tokens and its syntax.
 #[tactic(auto, unfolding(crate::specs::Trees::trees_in))]
-pub fn read(alloc: Global, bytes: &[u8]) -> Result<Vec<Decl>, SpecFault>
+fn parsed(alloc: Global, bytes: &[u8]) -> Result<Vec<Decl>, SpecFault>
     ensures trees { IfOk result (λ ds. trees_in bytes.now ≡ Ok (trees_of ds.items)) }
     ensures fault { IfErr result (λ f. f ≢ SpecFault.NoMemory → trees_in bytes.now ≡ Err f) }
 {
@@ -54,4 +55,13 @@ pub fn read(alloc: Global, bytes: &[u8]) -> Result<Vec<Decl>, SpecFault>
         Err(ReadFault::Syntax(_, line)) => Err(SpecFault::Syntax(line)),
         Err(ReadFault::NoMemory) => Err(SpecFault::NoMemory),
     }
+}
+
+/// The declarations of a text, or the first fault of its length, its tokens and its syntax.
+pub fn read(alloc: Global, bytes: &[u8]) -> Result<Vec<Decl>, SpecFault>
+    ensures trees { IfOk result (λ ds. trees_in bytes.now ≡ Ok (trees_of ds.items)) }
+    ensures written { IfOk result (λ ds. HaveWritten (trees_of ds.items)) }
+    ensures fault { IfErr result (λ f. f ≢ SpecFault.NoMemory → trees_in bytes.now ≡ Err f) }
+{
+    parsed(alloc, bytes)
 }

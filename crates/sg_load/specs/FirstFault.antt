@@ -1,0 +1,102 @@
+-- The first static fault of declarations. The table of faults is cut into phases, each of which gives the first fault of its
+-- rows.
+use Rattle.std.specs.Prelude.{◌≡◌, ◌≢◌, ◌⊎◌, List, [], ◌∷◌, ◌++◌, Option, Some, ⊤}
+use Rattle.sg_kinds.specs.declared.fault.SpecFault.{SpecFault}
+use Rattle.sg_kinds.specs.declared.spec.Spec.{Spec}
+use Rattle.sg_kinds.specs.Specification.{rules_of}
+use Rattle.sg_ast.specs.Declarations.{Decl}
+use Rattle.sg_ast.specs.FirstFault.{first_of}
+use Rattle.sg_names.specs.Names.{names_of}
+use Rattle.sg_resolve.specs.Resolved.{resolve_fault}
+use Rattle.sg_typing.specs.Checked.{first_fault}
+use Rattle.sg_equations.specs.Complete.{incomplete}
+use Rattle.sg_schemes.specs.Shown.{no_scheme}
+use Rattle.sg_schemes.specs.Places.{scheme_kids}
+use Rattle.sg_schemes.specs.Strings.{scheme_text}
+use Rattle.sg_record.specs.Entries.{entry_twice, entry_type}
+use Rattle.sg_grammar.specs.Numbered.{grammar_of}
+use Rattle.sg_lalr.specs.Tables.{IsTableFault}
+use Rattle.sg_lalr.specs.declared.tables.TableFault.{TableFault}
+use Rattle.sg_lalr.specs.declared.tables.TableFault.TheVariants as table
+use Rattle.sg_orders.specs.declared.fault.OrderFault.{OrderFault}
+use Rattle.sg_orders.specs.declared.fault.OrderFault.TheVariants as order
+use Rattle.sg_orders.specs.Faults.{IsFault}
+use Rattle.sg_reports.specs.Tables.{printed_table}
+use Rattle.sg_reports.specs.Orders.{printed_order}
+use Rattle.sg_load.specs.Patterns.{IsLexemeFault}
+use Rattle.sg_load.specs.SpecOf.{IsSpecOf}
+
+-- counts, names, shapes, made terms and bindings; types; equations; schemes; the patterns of lexeme phyla; entries; tables of
+-- the input grammar; the order of evaluation
+pub data Phase : Type 0 where
+  Names : Phase
+  Types : Phase
+  Equations : Phase
+  Schemes : Phase
+  Lexemes : Phase
+  Entries : Phase
+  Tables : Phase
+  Order : Phase
+
+-- missing schemes, then their places, then their strings
+abbrev pub schemes_fault : List Decl → Option SpecFault
+schemes_fault ds = first_of (no_scheme (names_of ds) ds ∷ scheme_kids (names_of ds) ds ∷ scheme_text ds ∷ [])
+
+-- second entries, then their types
+abbrev pub entries_fault : List Decl → Option SpecFault
+entries_fault ds = first_of (entry_twice (names_of ds) ds ∷ entry_type (names_of ds) ds ∷ [])
+
+-- what the grammar of the record's input productions has no tables for
+pub record IsPrintedTable (ds : List Decl) (f : SpecFault) : Type 0 where
+  pub spec : Spec
+  pub spec_is : IsSpecOf ds spec
+  pub fault : TableFault
+  pub some : fault ≢ table.NoMemory
+  pub fault_is : IsTableFault (grammar_of spec) fault
+  pub printed : f ≡ printed_table spec ds fault
+
+-- what the record's equations have no order for
+pub record IsPrintedOrder (ds : List Decl) (f : SpecFault) : Type 0 where
+  pub spec : Spec
+  pub spec_is : IsSpecOf ds spec
+  pub fault : OrderFault
+  pub some : fault ≢ order.NoMemory
+  pub fault_is : IsFault (rules_of spec) fault
+  pub printed : f ≡ printed_order spec ds fault
+
+-- a fault of a phase
+abbrev pub IsFaultOf : List Decl → Phase → SpecFault → Type 0
+IsFaultOf ds Names f = resolve_fault ds ≡ Some f
+IsFaultOf ds Types f = first_fault (names_of ds) ds ≡ Some f
+IsFaultOf ds Equations f = incomplete (names_of ds) ds ≡ Some f
+IsFaultOf ds Schemes f = schemes_fault ds ≡ Some f
+IsFaultOf ds Lexemes f = IsLexemeFault ds f
+IsFaultOf ds Entries f = entries_fault ds ≡ Some f
+IsFaultOf ds Tables f = IsPrintedTable ds f
+IsFaultOf ds Order f = IsPrintedOrder ds f
+
+-- no fault of a phase; of any of these phases
+abbrev pub HasNoFault : List Decl → Phase → Type 0
+HasNoFault ds phase = (f : SpecFault) → IsFaultOf ds phase f → ⊥
+
+abbrev pub HaveNoFault : List Decl → List Phase → Type 0
+HaveNoFault ds [] = ⊤
+HaveNoFault ds (phase ∷ phases) = HasNoFault ds phase × HaveNoFault ds phases
+
+-- a fault of the first of these phases that has one
+abbrev pub IsFirstFault : List Decl → List Phase → SpecFault → Type 0
+IsFirstFault ds [] f = ⊥
+IsFirstFault ds (phase ∷ phases) f = IsFaultOf ds phase f ⊎ (HasNoFault ds phase × IsFirstFault ds phases f)
+
+-- the phases in their order: of names and equations, of what is shown and typed in, of the record
+abbrev pub early_phases : List Phase
+early_phases = Names ∷ Types ∷ Equations ∷ []
+
+abbrev pub shown_phases : List Phase
+shown_phases = Schemes ∷ Lexemes ∷ Entries ∷ []
+
+abbrev pub late_phases : List Phase
+late_phases = Tables ∷ Order ∷ []
+
+abbrev pub phases : List Phase
+phases = early_phases ++ (shown_phases ++ late_phases)

@@ -1,0 +1,38 @@
+//! Laws of the trees of a text and of the record of declarations, each as the contract of a function without code.
+ghost use Rattle.sg_ast.specs.Declarations.{Decl};
+ghost use Rattle.sg_counts.specs.Duplicates.{duplicate};
+ghost use Rattle.sg_counts.specs.Limits.{limit};
+ghost use Rattle.sg_kinds.specs.Lexemes.{Lexeme};
+ghost use Rattle.sg_kinds.specs.Sound.{AreCounted, HasNames};
+ghost use Rattle.sg_kinds.specs.Values.{Bytes};
+ghost use Rattle.sg_kinds.specs.declared.spec.Rule.{Rule};
+ghost use Rattle.sg_load.specs.Trees.{trees_in};
+ghost use Rattle.sg_names.specs.Names.{names_of};
+ghost use Rattle.sg_names.specs.Shapes.{result_count};
+ghost use Rattle.sg_record.specs.Premises.{AreApart, HaveWritten};
+ghost use Rattle.sg_record.specs.Record.{record_of};
+ghost use Rattle.std.specs.Prelude.{◌≡◌, List, None, Ok};
+
+/// The trees that are read of a text have values as their literals, and lists that may not be empty are not.
+#[tactic(auto, using(crate::proofs::WrittenLaws::read_written))]
+pub fn read_trees_are_written()
+    ensures { (bytes : Bytes) (ds : List Decl) → trees_in bytes ≡ Ok ds → HaveWritten ds }
+{}
+
+/// The counts of the record are in their limits where none of the declarations is over its own and no definition is a
+/// second one.
+pub fn records_are_counted()
+    ensures { (ds : List Decl) (rules : List Rule) (lexemes : List Lexeme) → limit ds ≡ None → duplicate ds ≡ None → AreCounted (record_of (names_of ds) ds rules lexemes) }
+{}
+
+/// Where no definition is a second one, no nonterminal has the name of a phylum.
+pub fn records_are_apart()
+    ensures { (ds : List Decl) → duplicate ds ≡ None → AreApart (names_of ds) }
+{}
+
+/// Then the names of each kind are distinct, and nonterminals with one result each are told by their names and by their
+/// numbers.
+pub fn records_have_names()
+    ensures { (ds : List Decl) (rules : List Rule) (lexemes : List Lexeme) → HaveWritten ds → duplicate ds ≡ None → result_count (names_of ds) ≡ None →
+        HasNames (record_of (names_of ds) ds rules lexemes) }
+{}
