@@ -1,50 +1,89 @@
 -- What follows the reply to the fetch of the specification
-use Rattle.std.proofs.Common.{◌≡◌, ℕ, List, [], Option, Some, None, refl, ap, ◌∙◌}
+use Rattle.std.proofs.Common.{◌≡◌, ◌≢◌, ℕ, List, [], ◌∷◌, Option, Some, None, refl, sym, ap, ◌∙◌, subst, arith}
 use Rattle.sg_kinds.specs.declared.spec.Spec.{Spec}
+use Rattle.sg_kinds.specs.declared.fault.SpecFault.{SpecFault as Fault}
 use Rattle.sg_replies.specs.Calls.{ShelfState}
 use Rattle.sg_replies.specs.declared.reply.Reply.{Reply}
 use Rattle.sg_replies.specs.declared.reply.Reply.TheVariants.{Fetched, FetchFailed, Kept, KeepFailed}
+use Rattle.sg_replies.proofs.Laws.{none_or_one_more}
+use Rattle.sg_load.specs.Verdict.{Verdict, IsVerdict}
+use Rattle.sg_load.specs.Verdict.Verdict.{Refused, Accepted}
+use Rattle.sg_load.specs.Only.{IsTheVerdict}
 use Rattle.sg_small_spec.specs.declared.fault.SmallFault.{SmallFault}
 use Rattle.sg_small_spec.specs.FirstFault.{first_fault}
 use Rattle.sg_small_spec.specs.SpecOf.{spec_of}
 use Rattle.sg_run.specs.declared.status.Status.{Status}
-use Rattle.sg_run.specs.declared.status.Status.TheVariants.{ReadFault, SpecFault}
-use Rattle.sg_run.specs.Output.{Told, text, opened, judged, spec_fault_text, read_fault_text}
-use Rattle.sg_run.specs.World.{SinkState, world}
+use Rattle.sg_run.specs.declared.status.Status.TheVariants.{Memory, ReadFault, SpecFault}
+use Rattle.sg_run.specs.Output.{Told, text, opened, judged, screened, shown, checked, session, ok_text, fault_told, unbuilt, read_fault_text}
+use Rattle.sg_run.specs.World.{SinkState, World, world}
 use Rattle.sg_run.specs.Parts.{Ends, Finished}
-use Rattle.sg_run.proofs.Endings.{ends_text, ends_as}
+use Rattle.sg_run.specs.Opening.{IsRightOf}
+use Rattle.sg_run.proofs.Endings.{ends_text, ends_as, ends_memory}
 
-judged_quiet : (fault : Option SmallFault) (t : Told) → t.taken ≡ 0 → (judged fault t).taken ≡ 0
-judged_quiet None t e = e
-judged_quiet (Some fault) t e = refl
+-- no reply is taken
+pub judged_quiet : (v : Verdict) (next : Spec → Told) → ((spec : Spec) → (next spec).taken ≡ 0) → (judged v next).taken ≡ 0
+judged_quiet (Refused f) next quiet = refl
+judged_quiet (Accepted spec) next quiet = quiet spec
 
--- without more replies none is taken
-pub opened_quiet : (next : Spec → List Reply → Told) (reply : Reply) → ((spec : Spec) → (next spec []).taken ≡ 0) → (opened next reply []).taken ≡ 0
-opened_quiet next (Fetched bytes) quiet = judged_quiet (first_fault bytes) (next (spec_of bytes) []) (quiet (spec_of bytes))
-opened_quiet next FetchFailed quiet = refl
-opened_quiet next Kept quiet = refl
-opened_quiet next KeepFailed quiet = refl
+pub screened_quiet : (f : Option SmallFault) (t : Told) → t.taken ≡ 0 → (screened f t).taken ≡ 0
+screened_quiet None t quiet = quiet
+screened_quiet (Some f) t quiet = refl
 
--- the specification has a fault, and its text ends the run
-pub ends_refused : (next : Spec → List Reply → Told) (reply : Reply) (bytes : List ℕ) (fault : SmallFault) (shelf : ShelfState) (old new : SinkState) (n : ℕ) (ended : Status)
-    → reply ≡ Fetched bytes → first_fault bytes ≡ Some fault → Finished SpecFault (spec_fault_text fault) old ended new
-    → Ends (world shelf old n) (opened next reply []) [] ended (world shelf new n)
-ends_refused next reply bytes fault shelf old new n ended is has put =
-    let told : opened next reply [] ≡ text SpecFault (spec_fault_text fault) =
-    ap (λ (r : Reply). opened next r []) is ∙ ap (λ (o : Option SmallFault). judged o (next (spec_of bytes) [])) has in
-    ends_as (world shelf old n) (world shelf new n) (text SpecFault (spec_fault_text fault)) (opened next reply []) ended told
-    (ends_text shelf old new n SpecFault ended (spec_fault_text fault) put)
+pub shown_quiet : (bytes : List ℕ) (spec : Spec) → (shown bytes spec []).taken ≡ 0
+shown_quiet bytes spec = screened_quiet (first_fault bytes) (session (spec_of bytes) []) refl
 
-missing : (next : Spec → List Reply → Told) (reply : Reply) → ((bytes : List ℕ) → reply ≡ Fetched bytes → ⊥) → opened next reply [] ≡ text ReadFault read_fault_text
-missing next (Fetched bytes) other = absurd (other bytes refl)
-missing next FetchFailed other = refl
-missing next Kept other = refl
-missing next KeepFailed other = refl
+-- want of memory before anything was put
+pub ends_early : (shelf : ShelfState) (sink : SinkState) (n : ℕ) (t : Told) → t.taken ≡ 0 → Ends (world shelf sink n) t [] Memory (world shelf sink n)
+ends_early shelf sink n t quiet = ends_memory shelf shelf sink n n t quiet (none_or_one_more _ shelf) (omega arith) (omega arith)
+
+-- the one verdict
+pub told_by_verdict : (bytes : List ℕ) (v w : Verdict) (next : Spec → Told) → IsTheVerdict bytes w → IsVerdict bytes v → judged v next ≡ judged w next
+told_by_verdict bytes v w next the is = ap (λ (x : Verdict). judged x next) (the.only v is)
+
+-- the specification has no fault
+pub shown_by_verdict : (bytes : List ℕ) (v : Verdict) (spec : Spec) → IsTheVerdict bytes (Accepted spec) → IsVerdict bytes v
+    → judged v (λ s. shown bytes s []) ≡ screened (first_fault bytes) (session (spec_of bytes) [])
+shown_by_verdict bytes v spec the is = told_by_verdict bytes v (Accepted spec) (λ s. shown bytes s []) the is
+
+-- its screen is built
+pub shown_as_screen : (bytes : List ℕ) (v : Verdict) (spec small : Spec) → IsTheVerdict bytes (Accepted spec) → IsVerdict bytes v → first_fault bytes ≡ None → small ≡ spec_of bytes
+    → judged v (λ s. shown bytes s []) ≡ session small []
+shown_as_screen bytes v spec small the is none made =
+    shown_by_verdict bytes v spec the is
+    ∙ ap (λ (o : Option SmallFault). screened o (session (spec_of bytes) [])) none
+    ∙ ap (λ (s : Spec). session s []) (sym made)
+
+-- its screen is not built
+pub screened_some : (bytes : List ℕ) (f : SmallFault) (next : Told) → first_fault bytes ≡ Some f → screened (first_fault bytes) next ≡ fault_told (unbuilt f)
+screened_some bytes f next has = ap (λ (o : Option SmallFault). screened o next) has
+
+missing : (next : List ℕ → Spec → List Reply → Told) (v : Verdict) (reply : Reply) → ((bytes : List ℕ) → reply ≡ Fetched bytes → ⊥) → opened next v reply [] ≡ text ReadFault read_fault_text
+missing next v (Fetched bytes) other = absurd (other bytes refl)
+missing next v FetchFailed other = refl
+missing next v Kept other = refl
+missing next v KeepFailed other = refl
 
 -- there is no specification, and its text ends the run
-pub ends_missing : (next : Spec → List Reply → Told) (reply : Reply) (shelf : ShelfState) (old new : SinkState) (n : ℕ) (ended : Status)
+pub ends_missing : (next : List ℕ → Spec → List Reply → Told) (v : Verdict) (reply : Reply) (shelf : ShelfState) (old new : SinkState) (n : ℕ) (ended : Status)
     → ((bytes : List ℕ) → reply ≡ Fetched bytes → ⊥) → Finished ReadFault read_fault_text old ended new
-    → Ends (world shelf old n) (opened next reply []) [] ended (world shelf new n)
-ends_missing next reply shelf old new n ended other put =
-    ends_as (world shelf old n) (world shelf new n) (text ReadFault read_fault_text) (opened next reply []) ended (missing next reply other)
+    → Ends (world shelf old n) (opened next v reply []) [] ended (world shelf new n)
+ends_missing next v reply shelf old new n ended other put =
+    ends_as (world shelf old n) (world shelf new n) (text ReadFault read_fault_text) (opened next v reply []) ended (missing next v reply other)
     (ends_text shelf old new n ReadFault ended read_fault_text put)
+
+-- there is one, and the run ends in what follows the verdict on it
+pub ends_fetched : (next : List ℕ → Spec → List Reply → Told) (v : Verdict) (reply : Reply) (bytes : List ℕ) (old new : World) (ended : Status) → reply ≡ Fetched bytes
+    → Ends old (judged v (λ spec. next bytes spec [])) [] ended new → Ends old (opened next v reply []) [] ended new
+ends_fetched next v reply bytes old new ended is end =
+    ends_as old new (judged v (λ spec. next bytes spec [])) (opened next v reply []) ended (ap (λ (r : Reply). opened next v r []) is) end
+
+-- the verdict on what was fetched
+pub right_of_fetched : (reply : Reply) (bytes : List ℕ) (v : Verdict) → reply ≡ Fetched bytes → IsVerdict bytes v → IsRightOf reply v
+right_of_fetched reply bytes v is right other there = let same : bytes ≡ other = cc in subst (λ (b : List ℕ). IsVerdict b v) same right
+
+pub right_of_missing : (reply : Reply) (v : Verdict) → ((bytes : List ℕ) → reply ≡ Fetched bytes → ⊥) → IsRightOf reply v
+right_of_missing reply v other bytes there = absurd (other bytes there)
+
+-- nothing was put before
+pub ends_quiet : (shelf : ShelfState) (old between new : SinkState) (n m : ℕ) (t : Told) (ended : Status) → between ≡ old → Ends (world shelf between n) t [] ended (world shelf new m) → Ends (world shelf old n) t [] ended (world shelf new m)
+ends_quiet shelf old between new n m t ended same e = subst (λ (s : SinkState). Ends (world shelf s n) t [] ended (world shelf new m)) same e

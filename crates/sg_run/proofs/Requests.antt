@@ -1,15 +1,18 @@
 -- A request to the shelf within a run, and what follows
 use Rattle.std.proofs.Common.{◌≡◌, ℕ, List, [], ◌∷◌, ◌++◌, Option, Bool, Result, Ok, Err, IfOk, IfErr, refl, sym, ap, ◌∙◌, subst, arith, if◌then◌else◌, append-nil, append_assoc}
+use Rattle.std.specs.Prelude.{get_or}
 use Rattle.sg_outside.proofs.Tally.{tallied-zero}
-use Rattle.sg_kinds.specs.declared.spec.Spec.{Spec}
 use Rattle.sg_replies.specs.declared.reply.Reply.{Reply}
 use Rattle.sg_replies.specs.Requests.{Request}
 use Rattle.sg_replies.specs.Calls.{ShelfState, Replied, Unanswered}
 use Rattle.sg_replies.proofs.Laws.{served_one, none_or_one_more, unanswered_one_more}
 use Rattle.sg_run.specs.declared.status.Status.{Status}
 use Rattle.sg_run.specs.declared.status.Status.TheVariants.{Memory}
-use Rattle.sg_run.specs.Output.{Told, before, unfinished, taking, asked, job_told, told}
+use Rattle.sg_load.specs.Verdict.{Verdict}
+use Rattle.sg_run.specs.Output.{Told, before, unfinished, taking, asked, specification, job_told, told}
 use Rattle.sg_run.specs.Job.{Job, job}
+use Rattle.sg_run.specs.Causes.{IsRight}
+use Rattle.sg_run.specs.Opening.{IsFetched, IsRightOf}
 use Rattle.sg_run.specs.World.{SinkState, World, world}
 use Rattle.sg_run.specs.Parts.{Ends, Passed, Played}
 use Rattle.sg_run.proofs.Laws.{appended-nil, goes_and_ends}
@@ -66,36 +69,51 @@ not_asked q next rb ra shelf sink n e = record {
   ends = ends_memory shelf shelf sink n n (unfinished q) refl (none_or_one_more (q ∷ []) shelf) (omega arith) (omega arith);
 }
 
--- the shelf replied, and the run goes on where the reply is accepted
-pub passed_on : (q : Request) (wrap : (Spec → List Reply → Told) → Reply → List Reply → Told) (reply : Reply) (rb rm ra : List Reply) (shelf shelf' : ShelfState)
-    (old new : SinkState) (r : Result Spec Status) → Replied q reply shelf shelf' → rm ≡ rb → ra ≡ rm ++ reply ∷ []
-    → IfOk r (λ spec. (next : Spec → List Reply → Told) (more : List Reply) → wrap next reply more ≡ next spec more) → IfOk r (λ _. new ≡ old)
-    → IfOk r (λ spec. (next : Spec → List Reply → Told) (n : ℕ) → Passed (asked q (wrap next)) (next spec) rb ra (world shelf old n) (world shelf' new n))
-passed_on q wrap reply rb rm ra shelf shelf' old new (Err s) replied e f accepted quiet = tt
-passed_on q wrap reply rb rm ra shelf shelf' old new (Ok spec) replied e f accepted quiet = λ next n.
-    let p = passed_reply q (wrap next) reply rb ra shelf shelf' old n replied (f ∙ ap (λ (rs : List Reply). rs ++ reply ∷ []) e) in
-    let on : Passed (asked q (wrap next)) (next spec) rb ra (world shelf old n) (world shelf' old n) =
-    record { got = p.got; so_far = p.so_far; replies = p.replies; goes = p.goes; law = λ more. p.law more ∙ ap (λ (t : Told). before p.so_far t) (accepted next more) } in
-    subst (λ (s : SinkState). Passed (asked q (wrap next)) (next spec) rb ra (world shelf old n) (world shelf' s n)) (sym quiet) on
-
--- the shelf replied, and the run ends where the reply is refused
-pub played_out : (q : Request) (wrap : (Spec → List Reply → Told) → Reply → List Reply → Told) (reply : Reply) (rb rm ra : List Reply) (shelf shelf' : ShelfState)
-    (old new : SinkState) (r : Result Spec Status) → Replied q reply shelf shelf' → rm ≡ rb → ra ≡ rm ++ reply ∷ []
-    → IfErr r (λ status. (next : Spec → List Reply → Told) → ((spec : Spec) → (next spec []).taken ≡ 0) → (s : ShelfState) (n : ℕ)
-    → Ends (world s old n) (wrap next reply []) [] status (world s new n))
-    → IfErr r (λ status. (next : Spec → List Reply → Told) → ((spec : Spec) → (next spec []).taken ≡ 0) → (n : ℕ)
-    → Played (asked q (wrap next)) rb ra status (world shelf old n) (world shelf' new n))
-played_out q wrap reply rb rm ra shelf shelf' old new (Ok spec) replied e f refused = tt
-played_out q wrap reply rb rm ra shelf shelf' old new (Err status) replied e f refused = λ next quiet n.
-    played_after (asked q (wrap next)) (wrap next reply) rb ra ra (world shelf old n) (world shelf' old n) (world shelf' new n) status
-    (passed_reply q (wrap next) reply rb ra shelf shelf' old n replied (f ∙ ap (λ (rs : List Reply). rs ++ reply ∷ []) e))
-    (played_at (wrap next reply) ra status (world shelf' old n) (world shelf' new n) (refused next quiet shelf' n))
+-- the one reply to the fetch of the specification, and what follows it
+pub played_fetched : (name : List ℕ) (next : Reply → List Reply → Told) (rb ra : List Reply) (reply : Reply) (shelf shelf' : ShelfState) (old new : SinkState) (n m : ℕ) (status : Status)
+    → rb ≡ [] → ra ≡ reply ∷ [] → Replied (specification name) reply shelf shelf' → Ends (world shelf' old n) (next reply []) [] status (world shelf' new m)
+    → Played (asked (specification name) next) rb ra status (world shelf old n) (world shelf' new m)
+played_fetched name next rb ra reply shelf shelf' old new n m status none one replied ends =
+    played_after (asked (specification name) next) (next reply) rb ra ra (world shelf old n) (world shelf' old n) (world shelf' new m) status
+    (passed_reply (specification name) next reply rb ra shelf shelf' old n replied (one ∙ ap (λ (rs : List Reply). rs ++ reply ∷ []) (sym none)))
+    (played_at (next reply) ra status (world shelf' old n) (world shelf' new m) ends)
 
 -- the same, with the status that it ended with
 pub played_as : (f : List Reply → Told) (rb ra : List Reply) (status other : Status) (old new : World) → other ≡ status → Played f rb ra status old new → Played f rb ra other old new
 played_as f rb ra status other old new e p = subst (λ (s : Status). Played f rb ra s old new) (sym e) p
 
 -- the same, with the words of the job
-pub told_by : (j : Option Job) (words : List (List ℕ)) (rb ra : List Reply) (status : Status) (old new : World) → j ≡ job words → Played (job_told j) rb ra status old new
-    → Played (told words) rb ra status old new
-told_by j words rb ra status old new e p = subst (λ (x : Option Job). Played (job_told x) rb ra status old new) e p
+pub told_by : (j : Option Job) (v : Verdict) (words : List (List ℕ)) (rb ra : List Reply) (status : Status) (old new : World) → j ≡ job words → Played (job_told j v) rb ra status old new
+    → Played (told words v) rb ra status old new
+told_by j v words rb ra status old new e p = subst (λ (x : Option Job). Played (job_told x v) rb ra status old new) e p
+
+-- the one reply
+pub same_reply : (replies : List Reply) (reply other : Reply) → replies ≡ reply ∷ [] → other ≡ get_or replies 0 other → other ≡ reply
+same_reply replies reply other alone at = at ∙ ap (λ (rs : List Reply). get_or rs 0 other) alone
+
+pub right_of_first : (replies : List Reply) (reply : Reply) (v : Verdict) → replies ≡ reply ∷ [] → IsRight replies v → IsRightOf reply v
+right_of_first replies reply v alone right bytes is = right bytes [] (alone ∙ ap (λ (r : Reply). r ∷ []) is)
+
+-- the one reply to the fetch, as it stands among the replies
+pub right_first : (name : List ℕ) (ra : List Reply) (reply : Reply) (shelf shelf' : ShelfState) (v : Verdict) → IsFetched name ra shelf shelf' → reply ≡ get_or ra 0 reply → IsRight ra v → IsRightOf reply v
+right_first name ra reply shelf shelf' v f at right =
+    let one : reply ≡ f.reply = same_reply ra f.reply reply f.alone at in
+    right_of_first ra reply v (f.alone ∙ ap (λ (r : Reply). r ∷ []) (sym one)) right
+
+pub played_first : (name : List ℕ) (next : Reply → List Reply → Told) (ra : List Reply) (reply : Reply) (shelf shelf' : ShelfState) (old new : SinkState) (n m : ℕ) (status : Status)
+    → IsFetched name ra shelf shelf' → reply ≡ get_or ra 0 reply → Ends (world shelf' old n) (next reply []) [] status (world shelf' new m)
+    → Played (asked (specification name) next) [] ra status (world shelf old n) (world shelf' new m)
+played_first name next ra reply shelf shelf' old new n m status f at ends =
+    let one : reply ≡ f.reply = same_reply ra f.reply reply f.alone at in
+    let alone : ra ≡ reply ∷ [] = f.alone ∙ ap (λ (r : Reply). r ∷ []) (sym one) in
+    let replied : Replied (specification name) reply shelf shelf' = subst (λ (r : Reply). Replied (specification name) r shelf shelf') (sym one) f.replied in
+    played_fetched name next [] ra reply shelf shelf' old new n m status refl alone replied ends
+
+-- no reply
+pub played_nothing : (f : List Reply → Told) (ra : List Reply) (status : Status) (old new : World) → ra ≡ [] → Ends old (f []) [] status new → Played f [] ra status old new
+played_nothing f ra status old new none e = record { got = []; replies = none; ends = e }
+
+-- all replies
+pub ends_whole : (f : List Reply → Told) (ra : List Reply) (status ended : Status) (old new : World) → Played f [] ra status old new → ended ≡ status → Ends old (f ra) ra ended new
+ends_whole f ra status ended old new p is =
+    subst (λ (s : Status). Ends old (f ra) ra s new) (sym is) (subst (λ (rs : List Reply). Ends old (f rs) rs status new) (sym p.replies) p.ends)

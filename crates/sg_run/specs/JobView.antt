@@ -1,8 +1,9 @@
 -- A job of the program as the job of its words
 use Rattle.sg_run.specs.declared.words.Job.{Job as Words}
-use Rattle.sg_run.specs.declared.words.Job.TheVariants.{Show as ShowWords}
+use Rattle.sg_run.specs.declared.words.Job.TheVariants as words
 use Rattle.sg_run.specs.Job.{Job}
-use Rattle.sg_run.specs.Job.Job.{Show}
+use Rattle.sg_run.specs.Job.Job.{Show, Check}
 
 abbrev pub job_of : Words → Job
-job_of (ShowWords name) = Show name.now
+job_of (words.Show name) = Show name.now
+job_of (words.Check name) = Check name.now

@@ -5,3 +5,4 @@ pub mod Output
 pub mod World
 pub mod Parts
 pub mod Causes
+pub mod Opening

@@ -1,20 +1,24 @@
 -- The output of a run as a function of its words and of the shelf's replies
 use Rattle.std.specs.Prelude.{ℕ, ◌+◌, List, [], ◌∷◌, ◌++◌, Option, Some, None, if◌then◌else◌, codes}
-use Rattle.std.specs.Fmt.{decimal}
 use Rattle.sg_kinds.specs.declared.spec.Spec.{Spec}
+use Rattle.sg_kinds.specs.declared.fault.SpecFault.{SpecFault as Fault}
+use Rattle.sg_kinds.specs.declared.fault.SpecFault.TheVariants as fault
+use Rattle.sg_faults.specs.FaultLine.{fault_line}
+use Rattle.sg_load.specs.Verdict.{Verdict}
+use Rattle.sg_load.specs.Verdict.Verdict.{Refused, Accepted}
 use Rattle.sg_replies.specs.declared.reply.Reply.{Reply}
 use Rattle.sg_replies.specs.declared.reply.Reply.TheVariants.{Fetched, FetchFailed, Kept, KeepFailed}
 use Rattle.sg_replies.specs.Requests.{Request, fits}
 use Rattle.sg_replies.specs.Requests.Request.{Fetch}
 use Rattle.sg_small_spec.specs.declared.fault.SmallFault.{SmallFault}
-use Rattle.sg_small_spec.specs.declared.fault.SmallFault.TheVariants.{TooLong, Unbuilt, NoMemory}
+use Rattle.sg_small_spec.specs.declared.fault.SmallFault.TheVariants as small
 use Rattle.sg_small_spec.specs.FirstFault.{first_fault}
 use Rattle.sg_small_spec.specs.SpecOf.{spec_of}
 use Rattle.sg_small_screen.specs.FirstScreen.{first_screen, first_evs}
 use Rattle.sg_run.specs.declared.status.Status.{Status}
 use Rattle.sg_run.specs.declared.status.Status.TheVariants.{Done, Usage, ReadFault, SpecFault}
 use Rattle.sg_run.specs.Job.{Job, job}
-use Rattle.sg_run.specs.Job.Job.{Show}
+use Rattle.sg_run.specs.Job.Job.{Show, Check}
 
 -- what a run tells
 pub record Told : Type 0 where
@@ -75,37 +79,56 @@ usage_text = codes "usage: ssled show SPEC | run SPEC SCRIPT [W H] | check SPEC 
 abbrev pub read_fault_text : List ℕ
 read_fault_text = codes "read fault specification" ++ 10 ∷ []
 
--- where the specification has a fault, which want of memory is not
-abbrev pub spec_fault_text : SmallFault → List ℕ
-spec_fault_text TooLong = codes "fault TooLong" ++ 10 ∷ []
-spec_fault_text (Unbuilt line) = codes "fault Unbuilt line " ++ decimal line ++ 10 ∷ []
-spec_fault_text NoMemory = []
+-- where the specification has no fault
+abbrev pub ok_text : List ℕ
+ok_text = codes "ok" ++ 10 ∷ []
 
--- what follows, unless there is a fault
-abbrev pub judged : Option SmallFault → Told → Told
-judged (Some fault) told = text SpecFault (spec_fault_text fault)
-judged None told = told
+-- a static fault ends the run
+abbrev pub fault_told : Fault → Told
+fault_told f = text SpecFault (fault_line f)
 
--- after the reply to the fetch of the specification
-abbrev pub opened : (Spec → List Reply → Told) → Reply → List Reply → Told
-opened next (Fetched bytes) replies = judged (first_fault bytes) (next (spec_of bytes) replies)
-opened next FetchFailed replies = text ReadFault read_fault_text
-opened next Kept replies = text ReadFault read_fault_text
-opened next KeepFailed replies = text ReadFault read_fault_text
+-- what follows with the record, unless the specification has a fault
+abbrev pub judged : Verdict → (Spec → Told) → Told
+judged (Refused f) next = fault_told f
+judged (Accepted spec) next = next spec
 
--- the fetch of the specification, and what follows with its record
-abbrev pub with_spec : List ℕ → (Spec → List Reply → Told) → List Reply → Told
-with_spec name next = asked (Fetch name 1048577) (opened next)
+-- a specification without a fault whose screen is not built yet: the line of the first declaration that is not small
+abbrev pub unbuilt : SmallFault → Fault
+unbuilt small.TooLong = fault.TooLong
+unbuilt (small.Unbuilt line) = fault.Unbuilt line
+unbuilt small.NoMemory = fault.NoMemory
 
--- to show the first screen of the specification of that name
-abbrev pub show_told : List ℕ → List Reply → Told
-show_told name = with_spec name session
+abbrev pub screened : Option SmallFault → Told → Told
+screened (Some f) told = fault_told (unbuilt f)
+screened None told = told
+
+-- what follows once the bytes of the specification are fetched and accepted: its first screen; or that it has no fault
+abbrev pub shown : List ℕ → Spec → List Reply → Told
+shown bytes spec replies = screened (first_fault bytes) (session (spec_of bytes) replies)
+
+abbrev pub checked : List ℕ → Spec → List Reply → Told
+checked bytes spec replies = text Done ok_text
+
+-- after the reply to the fetch of the specification, whose verdict this is
+abbrev pub opened : (List ℕ → Spec → List Reply → Told) → Verdict → Reply → List Reply → Told
+opened next v (Fetched bytes) replies = judged v (λ spec. next bytes spec replies)
+opened next v FetchFailed replies = text ReadFault read_fault_text
+opened next v Kept replies = text ReadFault read_fault_text
+opened next v KeepFailed replies = text ReadFault read_fault_text
+
+-- the fetch of the specification, and what follows
+abbrev pub specification : List ℕ → Request
+specification name = Fetch name 1048577
+
+abbrev pub with_spec : (List ℕ → Spec → List Reply → Told) → List ℕ → Verdict → List Reply → Told
+with_spec next name v = asked (specification name) (opened next v)
 
 -- to do a job, or to refuse the words
-abbrev pub job_told : Option Job → List Reply → Told
-job_told None replies = text Usage usage_text
-job_told (Some (Show name)) replies = show_told name replies
+abbrev pub job_told : Option Job → Verdict → List Reply → Told
+job_told None v replies = text Usage usage_text
+job_told (Some (Show name)) v replies = with_spec shown name v replies
+job_told (Some (Check name)) v replies = with_spec checked name v replies
 
--- what a run of these words tells where the shelf gives these replies
-abbrev pub told : List (List ℕ) → List Reply → Told
+-- what a run of these words tells where the shelf gives these replies, and this is the verdict on the specification among them
+abbrev pub told : List (List ℕ) → Verdict → List Reply → Told
 told words = job_told (job words)

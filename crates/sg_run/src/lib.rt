@@ -3,6 +3,7 @@
 #![tactic(auto)]
 
 mod finishing;
+mod jobs;
 mod opening;
 mod playing;
 mod running;
@@ -12,5 +13,7 @@ mod words;
 pub use running::{Outcome, run};
 pub use status::Status;
 
+#[cfg(test)]
+mod faults;
 #[cfg(test)]
 mod tests;

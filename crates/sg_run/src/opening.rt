@@ -1,75 +1,105 @@
 // The fetch of the specification, and what may be wrong with what it brings.
-ghost use Rattle.std.specs.Prelude.{◌≡◌, ◌++◌, ◌∷◌, ℕ, List, [], IfOk, IfErr, codes, string_bytes};
-ghost use Rattle.std.specs.Fmt.{decimal};
+ghost use Rattle.std.specs.Prelude.{◌≡◌, ◌≤◌, ◌↔◌, ℕ, List, [], None, IsTrue, IfOk, IfErr, OnOk};
 ghost use Rattle.sg_kinds.specs.declared.spec.Spec.{Spec};
+ghost use Rattle.sg_outside.specs.Count.{raised_by};
 ghost use Rattle.sg_replies.specs.declared.reply.Reply.{Reply};
 ghost use Rattle.sg_replies.specs.Calls.{ShelfState, shelf_state};
+ghost use Rattle.sg_replies.specs.Requests.{failures};
+ghost use Rattle.sg_small_spec.specs.FirstFault.{first_fault};
 ghost use Rattle.sg_small_spec.specs.Showable.{IsShowable};
-ghost use Rattle.sg_run.specs.Output.{Told, with_spec, opened};
-ghost use Rattle.sg_run.specs.World.{world, sink_state};
-ghost use Rattle.sg_run.specs.Parts.{Ends, Played, Passed};
+ghost use Rattle.sg_small_spec.specs.SpecOf.{spec_of};
+ghost use Rattle.sg_load.specs.Only.{IsTheVerdict};
+ghost use Rattle.sg_load.specs.Verdict.{Verdict, IsVerdict};
+ghost use Rattle.sg_load.specs.Verdict.Verdict.{Accepted};
+ghost use Rattle.sg_run.specs.Opening.{IsFetched, IsKnown};
+ghost use Rattle.sg_run.specs.Output.{Told, asked, fault_told, judged, screened, specification};
+ghost use Rattle.sg_run.specs.Parts.{Ends, Played};
+ghost use Rattle.sg_run.specs.World.{SinkState, world, sink_state};
 
 use crate::Status;
 use crate::finishing::finish;
+use sg_faults::fault_line;
+use sg_kinds::fault::SpecFault;
 use sg_kinds::spec::Spec;
+use sg_load::{Loaded, load};
 use sg_outside::{Shelf, Sink};
 use sg_replies::{Reply, add, fetched};
-use sg_small_spec::{SmallFault, load};
-use std::alloc::{AllocError, Global};
+use sg_small_spec::{SmallFault, load as load_small};
+use std::alloc::Global;
 
 // The most bytes that are fetched: one more than a specification may have.
 const MOST: usize = 1_048_577;
 
-// The text of a specification that has its first fault on that line.
-fn unbuilt_text(alloc: Global, line: u32) -> Result<String, AllocError>
-    ensures { IfOk result (λ text. string_bytes text ≡ codes "fault Unbuilt line " ++ decimal line ++ 10 ∷ []) }
-{
-    format!(in alloc; "fault Unbuilt line {line}\n")
-}
-
-// Judges what was fetched as the specification. An error says with which status the run is over.
-fn judge<K: Sink>(alloc: Global, sink: &mut K, reply: &Reply) -> Result<Spec, Status>
-    ensures accepted { IfOk result (λ spec. (next : Spec → List Reply → Told) (more : List Reply) → opened next reply.now more ≡ next spec more) }
-    ensures showable { IfOk result (λ spec. IsShowable spec) }
-    ensures quiet { IfOk result (λ _. sink_state (K.written sink.new) (K.faults sink.new) (K.puts sink.new) ≡ sink_state (K.written sink.old) (K.faults sink.old) (K.puts sink.old)) }
-    ensures refused { IfErr result (λ status. (next : Spec → List Reply → Told) → ((spec : Spec) → (next spec []).taken ≡ 0) → (shelf : ShelfState) (n : ℕ)
-        → Ends (world shelf (sink_state (K.written sink.old) (K.faults sink.old) (K.puts sink.old)) n) (opened next reply.now []) [] status
-        (world shelf (sink_state (K.written sink.new) (K.faults sink.new) (K.puts sink.new)) n)) }
-{
-    let Reply::Fetched(text) = reply else {
-        return Err(finish(sink, b"read fault specification\n", Status::ReadFault));
-    };
-    match load(alloc, text.as_slice()) {
-        Ok(spec) => Ok(spec),
-        Err(SmallFault::TooLong) => Err(finish(sink, b"fault TooLong\n", Status::SpecFault)),
-        Err(SmallFault::Unbuilt(line)) => {
-            let text = unbuilt_text(alloc, line)?;
-            Err(finish(sink, text.as_bytes(), Status::SpecFault))
-        }
-        Err(SmallFault::NoMemory) => Err(Status::Memory),
-    }
-}
-
-/// Fetches and loads the specification of that name. An error says with which status the run is over.
-pub fn open<S: Shelf, K: Sink>(
+/// Fetches the specification of that name, by the first call of the shelf. An error says that there was no memory.
+pub fn fetch_spec<S: Shelf>(
     alloc: Global,
     name: &str,
     shelf: &mut S,
-    sink: &mut K,
     replies: &mut Vec<Reply>,
-) -> Result<Spec, Status>
-    ensures opened { IfOk result (λ spec. (next : Spec → List Reply → Told) (n : ℕ) → Passed (with_spec name.now next) (next spec) replies.old.items replies.new.items
-        (world (shelf_state (S.files shelf.old) (S.faults shelf.old) (S.calls shelf.old)) (sink_state (K.written sink.old) (K.faults sink.old) (K.puts sink.old)) n)
-        (world (shelf_state (S.files shelf.new) (S.faults shelf.new) (S.calls shelf.new)) (sink_state (K.written sink.new) (K.faults sink.new) (K.puts sink.new)) n)) }
-    ensures showable { IfOk result (λ spec. IsShowable spec) }
-    ensures ended { IfErr result (λ status. (next : Spec → List Reply → Told) → ((spec : Spec) → (next spec []).taken ≡ 0) → (n : ℕ)
-        → Played (with_spec name.now next) replies.old.items replies.new.items status
-        (world (shelf_state (S.files shelf.old) (S.faults shelf.old) (S.calls shelf.old)) (sink_state (K.written sink.old) (K.faults sink.old) (K.puts sink.old)) n)
-        (world (shelf_state (S.files shelf.new) (S.faults shelf.new) (S.calls shelf.new)) (sink_state (K.written sink.new) (K.faults sink.new) (K.puts sink.new)) n)) }
+) -> Result<(), Status>
+    requires none { replies.old.items ≡ [] }
+    ensures fetched { OnOk result (IsFetched name.now replies.new.items (shelf_state (S.files shelf.old) (S.faults shelf.old) (S.calls shelf.old))
+        (shelf_state (S.files shelf.new) (S.faults shelf.new) (S.calls shelf.new))) }
+    ensures faults { raised_by (failures replies.new.items) (S.faults shelf.old) ≤ S.faults shelf.new }
+    ensures memory { IfErr result (λ status. status ≡ Status.Memory) }
+    ensures ended { IfErr result (λ status. (next : Reply → List Reply → Told) (sink : SinkState) (n : ℕ) → Played (asked (specification name.now) next) [] replies.new.items status
+        (world (shelf_state (S.files shelf.old) (S.faults shelf.old) (S.calls shelf.old)) sink n)
+        (world (shelf_state (S.files shelf.new) (S.faults shelf.new) (S.calls shelf.new)) sink n)) }
 {
     replies.reserve(1)?;
     let reply = fetched(alloc, shelf, name, MOST)?;
-    let result = judge(alloc, sink, &reply);
     add(replies, reply);
-    result
+    Ok(())
+}
+
+// Whether there was not enough memory to judge a specification.
+fn is_memory(fault: &SpecFault) -> bool
+    ensures { IsTrue result ↔ (fault.now ≡ SpecFault.NoMemory) }
+{
+    matches!(fault, SpecFault::NoMemory)
+}
+
+/// Ends the run by the line of a static fault.
+fn refuse<K: Sink>(alloc: Global, fault: &SpecFault, sink: &mut K) -> Status
+    ensures { (shelf : ShelfState) (n : ℕ) → Ends (world shelf (sink_state (K.written sink.old) (K.faults sink.old) (K.puts sink.old)) n) (fault_told fault.now) [] result
+        (world shelf (sink_state (K.written sink.new) (K.faults sink.new) (K.puts sink.new)) n) }
+{
+    match fault_line(alloc, fault) {
+        Ok(line) => finish(sink, line.as_slice(), Status::SpecFault),
+        Err(_) => Status::Memory,
+    }
+}
+
+/// Loads the specification of these bytes. An error says with which status the run is over.
+pub fn judge<K: Sink>(alloc: Global, bytes: &[u8], sink: &mut K) -> Result<Loaded, Status>
+    ensures accepted { IfOk result (λ loaded. IsTheVerdict bytes.now (Accepted loaded.spec)) }
+    ensures quiet { IfOk result (λ _. sink_state (K.written sink.new) (K.faults sink.new) (K.puts sink.new) ≡ sink_state (K.written sink.old) (K.faults sink.old) (K.puts sink.old)) }
+    ensures known { IfErr result (λ status. IsKnown bytes.now status) }
+    ensures refused { IfErr result (λ status. (v : Verdict) → IsVerdict bytes.now v → (next : Spec → Told) → ((spec : Spec) → (next spec).taken ≡ 0) → (shelf : ShelfState) (n : ℕ)
+        → Ends (world shelf (sink_state (K.written sink.old) (K.faults sink.old) (K.puts sink.old)) n) (judged v next) [] status
+        (world shelf (sink_state (K.written sink.new) (K.faults sink.new) (K.puts sink.new)) n)) }
+{
+    match load(alloc, bytes) {
+        Ok(loaded) => Ok(loaded),
+        Err(fault) if is_memory(&fault) => Err(Status::Memory),
+        Err(fault) => Err(refuse(alloc, &fault, sink)),
+    }
+}
+
+/// The record of a specification whose screen is built. An error says with which status the run is over.
+pub fn screen<K: Sink>(alloc: Global, bytes: &[u8], sink: &mut K) -> Result<Spec, Status>
+    ensures built { IfOk result (λ _. first_fault bytes.now ≡ None) }
+    ensures record_of { IfOk result (λ spec. spec ≡ spec_of bytes.now) }
+    ensures showable { IfOk result (λ spec. IsShowable spec) }
+    ensures quiet { IfOk result (λ _. sink_state (K.written sink.new) (K.faults sink.new) (K.puts sink.new) ≡ sink_state (K.written sink.old) (K.faults sink.old) (K.puts sink.old)) }
+    ensures refused { IfErr result (λ status. (next : Told) → next.taken ≡ 0 → (shelf : ShelfState) (n : ℕ)
+        → Ends (world shelf (sink_state (K.written sink.old) (K.faults sink.old) (K.puts sink.old)) n) (screened (first_fault bytes.now) next) [] status
+        (world shelf (sink_state (K.written sink.new) (K.faults sink.new) (K.puts sink.new)) n)) }
+{
+    match load_small(alloc, bytes) {
+        Ok(spec) => Ok(spec),
+        Err(SmallFault::NoMemory) => Err(Status::Memory),
+        Err(SmallFault::TooLong) => Err(refuse(alloc, &SpecFault::TooLong, sink)),
+        Err(SmallFault::Unbuilt(line)) => { Err(refuse(alloc, &SpecFault::Unbuilt(line), sink)) }
+    }
 }

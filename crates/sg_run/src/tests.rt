@@ -118,7 +118,7 @@ fn runs_so(
 
 #[test]
 fn screens_and_refusals(rt: HostRuntime) -> Result<(), Fail> {
-    let rows: [(&[&str], Want); 12] = [
+    let rows: [(&[&str], Want); 16] = [
         (&["show", "calculator"], (0, SCREEN, &[Some(CALCULATOR)], 1)),
         (
             &["show", "grammar"],
@@ -126,12 +126,22 @@ fn screens_and_refusals(rt: HostRuntime) -> Result<(), Fail> {
         ),
         (
             &["show", "lacking"],
-            (4, "fault Unbuilt line 0\n", &[Some(LACKING)], 0),
+            (4, "fault Missing line 3 Null\n", &[Some(LACKING)], 0),
         ),
         (&["show", "missing"], (3, UNREAD, &[None], 0)),
         (&["run", "calculator"], (2, USAGE, &[], 0)),
         (&["run", "calculator", "script"], (2, USAGE, &[], 0)),
-        (&["check", "calculator"], (2, USAGE, &[], 0)),
+        (
+            &["check", "calculator"],
+            (0, "ok\n", &[Some(CALCULATOR)], 0),
+        ),
+        (&["check", "grammar"], (0, "ok\n", &[Some(WITH_GRAMMAR)], 0)),
+        (
+            &["check", "lacking"],
+            (4, "fault Missing line 3 Null\n", &[Some(LACKING)], 0),
+        ),
+        (&["check", "missing"], (3, UNREAD, &[None], 0)),
+        (&["check"], (2, USAGE, &[], 0)),
         (&["show"], (2, USAGE, &[], 0)),
         (&["show", "calculator", "grammar"], (2, USAGE, &[], 0)),
         (&["Show", "calculator"], (2, USAGE, &[], 0)),
@@ -216,7 +226,7 @@ fn failing_calls_and_puts(rt: HostRuntime) -> Result<(), Fail> {
             "lacking",
             &[],
             &[(1, 99)],
-            (6, "fault Unbuilt line 0\n", &[Some(LACKING)], 0),
+            (6, "fault Missing line 3 Null\n", &[Some(LACKING)], 0),
         ),
     ];
     for (name, fails, cuts, want) in rows {

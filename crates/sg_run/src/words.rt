@@ -9,6 +9,8 @@ ghost use Rattle.sg_run.specs.JobView.{job_of};
 pub enum Job<'a> {
     /// To show the first screen of the specification of that name.
     Show(&'a str),
+    /// To tell whether the specification of that name has a fault.
+    Check(&'a str),
 }
 
 /// The job of these words, if they are one.
@@ -17,6 +19,7 @@ pub fn read<'a>(words: &'a [String]) -> Option<Job<'a>>
 {
     match words {
         [word, name] if word.as_str() == "show" => Some(Job::Show(name.as_str())),
+        [word, name] if word.as_str() == "check" => Some(Job::Check(name.as_str())),
         _ => None,
     }
 }
