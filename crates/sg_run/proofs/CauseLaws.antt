@@ -1,7 +1,5 @@
 -- The causes of a status follow from what the run tells
-use Rattle.std.proofs.Common.{◌≡◌, ◌⊎◌, inl, inr, ℕ, zero, suc, ◌+◌, ◌≤◌, List, [], ◌∷◌, ◌++◌, Option, Some, None, IsSome, refl, sym, ap, ◌∙◌, subst, length, arith}
-use Rattle.sg_kinds.specs.declared.spec.Spec.{Spec}
-use Rattle.sg_kinds.specs.declared.fault.SpecFault.{SpecFault as Fault}
+use Rattle.std.proofs.Common.{◌≡◌, ◌⊎◌, inl, inr, ℕ, zero, suc, ◌≤◌, List, [], ◌∷◌, ◌++◌, Option, Some, None, IsSome, refl, sym, ap, ◌∙◌, subst, length, arith}
 use Rattle.sg_replies.specs.declared.reply.Reply.{Reply}
 use Rattle.sg_replies.specs.declared.reply.Reply.TheVariants.{Fetched, FetchFailed, Kept, KeepFailed}
 use Rattle.sg_load.specs.Verdict.{Verdict, IsVerdict}
@@ -13,7 +11,7 @@ use Rattle.sg_run.specs.declared.status.Status.{Status}
 use Rattle.sg_run.specs.declared.status.Status.TheVariants.{Done, Memory, Usage, ReadFault, SpecFault, ScriptFault, SinkFault}
 use Rattle.sg_run.specs.Job.{Job}
 use Rattle.sg_run.specs.Job.Job.{Show, Check}
-use Rattle.sg_run.specs.Output.{Told, job_told, screened, session}
+use Rattle.sg_run.specs.Output.{job_told, screened, session}
 use Rattle.sg_outside.specs.Count.{Rose, raised, raised_by}
 use Rattle.sg_replies.specs.Requests.{failures}
 use Rattle.sg_run.specs.World.{World}

@@ -1,7 +1,6 @@
 -- What follows the reply to the fetch of the specification
-use Rattle.std.proofs.Common.{◌≡◌, ◌≢◌, ℕ, List, [], ◌∷◌, Option, Some, None, refl, sym, ap, ◌∙◌, subst, arith}
+use Rattle.std.proofs.Common.{◌≡◌, ℕ, List, [], Option, Some, None, refl, sym, ap, ◌∙◌, subst, arith}
 use Rattle.sg_kinds.specs.declared.spec.Spec.{Spec}
-use Rattle.sg_kinds.specs.declared.fault.SpecFault.{SpecFault as Fault}
 use Rattle.sg_replies.specs.Calls.{ShelfState}
 use Rattle.sg_replies.specs.declared.reply.Reply.{Reply}
 use Rattle.sg_replies.specs.declared.reply.Reply.TheVariants.{Fetched, FetchFailed, Kept, KeepFailed}
@@ -13,8 +12,8 @@ use Rattle.sg_small_spec.specs.declared.fault.SmallFault.{SmallFault}
 use Rattle.sg_small_spec.specs.FirstFault.{first_fault}
 use Rattle.sg_small_spec.specs.SpecOf.{spec_of}
 use Rattle.sg_run.specs.declared.status.Status.{Status}
-use Rattle.sg_run.specs.declared.status.Status.TheVariants.{Memory, ReadFault, SpecFault}
-use Rattle.sg_run.specs.Output.{Told, text, opened, judged, screened, shown, checked, session, ok_text, fault_told, unbuilt, read_fault_text}
+use Rattle.sg_run.specs.declared.status.Status.TheVariants.{Memory, ReadFault}
+use Rattle.sg_run.specs.Output.{Told, text, opened, judged, screened, shown, session, fault_told, unbuilt, read_fault_text}
 use Rattle.sg_run.specs.World.{SinkState, World, world}
 use Rattle.sg_run.specs.Parts.{Ends, Finished}
 use Rattle.sg_run.specs.Opening.{IsRightOf}

@@ -1,4 +1,4 @@
-use Rattle.std.proofs.Common.{◌≡◌, refl, ◌∙◌, []}
+use Rattle.std.proofs.Common.{refl, ◌∙◌, []}
 use Rattle.sg_eval.specs.Journal.{counted}
 use Rattle.sg_load.specs.Verdict.Verdict.{Accepted}
 use Rattle.sg_small_spec.specs.SpecOf.{spec_of}

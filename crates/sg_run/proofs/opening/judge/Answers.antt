@@ -1,4 +1,4 @@
-use Rattle.std.proofs.Common.{◌≡◌, ◌≢◌, true, false, sym, ◌∙◌}
+use Rattle.std.proofs.Common.{◌≢◌}
 use Rattle.sg_kinds.specs.declared.fault.SpecFault.TheVariants as fault
 use Rattle.sg_load.specs.Verdict.Verdict.{Refused}
 use Rattle.sg_load.specs.Only.{IsTheVerdict}

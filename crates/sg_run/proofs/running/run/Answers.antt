@@ -1,8 +1,6 @@
-use Rattle.std.proofs.Common.{◌≡◌, ◌⊎◌, inl, inr, map, string_bytes, refl, sym, ap, ◌∙◌}
-use Rattle.sg_load.specs.Verdict.{Verdict}
-use Rattle.sg_run.specs.declared.status.Status.{Status}
+use Rattle.std.proofs.Common.{map, string_bytes, refl, sym}
 use Rattle.sg_run.specs.declared.status.Status.TheVariants.{Memory, Usage, ReadFault, SpecFault, SinkFault}
-use Rattle.sg_run.specs.Causes.{LastFailed, IsRight}
+use Rattle.sg_run.specs.Causes.{LastFailed}
 use Rattle.sg_run.specs.Job.{job}
 use Rattle.sg_run.proofs.Endings.{ends_with}
 use Rattle.sg_run.proofs.Fronts.{cut_front}

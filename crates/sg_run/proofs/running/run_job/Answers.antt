@@ -1,4 +1,4 @@
-use Rattle.std.proofs.Common.{◌≡◌, ℕ, List, [], ◌∷◌, Some, None, refl, sym, ap, ◌∙◌, map, string_bytes}
+use Rattle.std.proofs.Common.{Some, None, sym, ap, ◌∙◌, map, string_bytes}
 use Rattle.sg_eval.specs.Journal.{counted}
 use Rattle.sg_kinds.specs.declared.fault.SpecFault.TheVariants as fault
 use Rattle.sg_load.specs.Verdict.Verdict.{Refused}
