@@ -1,6 +1,6 @@
 -- The record of declarations without a fault is sound.
-use Rattle.std.proofs.Common.{◌≡◌, List, [], ◌∷◌, ◌++◌, length, flat_map, Option, Some, None, refl, ap, ◌∙◌, arith}
-use Rattle.std.specs.Prelude.{All, option_map}
+use Rattle.std.proofs.Common.{◌≡◌, List, [], ◌∷◌, ◌++◌, length, flat_map, None, refl, ap, ◌∙◌, arith}
+use Rattle.std.specs.Prelude.{All}
 use Rattle.std.specs.List.{AllByRecursion}
 use Rattle.std.proofs.lemmas.List.Elements.{All-from_recursion}
 use Rattle.sg_kinds.specs.Lexemes.{Lexeme}
@@ -12,12 +12,7 @@ use Rattle.sg_names.specs.Drafted.{HasTable}
 use Rattle.sg_names.specs.Names.{names_of}
 use Rattle.sg_names.proofs.OpPlaces.{places_count}
 use Rattle.sg_typing.specs.Checked.{first_fault}
-use Rattle.sg_typing.specs.Bodies.{first_mismatch}
-use Rattle.sg_typing.specs.Shown.{first_hidden}
-use Rattle.sg_kinds.specs.declared.fault.Position.{Position}
-use Rattle.sg_kinds.specs.declared.fault.SpecFault.TheVariants.{Mismatch, ShownType}
 use Rattle.sg_ast.specs.FirstFault.{or_else}
-use Rattle.sg_names.specs.declared.table.Table.{Table}
 use Rattle.sg_typing.specs.Written.{AreWritten}
 use Rattle.sg_typing.specs.Written as typing
 use Rattle.sg_equations.specs.Complete.{incomplete}
@@ -29,8 +24,9 @@ use Rattle.sg_resolve.proofs.ShapesSound.{shapes_sound}
 use Rattle.sg_record.specs.Premises.{IsWritten, HaveWritten}
 use Rattle.sg_record.specs.Record.{record_of}
 use Rattle.sg_typing.proofs.ListsThere.{lists_there}
+use Rattle.sg_typing.proofs.RecordTyped.{neither}
 use Rattle.sg_record.proofs.TableKept.{table_kept, names_bare}
-use Rattle.sg_record.proofs.RecordSound.{record_typed, record_shown, record_entered}
+use Rattle.sg_record.proofs.RecordSound.{no_mismatch, record_typed, record_shown, record_entered}
 use Rattle.sg_record.specs.Entries.{entry_twice, entry_type}
 use Rattle.sg_schemes.specs.Places.{scheme_kids}
 use Rattle.sg_schemes.specs.Shown.{no_scheme}
@@ -86,17 +82,6 @@ written_at (Precedence g ls p) h = tt
 all_written : (ds : List Decl) → HaveWritten ds → AllByRecursion typing.IsWritten ds
 all_written [] h = tt
 all_written (d ∷ ds) h = (written_at d h.0, all_written ds h.1)
-
-no_mismatch : (t : Table) (ds : List Decl) → first_fault t ds ≡ None → first_mismatch t ds ≡ None
-no_mismatch t ds h = by (first_mismatch t ds) h
-  where
-    by : (o : Option Position) → or_else (option_map Mismatch o) (or_else (option_map ShownType (first_hidden t ds)) None) ≡ None → o ≡ None
-    by None e = refl
-    by (Some p) e = absurd (cc e)
-
-neither : {A : Type 0} (a b : Option A) → or_else a b ≡ None → (a ≡ None) × (b ≡ None)
-neither (Some a) b e = absurd (cc e)
-neither None b e = (refl, e)
 
 module _ (ds : List Decl) (lexemes : List Lexeme) (written : HaveWritten ds) (rows : resolve_fault ds ≡ None) (typed : first_fault (names_of ds) ds ≡ None) (complete : incomplete (names_of ds) ds ≡ None)
     (shown : schemes_fault ds ≡ None) (entered : entries_fault ds ≡ None) (patterns : AreLexemes ds lexemes) where

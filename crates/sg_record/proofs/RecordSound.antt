@@ -4,6 +4,7 @@ use Rattle.std.specs.Prelude.{option_map}
 use Rattle.std.specs.List.{All}
 use Rattle.sg_kinds.specs.Lexemes.{Lexeme}
 use Rattle.sg_kinds.specs.Sound.{HasEntries, HasSchemes, HasShapes, IsNamed, IsNumbered, IsTyped}
+use Rattle.sg_kinds.specs.declared.fault.Position.{Position}
 use Rattle.sg_kinds.specs.declared.fault.SpecFault.TheVariants.{Mismatch, ShownType}
 use Rattle.sg_kinds.specs.declared.spec.Rule.{Rule}
 use Rattle.sg_ast.specs.Declarations.{Decl}
@@ -31,10 +32,11 @@ use Rattle.sg_record.proofs.RecordSchemes.{record_schemes}
 use Rattle.sg_record.proofs.TableKept.{table_kept, names_bare}
 use Rattle.sg_record.proofs.TransformsTyped.{transforms_typed, phyla_usable}
 
-no_mismatch : (t : Table) (ds : List Decl) → first_fault t ds ≡ None → first_mismatch t ds ≡ None
+-- where no type has a fault, no expression or pattern has one
+pub no_mismatch : (t : Table) (ds : List Decl) → first_fault t ds ≡ None → first_mismatch t ds ≡ None
 no_mismatch t ds h = by (first_mismatch t ds) h
   where
-    by : (o : Option _) → or_else (option_map Mismatch o) (or_else (option_map ShownType (first_hidden t ds)) None) ≡ None → o ≡ None
+    by : (o : Option Position) → or_else (option_map Mismatch o) (or_else (option_map ShownType (first_hidden t ds)) None) ≡ None → o ≡ None
     by None e = refl
     by (Some p) e = absurd (cc e)
 

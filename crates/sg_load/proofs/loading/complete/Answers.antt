@@ -1,7 +1,13 @@
-use Rattle.std.proofs.Common.{[], ◌∷◌}
+use Rattle.std.proofs.Common.{◌≡◌, [], ◌∷◌, sym, ap, ◌∙◌, subst}
 use Rattle.std.proofs.lemmas.Result.{err_from_is_err_and}
+use Rattle.sg_kinds.specs.Sound.{IsSound}
+use Rattle.sg_kinds.specs.Specification.{rules_of}
+use Rattle.sg_kinds.specs.ValidPlans.{AreValid}
+use Rattle.sg_kinds.specs.declared.spec.Spec.{Spec}
 use Rattle.sg_ast.specs.View.{trees_of}
+use Rattle.sg_grammar.specs.Numbered.{grammar_of}
 use Rattle.sg_load.specs.FirstFault.Phase.{Tables, Order}
+use Rattle.sg_load.specs.Loaded.{AreLexemesOf}
 use Rattle.sg_load.proofs.FirstLaws.{here, later}
 use Rattle.sg_load.proofs.loading.complete.Goals as goal
 
@@ -15,3 +21,19 @@ returns-in_err-spec-clause-fault c =
     let p = err_from_is_err_and c.from_residual-in_err-spec.result c.from_residual-in_err-spec.ensures.1 in
     rw (p.1, p.2) (λ some. later (trees_of c.args.decls.now) Tables (Order ∷ []) c.in_err-spec.field-0.0 c.in_ok-tables.ensures.none
     (here (trees_of c.args.decls.now) Order [] c.in_err-spec.field-0.0 (c.in_err-spec.ensures.fault some)))
+
+pub invariant_of-result : goal.invariant_of-result
+invariant_of-result c =
+    let same : c.in_ok-spec.spec ≡ c.args.spec = c.in_ok-spec.ensures.same in
+    let lexemes : AreLexemesOf c.args.spec c.in_ok-lexemes.lexemes = record {
+      first = c.in_ok-lexemes.ensures.first;
+      literals = c.in_ok-lexemes.ensures.literals;
+      patterns = c.in_ok-lexemes.ensures.patterns;
+      blank = c.in_ok-lexemes.ensures.blank;
+    } in
+    record {
+      is_sound = ∣ subst IsSound (sym same) c.requires.sound ∣₁;
+      plans_valid = ∣ subst (λ (s : Spec). AreValid (rules_of s) c.in_ok-spec.plans) (sym same) c.in_ok-spec.ensures.plans ∣₁;
+      tables_of_it = ∣ c.in_ok-tables.ensures.tables ∙ ap grammar_of (sym same) ∣₁;
+      lexemes_of_it = ∣ subst (λ (s : Spec). AreLexemesOf s c.in_ok-lexemes.lexemes) (sym same) lexemes ∣₁;
+    }
