@@ -1,5 +1,5 @@
 -- The causes of a status follow from what the run tells
-use Rattle.std.proofs.Common.{◌≡◌, ◌⊎◌, inl, inr, ℕ, zero, suc, ◌≤◌, List, [], ◌∷◌, ◌++◌, Option, Some, None, IsSome, refl, sym, ap, ◌∙◌, subst, length, arith}
+use Rattle.std.proofs.Common.{◌≡◌, ◌≢◌, ◌⊎◌, inl, inr, ℕ, zero, suc, ◌≤◌, List, [], ◌∷◌, ◌++◌, Option, Some, None, IsSome, refl, sym, ap, ◌∙◌, subst, length, arith}
 use Rattle.sg_replies.specs.declared.reply.Reply.{Reply}
 use Rattle.sg_replies.specs.declared.reply.Reply.TheVariants.{Fetched, FetchFailed, Kept, KeepFailed}
 use Rattle.sg_load.specs.Verdict.{Verdict, IsVerdict}
@@ -16,7 +16,7 @@ use Rattle.sg_outside.specs.Count.{Rose, raised, raised_by}
 use Rattle.sg_replies.specs.Requests.{failures}
 use Rattle.sg_run.specs.World.{World}
 use Rattle.sg_run.specs.Parts.{Ends}
-use Rattle.sg_run.specs.Causes.{IsRight, IsKnownRight, LastFailed, FirstFetched, IsRefused, IsAccepted, IsFit}
+use Rattle.sg_run.specs.Causes.{IsRight, LastFailed, FirstFetched, IsRefused, IsAccepted, IsFit}
 
 -- usage
 pub usage_cause : (j : Option Job) (v : Verdict) (replies : List Reply) → (job_told j v replies).status ≡ Some Usage → j ≡ None
@@ -126,7 +126,7 @@ failed_rose replies old new last counted =
 
 -- the job is done, or there was not enough memory
 pub done_or_memory : (j : Option Job) (replies : List Reply) (status : Status) (before after : World) (old new : ℕ)
-    → (Rose old new → ⊥) → (Rose before.sink.faults after.sink.faults → ⊥) → IsSome j → IsAccepted j replies → IsKnownRight replies status → raised_by (failures replies) old ≤ new
+    → (Rose old new → ⊥) → (Rose before.sink.faults after.sink.faults → ⊥) → IsSome j → IsAccepted j replies → (status ≢ Memory → (v : Verdict) × IsRight replies v) → raised_by (failures replies) old ≤ new
     → ((v : Verdict) → IsRight replies v → Ends before (job_told j v replies) replies status after) → (status ≡ Done) ⊎ (status ≡ Memory)
 done_or_memory j replies Memory before after old new shelf sink some fit known raised ends = inr refl
 done_or_memory j replies SinkFault before after old new shelf sink some fit known raised ends = let k = known (λ m. cc) in absurd (sink ((ends k.0 k.1).sink_fault refl))

@@ -1,6 +1,7 @@
 -- What follows the reply to the fetch of the specification
-use Rattle.std.proofs.Common.{◌≡◌, ℕ, List, [], Option, Some, None, refl, sym, ap, ◌∙◌, subst, arith}
+use Rattle.std.proofs.Common.{◌≡◌, ℕ, List, [], Option, Some, None, inl, inr, refl, sym, ap, ◌∙◌, subst, arith}
 use Rattle.sg_kinds.specs.declared.spec.Spec.{Spec}
+use Rattle.sg_kinds.specs.declared.fault.SpecFault.TheVariants as fault
 use Rattle.sg_replies.specs.Calls.{ShelfState}
 use Rattle.sg_replies.specs.declared.reply.Reply.{Reply}
 use Rattle.sg_replies.specs.declared.reply.Reply.TheVariants.{Fetched, FetchFailed, Kept, KeepFailed}
@@ -16,7 +17,7 @@ use Rattle.sg_run.specs.declared.status.Status.TheVariants.{Memory, ReadFault}
 use Rattle.sg_run.specs.Output.{Told, text, opened, judged, screened, shown, session, fault_told, unbuilt, read_fault_text}
 use Rattle.sg_run.specs.World.{SinkState, World, world}
 use Rattle.sg_run.specs.Parts.{Ends, Finished}
-use Rattle.sg_run.specs.Opening.{IsRightOf}
+use Rattle.sg_run.specs.Opening.{IsRightOf, IsKnown, IsKnownOf}
 use Rattle.sg_run.proofs.Endings.{ends_text, ends_as, ends_memory}
 
 -- no reply is taken
@@ -86,3 +87,24 @@ right_of_missing reply v other bytes there = absurd (other bytes there)
 -- nothing was put before
 pub ends_quiet : (shelf : ShelfState) (old between new : SinkState) (n m : ℕ) (t : Told) (ended : Status) → between ≡ old → Ends (world shelf between n) t [] ended (world shelf new m) → Ends (world shelf old n) t [] ended (world shelf new m)
 ends_quiet shelf old between new n m t ended same e = subst (λ (s : SinkState). Ends (world shelf s n) t [] ended (world shelf new m)) same e
+
+-- memory was wanting before there was a verdict
+pub known_silent : (bytes : List ℕ) (sink : SinkState) (n : ℕ) → IsKnown bytes Memory sink sink n n
+known_silent bytes sink n = inr (record { memory = refl; sink = refl; counted = refl })
+
+-- the same, with the status that it ended with
+pub known_as : (bytes : List ℕ) (status other : Status) (old new : SinkState) (n m : ℕ) → other ≡ status → IsKnown bytes status old new n m → IsKnown bytes other old new n m
+known_as bytes status other old new n m e k = subst (λ (s : Status). IsKnown bytes s old new n m) (sym e) k
+
+-- there is a verdict
+pub known_verdict : (bytes : List ℕ) (v : Verdict) (status : Status) (old new : SinkState) (n m : ℕ) → IsVerdict bytes v → IsKnown bytes status old new n m
+known_verdict bytes v status old new n m is = inl (v, is)
+
+-- what is known of the bytes is known of the reply that brought them
+pub known_fetched : (reply : Reply) (bytes : List ℕ) (status : Status) (old new : SinkState) (n m : ℕ) → reply ≡ Fetched bytes → IsKnown bytes status old new n m → IsKnownOf reply status old new n m
+known_fetched reply bytes status old new n m is (inl k) = inl (k.0, right_of_fetched reply bytes k.0 is k.1)
+known_fetched reply bytes status old new n m is (inr q) = inr (bytes, is, q)
+
+-- where there is no specification, any verdict is right
+pub known_missing : (reply : Reply) (status : Status) (old new : SinkState) (n m : ℕ) → ((bytes : List ℕ) → reply ≡ Fetched bytes → ⊥) → IsKnownOf reply status old new n m
+known_missing reply status old new n m other = inl (Refused fault.TooLong, right_of_missing reply (Refused fault.TooLong) other)

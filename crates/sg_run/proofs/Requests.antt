@@ -1,18 +1,20 @@
 -- A request to the shelf within a run, and what follows
-use Rattle.std.proofs.Common.{◌≡◌, ℕ, List, [], ◌∷◌, ◌++◌, Option, Bool, refl, sym, ap, ◌∙◌, subst, arith, if◌then◌else◌, append-nil, append_assoc}
+use Rattle.std.proofs.Common.{◌≡◌, ◌≢◌, ℕ, List, [], ◌∷◌, ◌++◌, Option, Some, Bool, inl, inr, refl, sym, ap, ◌∙◌, subst, arith, if◌then◌else◌, append-nil, append_assoc}
 use Rattle.std.specs.Prelude.{get_or}
 use Rattle.sg_outside.proofs.Tally.{tallied-zero}
+use Rattle.sg_kinds.specs.declared.fault.SpecFault.TheVariants as fault
 use Rattle.sg_replies.specs.declared.reply.Reply.{Reply}
 use Rattle.sg_replies.specs.Requests.{Request}
-use Rattle.sg_replies.specs.Calls.{ShelfState, Replied, Unanswered}
+use Rattle.sg_replies.specs.Calls.{ShelfState, Replied, Unanswered, Served}
 use Rattle.sg_replies.proofs.Laws.{served_one, none_or_one_more, unanswered_one_more}
 use Rattle.sg_run.specs.declared.status.Status.{Status}
 use Rattle.sg_run.specs.declared.status.Status.TheVariants.{Memory}
 use Rattle.sg_load.specs.Verdict.{Verdict}
+use Rattle.sg_load.specs.Verdict.Verdict.{Refused}
 use Rattle.sg_run.specs.Output.{Told, before, unfinished, taking, asked, specification, job_told, told}
-use Rattle.sg_run.specs.Job.{Job, job}
-use Rattle.sg_run.specs.Causes.{IsRight}
-use Rattle.sg_run.specs.Opening.{IsFetched, IsRightOf}
+use Rattle.sg_run.specs.Job.{Job, job, spec_name}
+use Rattle.sg_run.specs.Causes.{IsRight, IsKnownRight}
+use Rattle.sg_run.specs.Opening.{IsFetched, IsRightOf, IsKnownOf}
 use Rattle.sg_run.specs.World.{SinkState, World, world}
 use Rattle.sg_run.specs.Parts.{Ends, Passed, Played}
 use Rattle.sg_run.proofs.Laws.{appended-nil, goes_and_ends}
@@ -117,3 +119,44 @@ played_nothing f ra status old new none e = record { got = []; replies = none; e
 pub ends_whole : (f : List Reply → Told) (ra : List Reply) (status ended : Status) (old new : World) → Played f [] ra status old new → ended ≡ status → Ends old (f ra) ra ended new
 ends_whole f ra status ended old new p is =
     subst (λ (s : Status). Ends old (f ra) ra s new) (sym is) (subst (λ (rs : List Reply). Ends old (f rs) rs status new) (sym p.replies) p.ends)
+
+-- where nothing was fetched, any verdict is right
+pub known_nothing : (asked : Option Job) (old new : World) (replies : List Reply) (status : Status) → replies ≡ [] → IsKnownRight asked old replies status new
+known_nothing asked old new replies status none = inl (Refused fault.TooLong, λ bytes rest is. absurd (cc))
+
+right_alone : (replies : List Reply) (reply : Reply) (v : Verdict) → replies ≡ reply ∷ [] → IsRightOf reply v → IsRight replies v
+right_alone replies reply v alone right bytes rest is = right bytes (cc)
+
+-- what is known of the one reply
+pub known_first : (job : Job) (ra : List Reply) (reply : Reply) (shelf shelf' : ShelfState) (old new : SinkState) (n m : ℕ) (status : Status)
+    → IsFetched (spec_name job) ra shelf shelf' → reply ≡ get_or ra 0 reply → IsKnownOf reply status old new n m
+    → IsKnownRight (Some job) (world shelf old n) ra status (world shelf' new m)
+known_first job ra reply shelf shelf' old new n m status f at (inl k) =
+    let one : reply ≡ f.reply = same_reply ra f.reply reply f.alone at in
+    inl (k.0, right_alone ra reply k.0 (f.alone ∙ ap (λ (r : Reply). r ∷ []) (sym one)) k.1)
+known_first job ra reply shelf shelf' old new n m status f at (inr q) =
+    let one : reply ≡ f.reply = same_reply ra f.reply reply f.alone at in
+    inr (record {
+      memory = q.2.memory;
+      job = job;
+      is_asked = refl;
+      bytes = q.0;
+      fetched = f.alone ∙ ap (λ (r : Reply). r ∷ []) (sym one ∙ q.1);
+      served = subst (λ (rs : List Reply). Served shelf (specification (spec_name job) ∷ []) rs shelf') (sym f.alone) (served_one (specification (spec_name job)) f.reply shelf shelf' f.replied);
+      sink = q.2.sink;
+      counted = q.2.counted;
+    })
+
+-- the same, with the words of the job
+pub known_by : (asked : Option Job) (words : List (List ℕ)) (old new : World) (replies : List Reply) (status : Status) → asked ≡ job words → IsKnownRight asked old replies status new
+    → IsKnownRight (job words) old replies status new
+known_by asked words old new replies status e k = subst (λ (x : Option Job). IsKnownRight x old replies status new) e k
+
+-- the same, with the status that it ended with
+pub known_with : (asked : Option Job) (old new : World) (replies : List Reply) (status other : Status) → IsKnownRight asked old replies status new → other ≡ status → IsKnownRight asked old replies other new
+known_with asked old new replies status other k e = subst (λ (s : Status). IsKnownRight asked old replies s new) (sym e) k
+
+-- where memory was not wanting, there is a verdict
+pub verdict_of : (asked : Option Job) (old new : World) (replies : List Reply) (status : Status) → IsKnownRight asked old replies status new → status ≢ Memory → (v : Verdict) × IsRight replies v
+verdict_of asked old new replies status (inl k) other = k
+verdict_of asked old new replies status (inr q) other = absurd (other q.memory)

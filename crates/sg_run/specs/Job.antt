@@ -14,6 +14,11 @@ job_of_name word name =
     else if bytes_eq word (codes "check") then Some (Check name)
     else None
 
+-- the name of the specification that the job is done on
+abbrev pub spec_name : Job → List ℕ
+spec_name (Show name) = name
+spec_name (Check name) = name
+
 -- the job of these words, if they are one
 abbrev pub job : List (List ℕ) → Option Job
 job (word ∷ name ∷ []) = job_of_name word name

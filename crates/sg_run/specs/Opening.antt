@@ -1,5 +1,5 @@
 -- What is known once the specification was fetched
-use Rattle.std.specs.Prelude.{◌≡◌, ◌≢◌, List, [], ◌∷◌, ℕ}
+use Rattle.std.specs.Prelude.{◌≡◌, ◌⊎◌, List, [], ◌∷◌, ℕ}
 use Rattle.sg_replies.specs.declared.reply.Reply.{Reply}
 use Rattle.sg_replies.specs.declared.reply.Reply.TheVariants.{Fetched}
 use Rattle.sg_replies.specs.Calls.{ShelfState, Replied}
@@ -7,6 +7,7 @@ use Rattle.sg_load.specs.Verdict.{Verdict, IsVerdict}
 use Rattle.sg_run.specs.declared.status.Status.{Status}
 use Rattle.sg_run.specs.declared.status.Status.TheVariants.{Memory}
 use Rattle.sg_run.specs.Output.{specification}
+use Rattle.sg_run.specs.World.{SinkState}
 
 -- the one reply to the fetch of the specification of that name
 pub record IsFetched (name : List ℕ) (replies : List Reply) (old new : ShelfState) : Type 0 where
@@ -18,9 +19,16 @@ pub record IsFetched (name : List ℕ) (replies : List Reply) (old new : ShelfSt
 abbrev pub IsRightOf : Reply → Verdict → Type 0
 IsRightOf reply v = (bytes : List ℕ) → reply ≡ Fetched bytes → IsVerdict bytes v
 
--- where the run did not end for want of memory, there is such a verdict
-abbrev pub IsKnown : List ℕ → Status → Type 0
-IsKnown bytes status = status ≢ Memory → (v : Verdict) × IsVerdict bytes v
+-- memory was wanting, and nothing was written or evaluated
+pub record Silent (status : Status) (old new : SinkState) (n m : ℕ) : Type 0 where
+  pub memory : status ≡ Memory
+  pub sink : new ≡ old
+  pub counted : m ≡ n
 
-abbrev pub IsKnownOf : Reply → Status → Type 0
-IsKnownOf reply status = status ≢ Memory → (v : Verdict) × IsRightOf reply v
+-- there is a verdict on these bytes, or memory was wanting before there was one
+abbrev pub IsKnown : List ℕ → Status → SinkState → SinkState → ℕ → ℕ → Type 0
+IsKnown bytes status old new n m = ((v : Verdict) × IsVerdict bytes v) ⊎ Silent status old new n m
+
+-- the same of what the reply brought
+abbrev pub IsKnownOf : Reply → Status → SinkState → SinkState → ℕ → ℕ → Type 0
+IsKnownOf reply status old new n m = ((v : Verdict) × IsRightOf reply v) ⊎ ((bytes : List ℕ) × (reply ≡ Fetched bytes) × Silent status old new n m)

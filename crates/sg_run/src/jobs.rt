@@ -38,7 +38,7 @@ fn show_bytes<K: Sink>(
     journal: &mut Journal,
 ) -> Result<(), Status>
     requires room { counted journal.old < 2 ^ 60 }
-    ensures known { IsKnown bytes.now (ended result) }
+    ensures known { IsKnown bytes.now (ended result) (sink_state (K.written sink.old) (K.faults sink.old) (K.puts sink.old)) (sink_state (K.written sink.new) (K.faults sink.new) (K.puts sink.new)) (counted journal.old) (counted journal.new) }
     ensures ended { (v : Verdict) → IsVerdict bytes.now v → (shelf : ShelfState)
         → Ends (world shelf (sink_state (K.written sink.old) (K.faults sink.old) (K.puts sink.old)) (counted journal.old)) (judged v (λ spec. shown bytes.now spec [])) [] (ended result)
         (world shelf (sink_state (K.written sink.new) (K.faults sink.new) (K.puts sink.new)) (counted journal.new)) }
@@ -49,7 +49,7 @@ fn show_bytes<K: Sink>(
 }
 
 fn check_bytes<K: Sink>(alloc: Global, bytes: &[u8], sink: &mut K) -> Result<(), Status>
-    ensures known { IsKnown bytes.now (ended result) }
+    ensures known { (n : ℕ) → IsKnown bytes.now (ended result) (sink_state (K.written sink.old) (K.faults sink.old) (K.puts sink.old)) (sink_state (K.written sink.new) (K.faults sink.new) (K.puts sink.new)) n n }
     ensures ended { (v : Verdict) → IsVerdict bytes.now v → (shelf : ShelfState) (n : ℕ)
         → Ends (world shelf (sink_state (K.written sink.old) (K.faults sink.old) (K.puts sink.old)) n) (judged v (λ spec. checked bytes.now spec [])) [] (ended result)
         (world shelf (sink_state (K.written sink.new) (K.faults sink.new) (K.puts sink.new)) n) }
@@ -66,7 +66,7 @@ pub fn show<K: Sink>(
     journal: &mut Journal,
 ) -> Result<(), Status>
     requires room { counted journal.old < 2 ^ 60 }
-    ensures known { IsKnownOf reply.now (ended result) }
+    ensures known { IsKnownOf reply.now (ended result) (sink_state (K.written sink.old) (K.faults sink.old) (K.puts sink.old)) (sink_state (K.written sink.new) (K.faults sink.new) (K.puts sink.new)) (counted journal.old) (counted journal.new) }
     ensures ended { (v : Verdict) → IsRightOf reply.now v → (shelf : ShelfState)
         → Ends (world shelf (sink_state (K.written sink.old) (K.faults sink.old) (K.puts sink.old)) (counted journal.old)) (opened shown v reply.now []) [] (ended result)
         (world shelf (sink_state (K.written sink.new) (K.faults sink.new) (K.puts sink.new)) (counted journal.new)) }
@@ -79,7 +79,7 @@ pub fn show<K: Sink>(
 
 /// Tells whether the specification that was fetched has a fault.
 pub fn check<K: Sink>(alloc: Global, reply: &Reply, sink: &mut K) -> Result<(), Status>
-    ensures known { IsKnownOf reply.now (ended result) }
+    ensures known { (n : ℕ) → IsKnownOf reply.now (ended result) (sink_state (K.written sink.old) (K.faults sink.old) (K.puts sink.old)) (sink_state (K.written sink.new) (K.faults sink.new) (K.puts sink.new)) n n }
     ensures ended { (v : Verdict) → IsRightOf reply.now v → (shelf : ShelfState) (n : ℕ)
         → Ends (world shelf (sink_state (K.written sink.old) (K.faults sink.old) (K.puts sink.old)) n) (opened checked v reply.now []) [] (ended result)
         (world shelf (sink_state (K.written sink.new) (K.faults sink.new) (K.puts sink.new)) n) }

@@ -16,4 +16,6 @@ pub use status::Status;
 #[cfg(test)]
 mod faults;
 #[cfg(test)]
+mod languages;
+#[cfg(test)]
 mod tests;

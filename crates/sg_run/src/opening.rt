@@ -42,6 +42,7 @@ pub fn fetch_spec<S: Shelf>(
         (shelf_state (S.files shelf.new) (S.faults shelf.new) (S.calls shelf.new))) }
     ensures faults { raised_by (failures replies.new.items) (S.faults shelf.old) ≤ S.faults shelf.new }
     ensures memory { IfErr result (λ status. status ≡ Status.Memory) }
+    ensures none { IfErr result (λ _. replies.new.items ≡ []) }
     ensures ended { IfErr result (λ status. (next : Reply → List Reply → Told) (sink : SinkState) (n : ℕ) → Played (asked (specification name.now) next) [] replies.new.items status
         (world (shelf_state (S.files shelf.old) (S.faults shelf.old) (S.calls shelf.old)) sink n)
         (world (shelf_state (S.files shelf.new) (S.faults shelf.new) (S.calls shelf.new)) sink n)) }
@@ -74,7 +75,7 @@ fn refuse<K: Sink>(alloc: Global, fault: &SpecFault, sink: &mut K) -> Status
 pub fn judge<K: Sink>(alloc: Global, bytes: &[u8], sink: &mut K) -> Result<Loaded, Status>
     ensures accepted { IfOk result (λ loaded. IsTheVerdict bytes.now (Accepted loaded.spec)) }
     ensures quiet { IfOk result (λ _. sink_state (K.written sink.new) (K.faults sink.new) (K.puts sink.new) ≡ sink_state (K.written sink.old) (K.faults sink.old) (K.puts sink.old)) }
-    ensures known { IfErr result (λ status. IsKnown bytes.now status) }
+    ensures known { IfErr result (λ status. (n : ℕ) → IsKnown bytes.now status (sink_state (K.written sink.old) (K.faults sink.old) (K.puts sink.old)) (sink_state (K.written sink.new) (K.faults sink.new) (K.puts sink.new)) n n) }
     ensures refused { IfErr result (λ status. (v : Verdict) → IsVerdict bytes.now v → (next : Spec → Told) → ((spec : Spec) → (next spec).taken ≡ 0) → (shelf : ShelfState) (n : ℕ)
         → Ends (world shelf (sink_state (K.written sink.old) (K.faults sink.old) (K.puts sink.old)) n) (judged v next) [] status
         (world shelf (sink_state (K.written sink.new) (K.faults sink.new) (K.puts sink.new)) n)) }

@@ -9,6 +9,7 @@ ghost use Rattle.sg_replies.specs.Counts.{CallsOrOneMore};
 ghost use Rattle.sg_replies.specs.Requests.{Serves, failures};
 ghost use Rattle.sg_run.specs.Statuses.{IsEnd, IsCut, ended};
 ghost use Rattle.sg_run.specs.Job.{job};
+ghost use Rattle.sg_run.specs.Job.Job.{Show, Check};
 ghost use Rattle.sg_run.specs.Output.{told, with_spec, shown, checked, joined};
 ghost use Rattle.sg_run.specs.World.{world, sink_state, WroteCounted, WholeBlocks};
 ghost use Rattle.sg_run.specs.Parts.{Ends, Played};
@@ -46,7 +47,10 @@ fn show<S: Shelf, K: Sink>(
     requires room { counted journal.old < 2 ^ 60 }
     requires none { replies.old.items ≡ [] }
     ensures faults { raised_by (failures replies.new.items) (S.faults shelf.old) ≤ S.faults shelf.new }
-    ensures known { IsKnownRight replies.new.items (ended result) }
+    ensures known { IsKnownRight (Some (Show name.now))
+        (world (shelf_state (S.files shelf.old) (S.faults shelf.old) (S.calls shelf.old)) (sink_state (K.written sink.old) (K.faults sink.old) (K.puts sink.old)) (counted journal.old))
+        replies.new.items (ended result)
+        (world (shelf_state (S.files shelf.new) (S.faults shelf.new) (S.calls shelf.new)) (sink_state (K.written sink.new) (K.faults sink.new) (K.puts sink.new)) (counted journal.new)) }
     ensures played { (v : Verdict) → IsRight replies.new.items v → Played (with_spec shown name.now v) [] replies.new.items (ended result)
         (world (shelf_state (S.files shelf.old) (S.faults shelf.old) (S.calls shelf.old)) (sink_state (K.written sink.old) (K.faults sink.old) (K.puts sink.old)) (counted journal.old))
         (world (shelf_state (S.files shelf.new) (S.faults shelf.new) (S.calls shelf.new)) (sink_state (K.written sink.new) (K.faults sink.new) (K.puts sink.new)) (counted journal.new)) }
@@ -64,7 +68,10 @@ fn check<S: Shelf, K: Sink>(
 ) -> Result<(), Status>
     requires none { replies.old.items ≡ [] }
     ensures faults { raised_by (failures replies.new.items) (S.faults shelf.old) ≤ S.faults shelf.new }
-    ensures known { IsKnownRight replies.new.items (ended result) }
+    ensures known { (n : ℕ) → IsKnownRight (Some (Check name.now))
+        (world (shelf_state (S.files shelf.old) (S.faults shelf.old) (S.calls shelf.old)) (sink_state (K.written sink.old) (K.faults sink.old) (K.puts sink.old)) n)
+        replies.new.items (ended result)
+        (world (shelf_state (S.files shelf.new) (S.faults shelf.new) (S.calls shelf.new)) (sink_state (K.written sink.new) (K.faults sink.new) (K.puts sink.new)) n) }
     ensures played { (v : Verdict) → IsRight replies.new.items v → (n : ℕ) → Played (with_spec checked name.now v) [] replies.new.items (ended result)
         (world (shelf_state (S.files shelf.old) (S.faults shelf.old) (S.calls shelf.old)) (sink_state (K.written sink.old) (K.faults sink.old) (K.puts sink.old)) n)
         (world (shelf_state (S.files shelf.new) (S.faults shelf.new) (S.calls shelf.new)) (sink_state (K.written sink.new) (K.faults sink.new) (K.puts sink.new)) n) }
@@ -84,7 +91,10 @@ fn run_job<S: Shelf, K: Sink>(
     requires room { counted journal.old < 2 ^ 60 }
     requires none { replies.old.items ≡ [] }
     ensures faults { raised_by (failures replies.new.items) (S.faults shelf.old) ≤ S.faults shelf.new }
-    ensures known { IsKnownRight replies.new.items (ended result) }
+    ensures known { IsKnownRight (job (map string_bytes words.now))
+        (world (shelf_state (S.files shelf.old) (S.faults shelf.old) (S.calls shelf.old)) (sink_state (K.written sink.old) (K.faults sink.old) (K.puts sink.old)) (counted journal.old))
+        replies.new.items (ended result)
+        (world (shelf_state (S.files shelf.new) (S.faults shelf.new) (S.calls shelf.new)) (sink_state (K.written sink.new) (K.faults sink.new) (K.puts sink.new)) (counted journal.new)) }
     ensures played { (v : Verdict) → IsRight replies.new.items v → Played (told (map string_bytes words.now) v) [] replies.new.items (ended result)
         (world (shelf_state (S.files shelf.old) (S.faults shelf.old) (S.calls shelf.old)) (sink_state (K.written sink.old) (K.faults sink.old) (K.puts sink.old)) (counted journal.old))
         (world (shelf_state (S.files shelf.new) (S.faults shelf.new) (S.calls shelf.new)) (sink_state (K.written sink.new) (K.faults sink.new) (K.puts sink.new)) (counted journal.new)) }
@@ -105,7 +115,10 @@ fn run_to_end<S: Shelf, K: Sink>(
 ) -> Outcome
     requires { counted journal.old < 2 ^ 60 }
     ensures faults { raised_by (failures result.replies.items) (S.faults shelf.old) ≤ S.faults shelf.new }
-    ensures known { IsKnownRight result.replies.items result.status }
+    ensures known { IsKnownRight (job (map string_bytes words.now))
+        (world (shelf_state (S.files shelf.old) (S.faults shelf.old) (S.calls shelf.old)) (sink_state (K.written sink.old) (K.faults sink.old) (K.puts sink.old)) (counted journal.old))
+        result.replies.items result.status
+        (world (shelf_state (S.files shelf.new) (S.faults shelf.new) (S.calls shelf.new)) (sink_state (K.written sink.new) (K.faults sink.new) (K.puts sink.new)) (counted journal.new)) }
     ensures ended { (v : Verdict) → IsRight result.replies.items v → Ends (world (shelf_state (S.files shelf.old) (S.faults shelf.old) (S.calls shelf.old)) (sink_state (K.written sink.old) (K.faults sink.old) (K.puts sink.old)) (counted journal.old))
         (told (map string_bytes words.now) v result.replies.items) result.replies.items result.status
         (world (shelf_state (S.files shelf.new) (S.faults shelf.new) (S.calls shelf.new)) (sink_state (K.written sink.new) (K.faults sink.new) (K.puts sink.new)) (counted journal.new)) }
@@ -129,8 +142,12 @@ pub fn run<S: Shelf, K: Sink>(
 ) -> Outcome
     requires room { counted journal.old < 2 ^ 60 }
 
-    // The verdict on the specification that was fetched; whatever verdict is right, the rest follows.
-    ensures known { IsKnownRight result.replies.items result.status }
+    // The verdict on the specification that was fetched, or what was done before there was one. Whatever verdict is right,
+    // the rest follows.
+    ensures known { IsKnownRight (job (map string_bytes words.now))
+        (world (shelf_state (S.files shelf.old) (S.faults shelf.old) (S.calls shelf.old)) (sink_state (K.written sink.old) (K.faults sink.old) (K.puts sink.old)) (counted journal.old))
+        result.replies.items result.status
+        (world (shelf_state (S.files shelf.new) (S.faults shelf.new) (S.calls shelf.new)) (sink_state (K.written sink.new) (K.faults sink.new) (K.puts sink.new)) (counted journal.new)) }
 
     // What was written and evaluated, at an end of its own and after it was cut short.
     ensures output { (v : Verdict) → IsRight result.replies.items v → IsEnd result.status → K.written sink.new ≡ appended (K.written sink.old) (joined (told (map string_bytes words.now) v result.replies.items).blocks) }

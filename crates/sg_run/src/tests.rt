@@ -116,6 +116,22 @@ fn runs_so(
     )
 }
 
+// Whether `check` prints this of a text, and ends with the status of it.
+pub fn is_told(rt: &HostRuntime, text: &[u8], printed: &str) -> Result<bool, Fail> {
+    let alloc = rt.alloc();
+    let words = [
+        String::from_str(alloc, "check")?,
+        String::from_str(alloc, "spec")?,
+    ];
+    let file = (String::from_str(alloc, "spec")?, text.to_vec(alloc)?);
+    let mut shelf = MemShelf::new(alloc, vec![in alloc; file]?, Vec::new(alloc))?;
+    let mut sink = MemSink::new(alloc, Vec::new(alloc));
+    let mut journal = Journal::new(rt);
+    let outcome = run(alloc, &words, &mut shelf, &mut sink, &mut journal);
+    let status = if printed == "ok\n" { 0 } else { 4 };
+    Ok(outcome.status.number() == status && sink.written() == printed.as_bytes())
+}
+
 #[test]
 fn screens_and_refusals(rt: HostRuntime) -> Result<(), Fail> {
     let rows: [(&[&str], Want); 16] = [

@@ -1,9 +1,7 @@
 use Rattle.std.proofs.Common.{◌≡◌, ℕ, List, sym, ap, ◌∙◌}
 use Rattle.sg_replies.specs.declared.reply.Reply.TheVariants.{Fetched}
-use Rattle.sg_kinds.specs.declared.fault.SpecFault.TheVariants as fault
-use Rattle.sg_load.specs.Verdict.Verdict.{Refused}
 use Rattle.sg_run.specs.Output.{checked}
-use Rattle.sg_run.proofs.Opened.{ends_fetched, ends_missing, right_of_missing}
+use Rattle.sg_run.proofs.Opened.{ends_fetched, ends_missing, known_fetched, known_missing}
 use Rattle.sg_run.proofs.jobs.check.Goals as goal
 
 pub returns-in-Fetched-clause-ended : goal.returns-in-Fetched-clause-ended
@@ -11,8 +9,13 @@ returns-in-Fetched-clause-ended g c = λ v right shelf n.
     let is : c.args.reply.now ≡ Fetched c.as_slice.result.now = c.in-Fetched.is ∙ ap (λ (b : List ℕ). Fetched b) (sym c.as_slice.ensures) in
     ends_fetched checked v c.args.reply.now c.as_slice.result.now _ _ _ is (c.check_bytes.ensures.ended v (right c.as_slice.result.now is) shelf n)
 
+pub returns-in-Fetched-clause-known : goal.returns-in-Fetched-clause-known
+returns-in-Fetched-clause-known g c = λ n.
+    let is : c.args.reply.now ≡ Fetched c.as_slice.result.now = c.in-Fetched.is ∙ ap (λ (b : List ℕ). Fetched b) (sym c.as_slice.ensures) in
+    known_fetched c.args.reply.now c.as_slice.result.now _ _ _ _ _ is (c.check_bytes.ensures.known n)
+
 pub returns-in_default : goal.returns-in_default
 returns-in_default g c = record {
-  known = λ _. (Refused fault.TooLong, right_of_missing c.args.reply.now (Refused fault.TooLong) c.in_default.not-Fetched);
+  known = λ n. known_missing c.args.reply.now _ _ _ _ _ c.in_default.not-Fetched;
   ended = λ v right shelf n. ends_missing checked v c.args.reply.now shelf _ _ n _ c.in_default.not-Fetched c.finish.ensures;
 }

@@ -1,8 +1,9 @@
 use Rattle.sg_eval.specs.Journal.{counted}
 use Rattle.sg_run.specs.Output.{opened, shown}
+use Rattle.sg_run.specs.Job.Job.{Show}
 use Rattle.sg_run.specs.Opening.{IsRightOf}
 use Rattle.sg_run.proofs.Exits.{ended_is}
-use Rattle.sg_run.proofs.Requests.{played_as, played_first, right_first}
+use Rattle.sg_run.proofs.Requests.{played_as, played_first, right_first, known_nothing, known_first}
 use Rattle.sg_run.proofs.running.show.Goals as goal
 
 pub returns-in_err-fetch_spec-clause-played : goal.returns-in_err-fetch_spec-clause-played
@@ -13,3 +14,9 @@ pub returns-clause-played : goal.returns-clause-played
 returns-clause-played g c = λ v right.
     let rightly : IsRightOf c.index.result.now v = right_first c.args.name.now c.fetch_spec.new.replies.items c.index.result.now _ _ v c.in_ok-fetch_spec.ensures.fetched c.index.ensures right in
     played_first c.args.name.now (opened shown v) c.fetch_spec.new.replies.items c.index.result.now _ _ _ _ _ _ _ c.in_ok-fetch_spec.ensures.fetched c.index.ensures (c.show.ensures.ended v rightly _)
+
+pub returns-in_err-fetch_spec-clause-known : goal.returns-in_err-fetch_spec-clause-known
+returns-in_err-fetch_spec-clause-known g c = known_nothing _ _ _ _ _ c.in_err-fetch_spec.ensures.none
+
+pub returns-clause-known : goal.returns-clause-known
+returns-clause-known g c = known_first (Show c.args.name.now) c.fetch_spec.new.replies.items c.index.result.now _ _ _ _ _ _ _ c.in_ok-fetch_spec.ensures.fetched c.index.ensures c.show.ensures.known
