@@ -3,7 +3,7 @@ use super::*;
 use crate::tests::is_told;
 use std::test::Fail;
 
-// The smallest text that has each fault, in the order of the faults, with what is printed.
+// The smallest text that has each fault but TooLong and States, in the order of the faults, with what is printed.
 const FAULTS: [(&str, &str); 33] = [
     ("&", "fault Byte line 1\n"),
     ("\"", "fault Unclosed line 1\n"),
