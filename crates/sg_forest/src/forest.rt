@@ -1,4 +1,4 @@
-ghost use Rattle.std.specs.Prelude.{◌≡◌, ◌≢◌, ◌<◌, ◌≤◌, ◌+◌, ◌↔◌, ℕ, length, slice_get, IfOk, OnOk, OnErr, IfErr, IsOk, IsTrue, Some, None};
+ghost use Rattle.std.specs.Prelude.{◌≡◌, ◌≢◌, ◌<◌, ◌≤◌, ◌+◌, ◌↔◌, ℕ, length, slice_get, IfOk, OnOk, OnErr, IfErr, IfSome, IsOk, IsTrue, Some, None};
 ghost use Rattle.sg_forest.specs.Trees.{node_at, IsLive, IsRoot, IsChild, IsInside, IsForest, room_below};
 ghost use Rattle.sg_forest.specs.Tree.{node, tree_at, Stands, with_part, KeepsTrees, KeepsTreesWithout, KeepsTreesNotOver, KeepsTreesOutside, ChangesTrees, ReplacesTrees, GrowsTree, KeepsWays, KeepsWaysWithin, KeepsWaysTo, MovesWays, KeepsWaysOutside};
 ghost use Rattle.sg_forest.specs.Steps.{SameSort, AreDistinct, AreRoots, KeepsParts, KeepsKids, KeepsShape, IsPartSet, IsSwapped, IsGrown, IsDropped};
@@ -12,8 +12,7 @@ use std::alloc::Global;
 use std::marker::Model;
 
 /// There was no memory.
-#[derive(Clone, Copy, Debug, PartialEq, Eq)]
-pub struct NoMemory;
+pub use std::alloc::AllocError as NoMemory;
 
 /// What could not be stored for want of memory.
 #[derive(Debug, Drop)]
@@ -99,6 +98,7 @@ impl<L: Label, D> Forest<L, D> {
     pub fn parent(&self, n: NodeId) -> Option<(NodeId, usize)>
         requires live { IsLive (node_at self.now) n }
         ensures up { (x : _) → node_at self.now n ≡ Some x → result ≡ x.up }
+        ensures rises { IfSome result (λ up. room_below self.now n < room_below self.now up.0) }
         ensures forest { IsForest L.arity_of L.sort_of L.kid_sort_of (node_at self.now) }
     {
         self.nodes[n.key].up()

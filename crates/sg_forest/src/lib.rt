@@ -10,8 +10,6 @@ pub mod label;
 mod node;
 pub mod node_id;
 mod nodes;
-#[cfg(test)]
-mod tests;
 
 pub use forest::{Forest, NoMemory, Refused};
 pub use label::Label;

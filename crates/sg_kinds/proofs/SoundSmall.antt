@@ -7,7 +7,7 @@ use Rattle.sg_kinds.specs.Specification.{Spec, Phylum, Attr, Local, Operator, Ru
 use Rattle.sg_kinds.specs.Expressions.{Constant}
 use Rattle.sg_kinds.specs.declared.spec.Item.TheVariants.{Child, Writes}
 use Rattle.sg_kinds.specs.declared.spec.Piece.TheVariants.{Written}
-use Rattle.sg_kinds.specs.Sound.{IsPhylum, HasShapes, HasNames, HasRules, IsTyped, HasSchemes, IsScheme, AreCounted, IsSound, IsFinite, IsNamed, AreDistinct, IsItem, builtin_names, is_owed, is_rule_typed, symbol_types, result_type}
+use Rattle.sg_kinds.specs.Sound.{value_name, IsPhylum, HasShapes, HasNames, HasRules, IsTyped, HasSchemes, IsScheme, AreCounted, IsSound, IsFinite, IsNamed, AreDistinct, IsItem, builtin_names, is_owed, is_rule_typed, symbol_types, result_type}
 use Rattle.sg_kinds.specs.Typing.{is_usable, is_typed, is_accepted, bound_types}
 use Rattle.sg_kinds.specs.Matches.{Matches}
 use Rattle.sg_kinds.specs.Instances.{defines}
@@ -18,7 +18,7 @@ use Rattle.sg_kinds.proofs.Each.{Each, EachPair, all_of, pairs_of}
 use Rattle.sg_kinds.proofs.Languages.{rule, at}
 
 abbrev value : ℕ → Attr
-value p = record { name = 118 ∷ []; way = Synthesized; of = p }
+value p = record { name = value_name; way = Synthesized; of = p }
 
 abbrev small : Spec
 small = record {
@@ -77,8 +77,8 @@ names = record {
   locals = all_of (λ (o : Operator). AreDistinct (map (λ (l : Local). l.name) o.locals)) small.ops (none, (none, tt));
 }
   where
-    one : AreDistinct ((118 ∷ []) ∷ [])
-    one = distinct ((118 ∷ []) ∷ []) (tt, tt)
+    one : AreDistinct (value_name ∷ [])
+    one = distinct (value_name ∷ []) (tt, tt)
 
     none : AreDistinct []
     none = distinct [] tt
@@ -104,11 +104,11 @@ phyla p x is = let e : 0 + p ≡ p = omega arith in rw e at (at_of (IsPhylum sma
   where
     every : EachAt (IsPhylum small) 0 small.phyla
     every = (
-      record { base = refl; shape = (refl, (refl, refl)); ops = refl; types = types 0 },
+      record { base = refl; shape = (refl, refl); ops = refl; types = types 0 },
       (
-        record { base = refl; shape = (refl, (refl, refl)); ops = refl; types = types 1 },
+        record { base = refl; shape = (refl, refl); ops = refl; types = types 1 },
         (
-          record { base = refl; shape = (refl, (refl, refl)); ops = refl; types = types 2 },
+          record { base = refl; shape = (refl, refl); ops = refl; types = types 2 },
           (
             record { base = refl; shape = omega arith; ops = refl; types = all_of (λ (a : Attr). (a.of ≡ 3) ⊎ IsTrue (is_usable small a.of)) [] tt },
             (record { base = refl; shape = omega arith; ops = refl; types = all_of (λ (a : Attr). (a.of ≡ 4) ⊎ IsTrue (is_usable small a.of)) (value 1 ∷ []) (inr refl, tt) }, tt),

@@ -383,7 +383,7 @@ readers (suc (suc (suc zero))) m = refl
 readers (suc (suc (suc (suc p)))) m = absurd (omega (arith, m))
 
 pub valid : AreValid (rules_of uses) plans
-valid = record { layer = layer; visits = visits; positions = positions; steps = steps; readers = readers }
+valid = record { rows = record { visits = refl; places = refl; steps = refl; readers = refl }; layer = layer; visits = visits; positions = positions; steps = steps; readers = readers }
 
 -- the one visit of the use stands at its sum, and its vertices belong to it
 seat_is : seat (rules_of uses) plans 0 1 1 ≡ 3

@@ -34,9 +34,13 @@ is_base_at k Numbers = nat_eq k numbers
 is_base_at k Texts = nat_eq k texts
 is_base_at k shape = nat_lt texts k
 
+-- the bytes of `value`
+abbrev pub value_name : Bytes
+value_name = 118 ∷ 97 ∷ 108 ∷ 117 ∷ 101 ∷ []
+
 -- a leaf's phylum has no operators and the one attribute `value`, of itself
 abbrev pub IsValue : ℕ → List Attr → Type 0
-IsValue p (a ∷ []) = (a.way ≡ Synthesized) × (a.of ≡ p)
+IsValue p (a ∷ []) = (a ≡ record { name = value_name; way = Synthesized; of = p })
 IsValue p attrs = ⊥
 
 abbrev pub args_count : Spec → Option ℕ → Option ℕ

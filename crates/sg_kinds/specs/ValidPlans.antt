@@ -57,7 +57,15 @@ readers_of rules p v = filter (λ r. unwrap_or (option_map (names rules p v) (sl
 abbrev pub AreReaders : Rules → ℕ → Plans → Type 0
 AreReaders rules p plans = row_at plans.readers p ≡ map (readers_of rules p) (below (vertices rules p))
 
+-- a row of visits for each phylum; rows of positions, steps and readers for each operator
+pub record HaveRows (rules : Rules) (plans : Plans) : Type 0 where
+  pub visits : length plans.visits ≡ length rules.phyla
+  pub places : length plans.places ≡ length rules.ops
+  pub steps : length plans.steps ≡ length rules.ops
+  pub readers : length plans.readers ≡ length rules.ops
+
 pub record AreValid (rules : Rules) (plans : Plans) : Type 0 where
+  pub rows : HaveRows rules plans
   pub layer : ℕ → ℕ → ℕ
   pub visits : (X : ℕ) → X < length rules.phyla → AreVisits rules X (layer X) plans
   pub positions : (p : ℕ) → p < length rules.ops → ArePositions rules p layer plans

@@ -22,7 +22,7 @@ pub enum Entry {
 
 impl FaultKind {
     /// The place of the kind in its declaration, counted from 0.
-    pub fn number(self) -> u8
+    fn number(self) -> u8
         ensures { result ≡ fault_number self }
     {
         match self {

@@ -2,7 +2,6 @@
 ghost use Rattle.std.specs.Prelude.{◌≡◌};
 ghost use Rattle.sg_kinds.specs.declared.fault.SpecFault.TheVariants as fault;
 
-use crate::memory::NoMemory as OutOfMemory;
 use crate::row::Row;
 use crate::text::Text;
 use std::alloc::{AllocError, AllocFailed};
@@ -108,14 +107,6 @@ pub enum SpecFault {
     /// the line of the first declaration that is not built yet
     Unbuilt(u32),
     NoMemory,
-}
-
-impl From<OutOfMemory> for SpecFault {
-    ghost from_gives = { λ _ e. e ≡ fault.NoMemory };
-
-    fn from(_: OutOfMemory) -> SpecFault {
-        SpecFault::NoMemory
-    }
 }
 
 impl From<AllocError> for SpecFault {

@@ -17,8 +17,6 @@ pub mod pool;
 pub mod row;
 pub mod spec;
 pub mod term;
-#[cfg(test)]
-mod tests;
 pub mod text;
 pub mod trees;
 pub mod value;

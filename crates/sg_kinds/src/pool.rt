@@ -14,7 +14,7 @@ use crate::row::{Row, item};
 use crate::text::Text;
 use crate::value::{DEPTH_LIMIT, Kids, SIZE_LIMIT, Value, ValueNode};
 use indexmap::IndexSet;
-use std::alloc::{AllocError, Global};
+use std::alloc::Global;
 use std::marker::Model;
 
 /// Why a pool has no number for a tree.
@@ -29,14 +29,6 @@ impl From<NoMemory> for PoolFault {
     ghost from_gives = { λ _ e. e ≡ PoolNoMemory };
 
     fn from(_: NoMemory) -> PoolFault {
-        PoolFault::NoMemory
-    }
-}
-
-impl From<AllocError> for PoolFault {
-    ghost from_gives = { λ _ e. e ≡ PoolNoMemory };
-
-    fn from(_: AllocError) -> PoolFault {
         PoolFault::NoMemory
     }
 }

@@ -58,6 +58,7 @@ whole timing steps readers = record { visits = timing.visits; places = timing.pl
 
 valid_whole : (rules : Rules) (timing : Timing) (steps : List (List (List PlanStep))) (readers : List (List (List ℕ))) → IsTiming rules timing → PlannedTo rules timing steps readers (length rules.ops) → AreValid rules (whole timing steps readers)
 valid_whole rules timing steps readers is to = record {
+  rows = record { visits = is.visits; places = is.places; steps = to.steps_count; readers = to.readers_count };
   layer = is.are.layer;
   visits = λ X low. let v = is.are.visits X low in record { layers = v.layers; row = v.row };
   positions = λ p low. let v = is.are.positions p low in record { count = v.count; different = v.different; agree = v.agree };

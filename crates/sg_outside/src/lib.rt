@@ -20,6 +20,3 @@ pub use shelf::{NoMemory, Shelf, ShelfError};
 pub use sink::{Sink, SinkError};
 pub use sure_shelf::SureShelf;
 pub use sure_sink::SureSink;
-
-#[cfg(test)]
-mod tests;

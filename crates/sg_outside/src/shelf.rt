@@ -7,20 +7,7 @@ ghost use Rattle.sg_outside.specs.Shelf.{Files, Fetches, kept};
 use std::alloc::{AllocError, AllocFailed, Global};
 
 /// There was not enough memory.
-#[derive(Clone, Copy, Debug, PartialEq, Eq)]
-pub struct NoMemory;
-
-impl From<AllocError> for NoMemory {
-    fn from(_: AllocError) -> Self {
-        NoMemory
-    }
-}
-
-impl<T: Drop> From<AllocFailed<T>> for NoMemory {
-    fn from(_: AllocFailed<T>) -> Self {
-        NoMemory
-    }
-}
+pub use std::alloc::AllocError as NoMemory;
 
 /// Why a shelf did not do what was asked.
 #[derive(Clone, Copy, Debug, PartialEq, Eq)]
@@ -43,14 +30,6 @@ impl<T: Drop> From<AllocFailed<T>> for ShelfError {
     ghost from_gives = { λ _ e. e ≡ OutOfMemory };
 
     fn from(_: AllocFailed<T>) -> Self {
-        ShelfError::NoMemory
-    }
-}
-
-impl From<NoMemory> for ShelfError {
-    ghost from_gives = { λ _ e. e ≡ OutOfMemory };
-
-    fn from(_: NoMemory) -> Self {
         ShelfError::NoMemory
     }
 }

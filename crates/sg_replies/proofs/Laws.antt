@@ -43,10 +43,11 @@ calls_or_one_more_then M M' m n old between new more e (inl f) = inl (calls_then
 calls_or_one_more_then M M' m n old between new more e (inr f) =
     inr (more f.0, calls_then m (n + 1) old between new e f.1 ∙ ap (λ (k : ℕ). tallied k old) (sym (add_assoc m n 1)))
 
--- without a reply the files are as before, whatever is asked
-pub Serves-nil : (requests : List Request) (old new : Option Files) → new ≡ old → Serves old requests [] new
-Serves-nil [] old new e = e
-Serves-nil (q ∷ requests) old new e = e
+-- without a reply the files are as before, where one request at most is made
+pub Serves-nil : (requests : List Request) (old new : Option Files) → length requests ≤ 1 → new ≡ old → Serves old requests [] new
+Serves-nil [] old new most e = e
+Serves-nil (q ∷ []) old new most e = e
+Serves-nil (q ∷ r ∷ requests) old new most e = absurd (omega (arith, most))
 
 -- the replies to these requests, and then those to more requests
 pub Serves-append : (files : Option Files) (qs qs' : List Request) (rs rs' : List Reply) (between after : Option Files) → length qs ≡ length rs
@@ -54,21 +55,12 @@ pub Serves-append : (files : Option Files) (qs qs' : List Request) (rs rs' : Lis
 Serves-append files [] qs' [] rs' between after e s t = subst (λ (f : Option Files). Serves f qs' rs' after) s t
 Serves-append files [] qs' (r ∷ rs) rs' between after e s t = absurd s
 Serves-append files (q ∷ qs) qs' [] rs' between after e s t = absurd (omega (arith, e))
-Serves-append files (q ∷ qs) qs' (r ∷ rs) rs' between after e s t = (s.0, Serves-append (files_after files q r) qs qs' rs rs' between after (omega arith) s.1 t)
-
--- nothing was called
-pub served_none : (requests : List Request) (s : ShelfState) → Served s requests [] s
-served_none requests s = record {
-  files = Serves-nil requests s.files s.files refl;
-  faults = omega arith;
-  later = omega arith;
-  calls = sym (tallied-zero s.calls);
-}
+Serves-append files (q ∷ qs) qs' (r ∷ rs) rs' between after e s t = (s.0, s.1, Serves-append (files_after files q r) qs qs' rs rs' between after (omega arith) s.2 t)
 
 -- one call and its reply
 pub served_one : (request : Request) (reply : Reply) (old new : ShelfState) → Replied request reply old new → Served old (request ∷ []) (reply ∷ []) new
 served_one request reply old new r = record {
-  files = (r.answers, r.files);
+  files = (r.kind, r.answers, r.files);
   faults = subst (λ (n : ℕ). raised_by n old.faults ≤ new.faults) (sym (add-zero (failure reply))) r.faults;
   later = r.later;
   calls = r.calls;
@@ -98,9 +90,9 @@ served_then_or_one_more old between new qs qs' rs rs' e p q = record {
 }
 
 -- no call brought a reply: none was made
-pub none_or_one_more : (requests : List Request) (s : ShelfState) → ServedOrOneMore s requests [] s
-none_or_one_more requests s = record {
-  files = Serves-nil requests s.files s.files refl;
+pub none_or_one_more : (requests : List Request) (s : ShelfState) → length requests ≤ 1 → ServedOrOneMore s requests [] s
+none_or_one_more requests s most = record {
+  files = Serves-nil requests s.files s.files most refl;
   faults = omega arith;
   later = omega arith;
   calls = inl (sym (tallied-zero s.calls));

@@ -5,6 +5,3 @@
 mod reply;
 
 pub use reply::{Reply, add, fetched, kept};
-
-#[cfg(test)]
-mod tests;

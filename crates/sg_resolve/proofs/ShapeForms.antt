@@ -233,4 +233,4 @@ module _ (spec : Spec) (t : Table) (same_args : (op : ℕ) → args_of spec.ops 
       (λ plain past e. first_fits p (phylum_made ds p h) (own_listings ds p) here listings some e) refl
     where
       value : is_leaf_shape (phylum_made ds p h).shape ≡ true → IsValue p (phylum_made ds p h).attrs
-      value e = subst (λ b. IsValue p (if b then value_attr p ∷ [] else own_attrs ds p)) (sym e) (refl, refl)
+      value e = subst (λ b. IsValue p (if b then value_attr p ∷ [] else own_attrs ds p)) (sym e) refl

@@ -68,7 +68,7 @@ pub not_asked : (q : Request) (next : Reply → List Reply → Told) (rb ra : Li
 not_asked q next rb ra shelf sink n e = record {
   got = [];
   replies = e ∙ sym (append-nil rb);
-  ends = ends_memory shelf shelf sink n n (unfinished q) refl (none_or_one_more (q ∷ []) shelf) (omega arith) (omega arith);
+  ends = ends_memory shelf shelf sink n n (unfinished q) refl (none_or_one_more (q ∷ []) shelf (omega arith)) (omega arith) (omega arith);
 }
 
 -- the one reply to the fetch of the specification, and what follows it

@@ -4,11 +4,11 @@ ghost use Rattle.std.specs.Bool.{OnTrue, OnFalse};
 ghost use Rattle.sg_undo.specs.Timeline.{timeline, Moves};
 
 use circular_buffer::HeapCircularBuffer;
-use std::alloc::{AllocError, Global};
+use std::alloc::Global;
 use std::marker::Model;
 
 /// Want of memory, the only error of this crate.
-pub type NoMemory = AllocError;
+pub use std::alloc::AllocError as NoMemory;
 
 /// The steps of an editor that can be undone, at most as many as its room, and those that were
 /// undone and can be redone.
@@ -93,6 +93,33 @@ impl<S: Drop> History<S> {
         ensures stays { self.new ≡ record self.old { future = self.new.future } }
     {
         self.future.pop_front()
+    }
+
+    /// Takes the newest past step out of the history, the one that `back` would move.
+    pub fn take_back(&mut self) -> Option<S>
+        ensures taken { option_to_list result ++ self.new.past ≡ self.old.past }
+        ensures empty { IsNone result ↔ (self.old.past ≡ []) }
+        ensures stays { self.new ≡ record self.old { past = self.new.past } }
+    {
+        self.past.pop_front()
+    }
+
+    /// Puts a step first in the future, where there is room.
+    pub fn put_forth(&mut self, next: S)
+        requires { length self.old.past + length self.old.future < self.old.room }
+        ensures put { self.new.future ≡ next ∷ self.old.future }
+        ensures stays { self.new ≡ record self.old { future = self.new.future } }
+    {
+        self.future.try_push_front(next).unwrap();
+    }
+
+    /// Puts a step first in the past, where there is room; unlike `push` it drops nothing.
+    pub fn put_back(&mut self, newest: S)
+        requires { length self.old.past + length self.old.future < self.old.room }
+        ensures put { self.new.past ≡ newest ∷ self.old.past }
+        ensures stays { self.new ≡ record self.old { past = self.new.past } }
+    {
+        self.past.try_push_front(newest).unwrap();
     }
 
     /// Drops the future, puts a step first in the past, and hands back the oldest past step where

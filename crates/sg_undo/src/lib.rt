@@ -5,6 +5,3 @@
 mod history;
 
 pub use history::{History, NoMemory};
-
-#[cfg(test)]
-mod tests;
