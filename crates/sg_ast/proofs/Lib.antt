@@ -11,3 +11,4 @@ pub mod Exact
 pub mod FirstLaws
 mod Worked
 pub mod ChainLemmas
+pub mod RisingLaws

@@ -10,3 +10,6 @@ pub mod Readers
 pub mod Reading
 pub mod Spells
 pub mod FirstFault
+pub mod Written
+pub mod Parts
+pub mod Rising

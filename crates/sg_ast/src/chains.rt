@@ -1,8 +1,10 @@
 //! Chains made of lists, and where trees begin.
 ghost use Rattle.std.specs.Prelude.{◌≡◌, [], map, option_map, IfOk};
 ghost use Rattle.sg_ast.specs.Chains.{chain_of, exprs_chain, cases_chain, occurrence_place, pattern_place, expr_place};
+ghost use Rattle.sg_ast.specs.Parts.{target_place};
 ghost use Rattle.sg_ast.specs.View.{pattern_of, patterns_of, expr_of, exprs_of, cases_of, case_of};
 
+use crate::decl::Target;
 use crate::expr::{Cases, Expr, Exprs};
 use crate::name::Occurrence;
 use crate::pattern::{Pattern, Patterns};
@@ -75,6 +77,18 @@ impl Occurrence {
         match self {
             Occurrence::Own(place) => *place,
             Occurrence::Named(name, _) => name.place,
+        }
+    }
+}
+
+impl Target {
+    /// The place of the first token.
+    pub fn place(&self) -> Position
+        ensures { result ≡ target_place self.now }
+    {
+        match self {
+            Target::Attribute(reference) => reference.of.place(),
+            Target::Local(name) => name.place,
         }
     }
 }

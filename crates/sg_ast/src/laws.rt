@@ -1,11 +1,14 @@
 //! Laws of spelling and reading, each as the contract of a function without code.
-ghost use Rattle.std.specs.Prelude.{◌≡◌, Bool, if◌then◌else◌, List, [], ◌++◌, map, flat_map, Option, Some, None};
+ghost use Rattle.std.specs.Prelude.{◌≡◌, ℕ, Bool, if◌then◌else◌, List, [], ◌++◌, map, flat_map, Option, Some, None};
 ghost use Rattle.std.specs.List.{AllByRecursion, filter};
+ghost use Rattle.sg_text.specs.declared.tokens.Token.{Token};
+ghost use Rattle.sg_kinds.specs.declared.fault.Position.{Position};
 ghost use Rattle.sg_ast.specs.Declarations.{Decl};
 ghost use Rattle.sg_ast.specs.FirstFault.{or_else, first, first_of, repeats, first_repeat};
 ghost use Rattle.sg_ast.specs.Reading.{decl_of};
 ghost use Rattle.sg_ast.specs.Spelling.{Mark};
-ghost use Rattle.sg_ast.specs.Spells.{Spells};
+ghost use Rattle.sg_ast.specs.Rising.{places_of, RiseFrom, SomeOf};
+ghost use Rattle.sg_ast.specs.Spells.{Spells, EachSpells, marks_from, declarations};
 
 /// What spells a tree is read as this tree, and what is read spells what was read. So where nothing is read, no tree is
 /// spelled.
@@ -36,4 +39,13 @@ pub fn first_faults<X, A>()
 /// Where no key repeats, there are no repeats.
 pub fn no_repeats<X>()
     ensures { (same : X → X → Bool) (xs : List X) → first_repeat same xs ≡ None → repeats same xs ≡ [] }
+{}
+
+/// The places that trees keep rise with the tokens of their text, in one declaration and over all of them; so do some
+/// of these places, in their order.
+#[tactic(auto, using(crate::proofs::RisingLaws::one_rises, crate::proofs::RisingLaws::all_rise, crate::proofs::RisingLaws::some_rise))]
+pub fn places_rise()
+    ensures one { (bytes : List ℕ) (n : ℕ) (ts : List Token) (d : Decl) → Spells (marks_from bytes n ts) d → RiseFrom n (places_of d) }
+    ensures all { (bytes : List ℕ) (ts : List Token) (ds : List Decl) → EachSpells (declarations bytes ts) ds → RiseFrom 0 (flat_map places_of ds) }
+    ensures some { (ps qs : List Position) (n : ℕ) → SomeOf ps qs → RiseFrom n qs → RiseFrom n ps }
 {}

@@ -9,5 +9,3 @@ pub mod laws;
 pub mod name;
 pub mod number;
 pub mod pattern;
-#[cfg(test)]
-mod tests;

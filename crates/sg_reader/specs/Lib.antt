@@ -1,6 +1,1 @@
-pub mod LexedView
-pub mod Left
-pub mod PatternNests
-pub mod ExprNests
-pub mod WithParts
 pub mod EachRead

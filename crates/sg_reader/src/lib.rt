@@ -2,20 +2,8 @@
 #![tactic(auto)]
 
 mod decl;
-mod expr;
 mod fault;
-#[cfg(test)]
-mod languages;
-mod levels;
-mod lexed;
-mod nodes;
-mod pattern;
 mod reading;
-mod references;
-mod schemes;
-#[cfg(test)]
-mod tests;
-mod tokens;
 
 pub use fault::ReadFault;
 pub use reading::read;

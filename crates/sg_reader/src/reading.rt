@@ -6,12 +6,12 @@ ghost use Rattle.sg_ast.specs.Reading.{decl_of};
 ghost use Rattle.sg_ast.specs.Spells.{marks_from, declarations, EachSpells};
 ghost use Rattle.sg_ast.specs.View.{tree_of, trees_of};
 ghost use Rattle.sg_reader.specs.EachRead.{read_from, Answers, IsFirstUnread, IsOf};
-ghost use Rattle.sg_reader.specs.Left.{Gives};
+ghost use Rattle.sg_cursor.specs.Left.{Gives};
 
 use crate::decl::declaration;
-use crate::fault::{ReadFault, Refusal};
-use crate::tokens::Tokens;
+use crate::fault::ReadFault;
 use sg_ast::decl::Decl as DeclTree;
+use sg_cursor::{Refusal, Tokens};
 use sg_text::{Token, declaration_len};
 use std::alloc::Global;
 

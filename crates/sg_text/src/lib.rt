@@ -4,14 +4,10 @@
 mod bytes;
 mod declarations;
 mod forms;
-#[cfg(test)]
-mod languages;
 mod lines;
 mod scanner;
 mod strings;
 mod symbols;
-#[cfg(test)]
-mod tests;
 mod tokens;
 mod words;
 

@@ -5,8 +5,8 @@ use Rattle.sg_text.specs.declared.symbols.Symbol.TheVariants as sign
 use Rattle.sg_ast.specs.Readers.{is_sign}
 use Rattle.sg_ast.specs.Reading.{equation, sees_other}
 use Rattle.sg_ast.specs.View.{equation_of}
-use Rattle.sg_reader.specs.Left.{left_of}
-use Rattle.sg_reader.proofs.Turns.{goes_on, fails, stops, ends}
+use Rattle.sg_cursor.specs.Left.{left_of}
+use Rattle.sg_cursor.proofs.Turns.{goes_on, fails, stops, ends}
 use Rattle.sg_reader.proofs.decl.equations_behind.Goals as goal
 
 pub returns-then-not-sees_other : goal.returns-then-not-sees_other

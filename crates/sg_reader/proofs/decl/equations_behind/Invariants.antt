@@ -4,7 +4,7 @@ use Rattle.sg_ast.specs.Readers.{is_sign}
 use Rattle.sg_ast.specs.Reading.{equation, sees_other}
 use Rattle.sg_ast.specs.View.{equation_of}
 use Rattle.sg_ast.specs.Readers.{more}
-use Rattle.sg_reader.specs.Left.{left_of}
+use Rattle.sg_cursor.specs.Left.{left_of}
 use Rattle.sg_reader.proofs.decl.equations_behind.Given as goal
 
 abbrev pub invariant-loop-turn : goal.invariant-loop-turn

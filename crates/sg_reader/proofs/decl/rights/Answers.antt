@@ -5,8 +5,8 @@ use Rattle.sg_text.specs.declared.symbols.Symbol.TheVariants as sign
 use Rattle.sg_ast.specs.Readers.{is_sign, sees}
 use Rattle.sg_ast.specs.Reading.{other, right}
 use Rattle.sg_ast.specs.View.{right_of}
-use Rattle.sg_reader.specs.Left.{left_of}
-use Rattle.sg_reader.proofs.Turns.{goes_on, fails, stops, ends}
+use Rattle.sg_cursor.specs.Left.{left_of}
+use Rattle.sg_cursor.proofs.Turns.{goes_on, fails, stops, ends}
 use Rattle.sg_reader.proofs.decl.rights.Goals as goal
 
 pub returns-then-not-sees_sign : goal.returns-then-not-sees_sign

@@ -4,7 +4,7 @@ use Rattle.sg_ast.specs.Readers.{is_sign, sees}
 use Rattle.sg_ast.specs.Reading.{other, right}
 use Rattle.sg_ast.specs.View.{right_of}
 use Rattle.sg_ast.specs.Readers.{more}
-use Rattle.sg_reader.specs.Left.{left_of}
+use Rattle.sg_cursor.specs.Left.{left_of}
 use Rattle.sg_reader.proofs.decl.rights.Given as goal
 
 abbrev pub invariant-loop-turn : goal.invariant-loop-turn

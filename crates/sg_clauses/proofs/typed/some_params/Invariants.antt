@@ -1,0 +1,5 @@
+use Rattle.sg_ast.specs.Reading.{another, param}
+use Rattle.sg_clauses.proofs.typed.some_params.Given as goal
+
+abbrev pub ghost-repeated : goal.ghost-repeated
+ghost-repeated a = another param

@@ -1,0 +1,2 @@
+pub mod LexedView
+pub mod Left

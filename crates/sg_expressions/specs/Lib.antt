@@ -1,0 +1,4 @@
+pub mod PatternNests
+pub mod ExprNests
+pub mod Joined
+pub mod WithParts

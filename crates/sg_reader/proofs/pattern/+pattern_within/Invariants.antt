@@ -1,4 +1,0 @@
-use Rattle.sg_reader.proofs.pattern.+pattern_within.Given as goal
-
-abbrev pub decreases-pattern_within : goal.decreases-pattern_within
-decreases-pattern_within l = l.depth
