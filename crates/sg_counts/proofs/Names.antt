@@ -8,7 +8,6 @@ use Rattle.std.specs.declared.cmp.Ordering.{Ordering}
 use Rattle.std.specs.declared.cmp.Ordering.TheVariants.{Less, Equal, Greater}
 use Rattle.std.proofs.lemmas.Bool.Decides.{nat_tests}
 use Rattle.std.proofs.lemmas.Cmp.{same_from_slice_cmp}
-use Rattle.sg_kinds.specs.declared.memory.NoMemory.{NoMemory}
 use Rattle.sg_counts.specs.Crowds.{different, crowd}
 use Rattle.sg_counts.specs.Limits.{is_same_operator}
 use Rattle.sg_counts.specs.OwnersView.{names_of, operators_of}
@@ -23,7 +22,7 @@ both_equal Equal p = refl
 both_equal Greater p = refl
 
 -- an answer that is one value is one that equals it
-pub told : {A : Type 0} {x y : A} (r : Result A NoMemory) → IfOk r (λ n. n ≡ x) → x ≡ y → IfOk r (λ n. n ≡ y)
+pub told : {A E : Type 0} {x y : A} (r : Result A E) → IfOk r (λ n. n ≡ x) → x ≡ y → IfOk r (λ n. n ≡ y)
 told (Ok n) h e = h ∙ e
 told (Err e) h is = h
 

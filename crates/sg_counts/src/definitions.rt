@@ -1,5 +1,6 @@
 //! What declarations define, each at its token.
-ghost use Rattle.std.specs.Prelude.{◌≡◌, ◌++◌, flat_map, map, IfOk, OnOk};
+ghost use Rattle.std.specs.Prelude.{◌≡◌, ◌++◌, ◌∷◌, [], flat_map, map, IfOk, OnOk};
+ghost use Rattle.sg_kinds.specs.Sound.{base_names, builtin_names};
 ghost use Rattle.sg_ast.specs.View.{tree_of, trees_of};
 ghost use Rattle.sg_counts.specs.Definitions as spec;
 ghost use Rattle.sg_counts.specs.declared.definitions.Form.TheVariants as form;
@@ -52,29 +53,41 @@ pub struct Definition<K> {
     pub place: Position,
 }
 
-/// The definition by a name's token.
-fn define<'a>(as_form: Form, space: Space<'a>, name: &'a Name) -> Definition<Key<'a>>
-    ensures { definition_of result ≡ defined as_form (space_of space.entry) name.now }
+/// Puts the definition by a name's token last.
+fn define<'a>(
+    found: &mut Vec<Definition<Key<'a>>>,
+    as_form: Form,
+    space: Space<'a>,
+    name: &'a Name,
+) -> Result<(), NoMemory>
+    ensures { OnOk result (seen_of found.new.items ≡ seen_of found.old.items ++ defined as_form (space_of space.entry) name.now ∷ []) }
 {
-    Definition {
-        key: Key {
-            space,
-            name: name.text.as_slice(),
-        },
+    let key = Key {
+        space,
+        name: name.text.as_slice(),
+    };
+    found.push(Definition {
+        key,
         form: as_form,
         place: name.place,
-    }
+    })?;
+    Ok(())
 }
 
-/// The definition of a name that is there before each text.
-fn give<'a>(space: Space<'a>, name: &'a [u8]) -> Definition<Key<'a>>
-    ensures { definition_of result ≡ before_text (space_of space.entry) name.now }
+/// Puts a name last that is there before each text.
+fn give<'a>(
+    found: &mut Vec<Definition<Key<'a>>>,
+    space: Space<'a>,
+    name: &'a [u8],
+) -> Result<(), NoMemory>
+    ensures { OnOk result (seen_of found.new.items ≡ seen_of found.old.items ++ before_text (space_of space.entry) name.now ∷ []) }
 {
-    Definition {
+    found.push(Definition {
         key: Key { space, name },
         form: Form::Alone,
         place: Position { token: 0, line: 0 },
-    }
+    })?;
+    Ok(())
 }
 
 /// Puts the operators of a phylum last.
@@ -82,9 +95,21 @@ fn add_operators<'a>(found: &mut Vec<Definition<Key<'a>>>, alts: &'a [Alt]) -> R
     ensures { OnOk result (seen_of found.new.items ≡ seen_of found.old.items ++ map (λ a. defined form.Alone spec.Callables a.name) alts.now) }
 {
     for alt in alts {
-        found.push(define(Form::Alone, Space::Callables, &alt.name))?;
+        define(found, Form::Alone, Space::Callables, &alt.name)?;
     }
     Ok(())
+}
+
+/// Puts a phylum last, and its operators behind it.
+fn add_phylum<'a>(
+    found: &mut Vec<Definition<Key<'a>>>,
+    phylum: &'a Name,
+    alts: &'a [Alt],
+) -> Result<(), NoMemory>
+    ensures { OnOk result (seen_of found.new.items ≡ seen_of found.old.items ++ defined form.Operators spec.Phyla phylum.now ∷ map (λ a. defined form.Alone spec.Callables a.name) alts.now) }
+{
+    define(found, Form::Operators, Space::Phyla, phylum)?;
+    add_operators(found, alts)
 }
 
 /// Puts the attributes of an owner last.
@@ -97,7 +122,7 @@ fn add_attributes<'a>(
 {
     for attr in attrs {
         let space = Space::Attributes(owner.text.as_slice());
-        found.push(define(Form::Alone, space, &attr.name))?;
+        define(found, Form::Alone, space, &attr.name)?;
     }
     Ok(())
 }
@@ -113,7 +138,7 @@ fn add_locals<'a>(
 {
     for local in locals {
         let space = Space::Locals(phylum.text.as_slice(), op.text.as_slice());
-        found.push(define(Form::Alone, space, &local.name))?;
+        define(found, Form::Alone, space, &local.name)?;
     }
     Ok(())
 }
@@ -134,29 +159,39 @@ fn add<'a>(found: &mut Vec<Definition<Key<'a>>>, decl: &'a Decl) -> Result<(), N
 {
     match decl {
         Decl::Listed(phylum) | Decl::Optional(_, phylum) => {
-            found.push(define(Form::Alone, Space::Listings, phylum))?;
+            define(found, Form::Alone, Space::Listings, phylum)
         }
-        Decl::Operators(phylum, alts) => {
-            found.push(define(Form::Operators, Space::Phyla, phylum))?;
-            add_operators(found, alts.as_slice())?;
-        }
-        Decl::Lexeme(phylum, _) => found.push(define(Form::Alone, Space::Phyla, phylum))?,
-        Decl::Attributes(owner, attrs) => add_attributes(found, owner, attrs.as_slice())?,
+        Decl::Operators(phylum, alts) => add_phylum(found, phylum, alts.as_slice()),
+        Decl::Lexeme(phylum, _) => define(found, Form::Alone, Space::Phyla, phylum),
+        Decl::Attributes(owner, attrs) => add_attributes(found, owner, attrs.as_slice()),
         Decl::Equations(phylum, op, locals, _) => {
-            add_locals(found, phylum, op, locals.as_slice())?;
+            add_locals(found, phylum, op, locals.as_slice())
         }
         Decl::Schemes(phylum, op, view, _) => {
-            found.push(define(Form::Alone, schemes_of(phylum, view), op))?;
+            define(found, Form::Alone, schemes_of(phylum, view), op)
         }
-        Decl::Function(_, name, _, _) => {
-            found.push(define(Form::Alone, Space::Callables, name))?;
-        }
-        Decl::Productions(name, _) => {
-            found.push(define(Form::Productions, Space::Phyla, name))?;
-        }
-        Decl::Root(_) | Decl::Transform(..) | Decl::Entry(..) | Decl::Levels(..) => {}
+        Decl::Function(_, name, _, _) => define(found, Form::Alone, Space::Callables, name),
+        Decl::Productions(name, _) => define(found, Form::Productions, Space::Phyla, name),
+        Decl::Root(_) | Decl::Transform(..) | Decl::Entry(..) | Decl::Levels(..) => Ok(()),
     }
-    Ok(())
+}
+
+/// Puts the base phyla last.
+fn give_phyla<'a>(found: &mut Vec<Definition<Key<'a>>>) -> Result<(), NoMemory>
+    ensures { OnOk result (seen_of found.new.items ≡ seen_of found.old.items ++ map (before_text spec.Phyla) base_names) }
+{
+    give(found, Space::Phyla, b"BOOL".as_slice())?;
+    give(found, Space::Phyla, b"INT".as_slice())?;
+    give(found, Space::Phyla, b"STR".as_slice())
+}
+
+/// Puts the builtins last.
+fn give_builtins<'a>(found: &mut Vec<Definition<Key<'a>>>) -> Result<(), NoMemory>
+    ensures { OnOk result (seen_of found.new.items ≡ seen_of found.old.items ++ map (before_text spec.Callables) builtin_names) }
+{
+    give(found, Space::Callables, b"STRtoINT".as_slice())?;
+    give(found, Space::Callables, b"INTtoSTR".as_slice())?;
+    give(found, Space::Callables, b"STRlen".as_slice())
 }
 
 /// The base phyla and the builtins.
@@ -164,12 +199,8 @@ fn given<'a>(alloc: Global) -> Result<Vec<Definition<Key<'a>>>, NoMemory>
     ensures { IfOk result (λ v. seen_of v.items ≡ given) }
 {
     let mut found = Vec::new(alloc);
-    found.push(give(Space::Phyla, b"BOOL".as_slice()))?;
-    found.push(give(Space::Phyla, b"INT".as_slice()))?;
-    found.push(give(Space::Phyla, b"STR".as_slice()))?;
-    found.push(give(Space::Callables, b"STRtoINT".as_slice()))?;
-    found.push(give(Space::Callables, b"INTtoSTR".as_slice()))?;
-    found.push(give(Space::Callables, b"STRlen".as_slice()))?;
+    give_phyla(&mut found)?;
+    give_builtins(&mut found)?;
     Ok(found)
 }
 

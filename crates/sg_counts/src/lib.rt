@@ -6,5 +6,3 @@ mod crowds;
 pub mod definitions;
 pub mod duplicates;
 pub mod limits;
-#[cfg(test)]
-mod tests;

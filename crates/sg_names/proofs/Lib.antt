@@ -7,8 +7,6 @@ pub mod Loops
 pub mod Owned
 pub mod Written
 pub mod TableMade
-pub mod Roots
 pub mod SeenLaws
-pub mod NotedLaws
 pub mod DraftedLaws
 pub mod OpPlaces

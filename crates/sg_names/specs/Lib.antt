@@ -4,15 +4,10 @@ pub mod Meaning
 pub mod Indexed
 pub mod Rows
 pub mod Heads
-pub mod HeadViews
 pub mod Callables
 pub mod Uses
 pub mod UnknownName
 pub mod TwiceBound
 pub mod Arity
 pub mod Shapes
-pub mod Noted
-pub mod SiteView
-pub mod Resolved
 pub mod Drafted
-pub mod Seen

@@ -8,8 +8,10 @@ use Rattle.sg_kinds.specs.declared.spec.Operator.{Operator}
 use Rattle.sg_kinds.specs.declared.spec.Local.{Local}
 use Rattle.sg_kinds.specs.declared.spec.Occurrence.{Occurrence}
 use Rattle.sg_kinds.specs.Specification.{texts, numbers, attrs_of, args_of, locals_of, phylum_of, has_shape, is_lexical_shape}
+use Rattle.sg_kinds.specs.Typing.{whitespace}
 use Rattle.sg_kinds.specs.declared.marks.Unary.{Unary}
 use Rattle.sg_kinds.specs.declared.marks.Unary.TheVariants.{TextToNumber, NumberToText, TextLength}
+use Rattle.sg_ast.specs.declared.name.Name.{Name}
 use Rattle.sg_ast.specs.declared.name.Occurrence.{Occurrence as Written}
 use Rattle.sg_ast.specs.declared.name.Occurrence.TheVariants.{Own, Named}
 use Rattle.sg_ast.specs.declared.name.Reference.{Reference}
@@ -33,7 +35,7 @@ nonterminal_named t n = position (λ (x : Nonterminal). bytes_eq n x.name) t.non
 
 -- the lexeme phylum WHITESPACE, which nothing uses
 abbrev pub is_whitespace : Table → ℕ → Bytes → Bool
-is_whitespace t p n = bytes_eq n (codes "WHITESPACE") && has_shape t.phyla is_lexical_shape p
+is_whitespace t p n = bytes_eq n whitespace && has_shape t.phyla is_lexical_shape p
 
 -- a phylum that may be used
 abbrev pub usable_named : Table → Bytes → Option ℕ
@@ -61,6 +63,10 @@ callable t n = callable_in t.ops t.functions n
 
 abbrev pub operator_named : Table → ℕ → Bytes → Option ℕ
 operator_named t p n = operator_of t.ops p n
+
+-- an operator and its phylum, both by name
+abbrev pub operator_at : Table → Name → Name → Option ℕ
+operator_at t n op = option_and_then (λ p. operator_named t p op.text) (phylum_named t n.text)
 
 -- the phyla of its parameters, and of its result
 abbrev pub builtin_param : Unary → ℕ
@@ -105,13 +111,13 @@ chosen (Some k) ats = if nat_eq k 0 then None else slice_get ats (k - 1)
 chosen None (at ∷ []) = Some at
 chosen None ats = None
 
--- an occurrence of an operator: 0 for the left side, k + 1 for argument k
+-- an occurrence of an operator: 0 for the left side, k + 1 for argument k; naming one is a use of its phylum
 abbrev pub occurrence_of : Operator → Option ℕ → ℕ → Option ℕ
 occurrence_of o k p = chosen k (places (nat_eq p) (nat_eq p o.phylum) o.args)
 
 abbrev pub occurrence : Table → ℕ → Written → Option ℕ
 occurrence t op (Own place) = Some 0
-occurrence t op (Named q k) = option_and_then (λ p. option_and_then (λ o. occurrence_of o k p) (slice_get t.ops op)) (phylum_named t q.text)
+occurrence t op (Named q k) = option_and_then (λ p. option_and_then (λ o. occurrence_of o k p) (slice_get t.ops op)) (usable_named t q.text)
 
 -- the phylum at an occurrence of an operator
 abbrev pub phylum_there : Table → ℕ → ℕ → Option ℕ

@@ -11,9 +11,9 @@ use Rattle.sg_ast.specs.declared.name.Reference.{Reference}
 use Rattle.sg_ast.specs.Declarations.{Decl}
 use Rattle.sg_ast.specs.FirstFault.{first}
 use Rattle.sg_names.specs.declared.table.Table.{Table}
-use Rattle.sg_names.specs.Lookups.{phylum_named, usable_named, nonterminal_named, callable, occurrence, reference, symbol, operand, symbol_type}
+use Rattle.sg_names.specs.Lookups.{phylum_named, usable_named, operator_at, nonterminal_named, callable, occurrence, reference, symbol, operand, symbol_type}
 use Rattle.sg_names.specs.Names.{op_named}
-use Rattle.sg_names.specs.Uses.{Site, Use, InOperator, InProduction, Elsewhere, UsesPhylum, HasOperators, HasAttributes, UsesOperator, UsesSymbol, UsesResult, Refers, UsesVariable, Calls, Matches, is_visible, operator_at, uses}
+use Rattle.sg_names.specs.Uses.{Site, Use, InOperator, InProduction, Elsewhere, UsesPhylum, HasOperators, HasAttributes, UsesOperator, UsesSymbol, UsesResult, Refers, UsesVariable, Calls, Matches, is_visible, uses}
 
 -- the fault of a name that does not mean what it must
 abbrev pub unless_known : Bool → Name → Option SpecFault

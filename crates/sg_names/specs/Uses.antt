@@ -22,7 +22,7 @@ use Rattle.sg_ast.specs.Expressions as e
 use Rattle.sg_ast.specs.Expressions.{Expr, Exprs, Cases, NoExpr, AndExpr, NoCase, Default, Case}
 use Rattle.sg_ast.specs.Declarations.{Decl, Equation, Right, Root, Listed, Optional, Operators, Attributes, Equations, Schemes, Function, Transform, Productions, Entry}
 use Rattle.sg_names.specs.declared.table.Table.{Table}
-use Rattle.sg_names.specs.Lookups.{usable_named, operator_named}
+use Rattle.sg_names.specs.Lookups.{operator_at}
 
 -- where an expression stands: in an equation of an operator, in an input production with its left side, or where no
 -- reference may stand
@@ -114,10 +114,7 @@ abbrev mutual
 abbrev pub case_uses : Site → List Bytes → Pattern → Expr → List Use
 case_uses site scope q b = pattern_uses scope q ++ expr_uses site (pattern_scope scope q) b
 
--- the operator that a declaration speaks of; its locals, which are visible in its equations and schemes
-abbrev pub operator_at : Table → Name → Name → Option ℕ
-operator_at t n op = option_and_then (λ p. operator_named t p op.text) (usable_named t n.text)
-
+-- the locals of the operator that a declaration speaks of, which are visible in its equations and schemes
 abbrev pub local_scope : Table → ℕ → List Bytes
 local_scope t op = fold with_variable [] (map (λ (l : Local). l.name) (locals_of t.ops op))
 

@@ -15,7 +15,7 @@ use sg_kinds::spec::Operator;
 use std::alloc::Global;
 
 /// A place as the tables keep it. No list in memory is too long for it.
-pub(crate) fn number(place: usize) -> Result<u32, NoMemory>
+pub fn number(place: usize) -> Result<u32, NoMemory>
     ensures { IfOk result (λ n. n ≡ place) }
 {
     match u32::try_from(place) {
@@ -25,7 +25,7 @@ pub(crate) fn number(place: usize) -> Result<u32, NoMemory>
 }
 
 /// The operators by their names.
-pub(crate) fn by_operator(alloc: Global, ops: &[Operator]) -> Result<Index<Callable>, NoMemory>
+pub fn by_operator(alloc: Global, ops: &[Operator]) -> Result<Index<Callable>, NoMemory>
     ensures { IfOk result (λ i. (n : List ℕ) → meaning i n ≡ option_map callable.Operator (op_named ops.now n)) }
 {
     let mut index = Index::new(alloc);

@@ -9,7 +9,7 @@ use std::alloc::Global;
 
 /// What names mean, each by its first entry.
 #[derive(Drop)]
-pub(crate) struct Index<V> {
+pub struct Index<V> {
     pub map: IndexMap<Vec<u8>, V>,
 }
 

@@ -1,21 +1,11 @@
-//! What the names of a specification mean, and the faults of names and shapes.
+//! What the names of a specification mean, by tables of what its declarations define.
 #![tactic(auto)]
 
-mod callables;
-mod definitions;
-pub mod found;
+pub mod callables;
 pub mod groups;
 pub mod heads;
-mod index;
-mod known;
+pub mod index;
 pub mod laws;
 pub mod names;
-mod occurrences;
-mod owners;
-pub mod resolving;
-mod scope;
-pub mod shapes;
+pub mod occurrences;
 pub mod table;
-pub mod tables;
-mod walk;
-pub mod walked;

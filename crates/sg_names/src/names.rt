@@ -15,7 +15,7 @@ use crate::index::Index;
 use crate::occurrences::{IsNamed, IsPhylum, chosen};
 use crate::table::{Callable, Operand, Table};
 use sg_ast::decl::Part;
-use sg_ast::name::{Occurrence as Written, Reference};
+use sg_ast::name::{Name, Occurrence as Written, Reference};
 use sg_ast::number::Number;
 use sg_kinds::ids::{OpId, PhylumId};
 use sg_kinds::marks::{Shape, Unary};
@@ -53,7 +53,7 @@ fn is(name: &Text, other: &[u8]) -> bool
     name.as_slice() == other
 }
 
-pub(crate) fn is_leaf(shape: Shape) -> bool
+pub fn is_leaf(shape: Shape) -> bool
     ensures { result ≡ is_leaf_shape shape }
 {
     matches!(
@@ -157,7 +157,7 @@ impl Model for Names {
 
 impl Names {
     /// These lists, with the indexes of the phyla and the nonterminals.
-    pub(crate) fn new(
+    pub fn new(
         alloc: Global,
         table: Table,
         phyla: Index<u32>,
@@ -303,6 +303,13 @@ impl Names {
         }
     }
 
+    /// The operator of a name, if it is one of the phylum of a name.
+    pub fn operator_at(&self, phylum: &Name, op: &Name) -> Option<OpId>
+        ensures { result ≡ spec.operator_at self.now phylum.now op.now }
+    {
+        self.operator_named(self.phylum_named(&phylum.text)?, &op.text)
+    }
+
     /// Whether a phylum is a lexeme phylum.
     pub fn is_lexical(&self, phylum: PhylumId) -> bool
         ensures { result ≡ has_shape self.now.phyla is_lexical_shape phylum }
@@ -381,7 +388,7 @@ impl Names {
         match written {
             Written::Own(_) => Some(0),
             Written::Named(name, number) => {
-                let phylum = self.phylum_named(&name.text)?;
+                let phylum = self.usable_named(&name.text)?;
                 let operator = self.table.ops.place(op.number)?;
                 let at = occurrence_of(operator, *number, phylum)?;
                 Some(at as u32)

@@ -106,7 +106,7 @@ pub(crate) fn chosen<X, T: Test<X>>(
 }
 
 /// An occurrence of a symbol of an input production, counted from 1. The left side has no name in it.
-pub(crate) fn symbol(left: &Text, parts: &[Part], written: &Occurrence) -> Option<usize>
+pub fn symbol(left: &Text, parts: &[Part], written: &Occurrence) -> Option<usize>
     ensures { result ≡ spec.symbol left.now parts.now written.now }
 {
     match written {

@@ -1,6 +1,6 @@
 -- What declarations name where no name is unknown.
 use Rattle.std.proofs.Common.{◌≡◌, ℕ, Bool, true, false, not, ◌&&◌, if◌then◌else◌, bytes_eq, List, [], ◌∷◌, map, Option, Some, None, is_some, slice_get, option_map, unwrap_or, refl, sym, ap, ◌∙◌}
-use Rattle.std.specs.Prelude.{option_and_then, codes, IsTrue}
+use Rattle.std.specs.Prelude.{option_and_then, IsTrue}
 use Rattle.std.specs.List.{AllByRecursion}
 use Rattle.sg_kinds.specs.Values.{Bytes}
 use Rattle.sg_kinds.specs.declared.spec.Spec.{Spec}
@@ -17,9 +17,9 @@ use Rattle.sg_ast.proofs.FirstLaws.{first-none}
 use Rattle.sg_names.specs.declared.table.Table.{Table}
 use Rattle.sg_names.specs.Heads.{number_in}
 use Rattle.sg_names.specs.Names.{phyla_in, names_of}
-use Rattle.sg_names.specs.Lookups.{phylum_named, is_whitespace, usable_named}
+use Rattle.sg_names.specs.Lookups.{operator_at, phylum_named, is_whitespace, usable_named}
 use Rattle.sg_names.specs.UnknownName.{unknown_at, unless_known, has_operators, unknown_name}
-use Rattle.sg_names.specs.Uses.{UsesPhylum, decl_uses, uses, within, equations_uses, operator_at}
+use Rattle.sg_names.specs.Uses.{UsesPhylum, decl_uses, uses, within, equations_uses}
 use Rattle.sg_resolve.proofs.ShapeLists.{each_split, each_unflat, each_implies}
 use Rattle.sg_resolve.proofs.ShapeTable.{phylum_made, phylum_there, named_finds}
 
@@ -75,12 +75,12 @@ found_usable ds spec same n (Some k) e h =
     let f = named_finds ds n k e in
     let here : slice_get (names_of ds).phyla k ≡ Some (phylum_made ds k f.head) = phylum_there ds k f.head f.there in
     let lexical : has_shape (names_of ds).phyla is_lexical_shape k ≡ is_lexical_shape (phylum_made ds k f.head).shape = ap (λ o. unwrap_or (option_map (λ (x : Phylum). is_lexical_shape x.shape) o) false) here in
-    let white : (bytes_eq n (codes "WHITESPACE") && is_lexical_shape (phylum_made ds k f.head).shape) ≡ false =
-    ap (λ b. bytes_eq n (codes "WHITESPACE") && b) (sym lexical) ∙ not_so (is_whitespace (names_of ds) k n) k h in
+    let white : (bytes_eq n whitespace && is_lexical_shape (phylum_made ds k f.head).shape) ≡ false =
+    ap (λ b. bytes_eq n whitespace && b) (sym lexical) ∙ not_so (is_whitespace (names_of ds) k n) k h in
     ap (is_usable spec) f.number ∙ ap (λ (l : List Phylum). unwrap_or (option_map (λ (x : Phylum). not (is_lexical_shape x.shape && bytes_eq x.name whitespace)) (slice_get l k)) false) same
     ∙ ap (λ o. unwrap_or (option_map (λ (x : Phylum). not (is_lexical_shape x.shape && bytes_eq x.name whitespace)) o) false) here
     ∙ ap (λ m. not (is_lexical_shape (phylum_made ds k f.head).shape && bytes_eq m whitespace)) f.name
-    ∙ flipped (bytes_eq n (codes "WHITESPACE")) (is_lexical_shape (phylum_made ds k f.head).shape) white
+    ∙ flipped (bytes_eq n whitespace) (is_lexical_shape (phylum_made ds k f.head).shape) white
 
 pub used_usable : (ds : List Decl) (spec : Spec) → spec.phyla ≡ (names_of ds).phyla → (n : Name) → IsUsed (names_of ds) n → IsTrue (is_usable spec (number_in (phyla_in ds) n.text))
 used_usable ds spec same n h = found_usable ds spec same n.text (phylum_named (names_of ds) n.text) refl h

@@ -8,13 +8,13 @@ use Rattle.sg_counts.specs.Duplicates.{duplicate}
 use Rattle.sg_counts.specs.Limits.{limit}
 use Rattle.sg_names.specs.Arity.{arity}
 use Rattle.sg_names.specs.Names.{names_of}
-use Rattle.sg_names.specs.Resolved.{shape_rows, binding_rows}
+use Rattle.sg_shapes.specs.Resolved.{shape_rows, binding_rows}
 use Rattle.sg_names.specs.Shapes.{result_count, root_count, list_shape, optional_shape, root_inherits}
 use Rattle.sg_names.specs.TwiceBound.{twice_bound}
 use Rattle.sg_names.specs.UnknownName.{unknown_name}
 use Rattle.sg_resolve.specs.Resolved.{no_completion, resolve_fault}
 
-pub record HasNoFault (ds : List Decl) : Type 0 where
+pub record HasNoNamesFault (ds : List Decl) : Type 0 where
   pub limits : limit ds ≡ None
   pub duplicates : duplicate ds ≡ None
   pub unknown : unknown_name (names_of ds) ds ≡ None
@@ -31,7 +31,7 @@ neither : {A : Type 0} (a b : Option A) → or_else a b ≡ None → (a ≡ None
 neither (Some a) b e = absurd (cc e)
 neither None b e = (refl, e)
 
-pub no_fault : (ds : List Decl) → resolve_fault ds ≡ None → HasNoFault ds
+pub no_fault : (ds : List Decl) → resolve_fault ds ≡ None → HasNoNamesFault ds
 unfolding resolve_fault
 no_fault ds e =
     let t = names_of ds in

@@ -22,9 +22,9 @@ use Rattle.sg_kinds.specs.Completing.{completed, completing_within}
 use Rattle.sg_kinds.specs.Sound.{IsShaped, IsList, IsPhylum, IsSmall, IsFinite, operators_of, is_operator_of, lexeme_place, HasShapes}
 use Rattle.sg_ast.specs.declared.name.Name.{Name}
 use Rattle.sg_ast.specs.Declarations.{Decl}
-use Rattle.sg_completions.specs.Unfinished.{bare, is_finished, unfinished}
-use Rattle.sg_completions.proofs.Finds.{found_is}
-use Rattle.sg_completions.proofs.Finished.{all_finite}
+use Rattle.sg_shapes.specs.Unfinished.{is_finished, unfinished}
+use Rattle.sg_shapes.proofs.Finds.{found_is}
+use Rattle.sg_shapes.proofs.Finished.{all_finite}
 use Rattle.sg_counts.specs.Duplicates.{duplicate}
 use Rattle.sg_names.specs.declared.heads.Head.{Head}
 use Rattle.sg_names.specs.declared.table.Table.{Table}
@@ -54,10 +54,10 @@ place_there ds p x e =
     let m = phylum_is ds p x e in
     (m.0.place, ap (λ (l : List Position). slice_get l p) (places_are ds) ∙ slice_get-map (λ (h : Head). h.place) (phyla_in ds) p ∙ ap (option_map (λ (h : Head). h.place)) m.1)
 
-finished_by : (ds : List Decl) (o : Option ℕ) → unfinished (names_of ds).phyla (names_of ds).ops ≡ o → option_and_then (no_completion_at (names_of ds)) o ≡ None → unfinished (names_of ds).phyla (names_of ds).ops ≡ None
+finished_by : (ds : List Decl) (o : Option ℕ) → unfinished (names_of ds) ≡ o → option_and_then (no_completion_at (names_of ds)) o ≡ None → unfinished (names_of ds) ≡ None
 finished_by ds None e none = e
 finished_by ds (Some p) e none =
-    let found = found_is (λ q. not (is_finished (bare (names_of ds).phyla (names_of ds).ops) q)) (length (names_of ds).phyla) p e in
+    let found = found_is (λ q. not (is_finished (drafted (names_of ds)) q)) (length (names_of ds).phyla) p e in
     let x = some_there (names_of ds).phyla p found.1 in
     let place = place_there ds p x.0 x.1 in
     let some : no_completion_at (names_of ds) p ≡ Some (fault.NoCompletion place.0 x.0.name) =
@@ -65,8 +65,8 @@ finished_by ds (Some p) e none =
     ∙ ap (λ o. option_map (λ (y : Phylum). fault.NoCompletion place.0 y.name) o) x.1 in
     absurd (cc (none, some))
 
-pub all_finished : (ds : List Decl) → no_completion (names_of ds) ≡ None → unfinished (names_of ds).phyla (names_of ds).ops ≡ None
-all_finished ds e = finished_by ds (unfinished (names_of ds).phyla (names_of ds).ops) refl e
+pub all_finished : (ds : List Decl) → no_completion (names_of ds) ≡ None → unfinished (names_of ds) ≡ None
+all_finished ds e = finished_by ds (unfinished (names_of ds)) refl e
 
 -- an ordinary phylum has a completing term only where it has an operator
 no_term : (spec : Spec) (depth p : ℕ) (x : Phylum) → slice_get spec.phyla p ≡ Some x → x.shape ≡ Ordinary → x.ops ≡ [] → completing_within spec (suc depth) p ≡ None
@@ -125,7 +125,7 @@ module _ (ds : List Decl) (spec : Spec) (table : HasTable (names_of ds) spec) (n
   finite : (p : ℕ) → p < length spec.phyla → IsFinite spec p
   finite p low =
       let low' : p < length (names_of ds).phyla = subst (λ (l : List Phylum). p < length l) table.phyla low in
-      finite_kept (names_of ds) spec table p (all_finite (drafted (names_of ds)) (all_finished ds finished) p low')
+      finite_kept (names_of ds) spec table p (all_finite (names_of ds) (all_finished ds finished) p low')
 
   -- the numbers of a phylum's operators
   ops_in_order : (p : ℕ) → own_ops ds p ≡ operators_of spec p

@@ -1,27 +1,44 @@
 -- The counts and the names of a specification with the table of declarations.
 use Rattle.std.proofs.Common.{◌≡◌, ◌≤◌, List, [], ◌∷◌, ◌++◌, length, map, take, None, refl, sym, ap, subst, ◌∙◌}
-use Rattle.std.specs.List.{AllByRecursion}
+use Rattle.std.specs.List.{AllByRecursion, All}
 use Rattle.std.proofs.lemmas.List.{length-map}
 use Rattle.std.proofs.lemmas.List.Elements.{All-from_recursion}
 use Rattle.sg_kinds.specs.Values.{Bytes}
-use Rattle.sg_kinds.specs.Sound.{AreDistinct, builtin_names}
+use Rattle.sg_kinds.specs.Sound.{AreCounted, AreDistinct, HasNames, IsNamed, IsNumbered, base_names, builtin_names}
 use Rattle.sg_kinds.specs.declared.spec.Spec.{Spec}
 use Rattle.sg_kinds.specs.declared.spec.Attr.{Attr}
 use Rattle.sg_kinds.specs.declared.spec.Local.{Local}
 use Rattle.sg_kinds.specs.declared.spec.Operator.{Operator}
 use Rattle.sg_kinds.specs.declared.spec.Phylum.{Phylum}
 use Rattle.sg_kinds.specs.declared.spec.Function.{Function}
+use Rattle.sg_kinds.specs.declared.spec.Production.{Production}
 use Rattle.sg_ast.specs.Declarations.{Decl}
 use Rattle.sg_counts.specs.Limits.{limit}
 use Rattle.sg_counts.specs.Duplicates.{duplicate}
 use Rattle.sg_names.specs.declared.table.Signature.{Signature}
 use Rattle.sg_names.specs.Names.{names_of}
 use Rattle.sg_names.specs.Drafted.{without_schemes, signature_of, HasTable}
-use Rattle.sg_resolve.specs.CountsNames.{CountsNames}
-use Rattle.sg_resolve.specs.OwnNames.{HasOwnNames}
 use Rattle.sg_resolve.proofs.Counting.{all_seen}
 use Rattle.sg_resolve.proofs.Limiting.{within_limits}
 use Rattle.sg_resolve.proofs.TableNames.{phyla_limited, ops_limited, args_limited, attrs_limited, locals_limited, functions_limited, params_limited, base_named, phyla_distinct, callables_distinct, attrs_distinct, locals_distinct}
+
+-- the counts that come from names alone
+pub record CountsNames (spec : Spec) : Type 0 where
+  pub phyla : length spec.phyla ≤ 515
+  pub ops : length spec.ops ≤ 2048
+  pub args : All (λ (o : Operator). length o.args ≤ 16) spec.ops
+  pub attrs : All (λ (x : Phylum). length x.attrs ≤ 32) spec.phyla
+  pub locals : All (λ (o : Operator). length o.locals ≤ 32) spec.ops
+  pub functions : length spec.functions ≤ 1024
+  pub params : All (λ (f : Function). length f.params ≤ 16) spec.functions
+
+-- the names but those of nonterminals
+pub record HasOwnNames (spec : Spec) : Type 0 where
+  pub base : map (λ (x : Phylum). x.name) (take 3 spec.phyla) ≡ base_names
+  pub phyla : AreDistinct (map (λ (x : Phylum). x.name) spec.phyla)
+  pub callables : AreDistinct (map (λ (o : Operator). o.name) spec.ops ++ (map (λ (f : Function). f.name) spec.functions ++ builtin_names))
+  pub attrs : All (λ (x : Phylum). AreDistinct (map (λ (a : Attr). a.name) x.attrs)) spec.phyla
+  pub locals : All (λ (o : Operator). AreDistinct (map (λ (l : Local). l.name) o.locals)) spec.ops
 
 -- what holds of the table's operators and functions, where schemes and bodies say nothing
 of_ops : (P : Operator → Type 0) (ds : List Decl) (spec : Spec) → HasTable (names_of ds) spec → AllByRecursion P (names_of ds).ops → AllByRecursion (λ o. P (without_schemes o)) spec.ops
@@ -64,4 +81,35 @@ own_names ds spec e is =
       callables = subst AreDistinct (λ i. ops i ++ (functions i ++ builtin_names)) (callables_distinct ds e);
       attrs = All-from_recursion (λ (x : Phylum). AreDistinct (map (λ (a : Attr). a.name) x.attrs)) spec.phyla (of_phyla (λ (x : Phylum). AreDistinct (map (λ (a : Attr). a.name) x.attrs)) ds spec is (attrs_distinct ds e));
       locals = All-from_recursion (λ (o : Operator). AreDistinct (map (λ (l : Local). l.name) o.locals)) spec.ops (of_ops (λ (o : Operator). AreDistinct (map (λ (l : Local). l.name) o.locals)) ds spec is (locals_distinct ds e));
+    }
+
+pub names_counted : (ds : List Decl) (spec : Spec) → limit ds ≡ None → HasTable (names_of ds) spec → length spec.transforms ≤ 1024 → All (λ (o : Operator). length o.schemes ≤ 16) spec.ops → length spec.productions ≤ 1024
+    → All (λ (r : Production). length r.right ≤ 16) spec.productions → AreCounted spec
+names_counted ds spec e is transforms schemes productions symbols =
+    let n = counts_names ds spec e is in
+    record {
+      phyla = n.phyla;
+      ops = n.ops;
+      args = n.args;
+      attrs = n.attrs;
+      locals = n.locals;
+      functions = n.functions;
+      params = n.params;
+      transforms = transforms;
+      schemes = schemes;
+      productions = productions;
+      symbols = symbols;
+    }
+
+pub names_distinct : (ds : List Decl) (spec : Spec) → duplicate ds ≡ None → HasTable (names_of ds) spec → All (IsNamed spec) spec.productions → IsNumbered spec.productions → HasNames spec
+names_distinct ds spec e is nonterminals numbered =
+    let n = own_names ds spec e is in
+    record {
+      base = n.base;
+      phyla = n.phyla;
+      nonterminals = nonterminals;
+      numbered = numbered;
+      callables = n.callables;
+      attrs = n.attrs;
+      locals = n.locals;
     }

@@ -7,10 +7,10 @@ use Rattle.sg_ast.specs.Declarations.{Decl}
 use Rattle.sg_ast.specs.FirstFault.{first_of}
 use Rattle.sg_counts.specs.Limits.{limit}
 use Rattle.sg_counts.specs.Duplicates.{duplicate}
-use Rattle.sg_completions.specs.Unfinished.{unfinished}
+use Rattle.sg_shapes.specs.Unfinished.{unfinished}
 use Rattle.sg_names.specs.declared.table.Table.{Table}
 use Rattle.sg_names.specs.Names.{names_of}
-use Rattle.sg_names.specs.Resolved.{shape_rows, binding_rows}
+use Rattle.sg_shapes.specs.Resolved.{shape_rows, binding_rows}
 
 -- the fault of a phylum, at its first definition
 abbrev pub no_completion_at : Table → ℕ → Option SpecFault
@@ -18,7 +18,7 @@ no_completion_at t p = option_and_then (λ place. option_map (λ (x : Phylum). f
 
 -- the first phylum whose completing term or placeholder is not finite, or too large or too deep
 abbrev pub no_completion : Table → Option SpecFault
-no_completion t = option_and_then (no_completion_at t) (unfinished t.phyla t.ops)
+no_completion t = option_and_then (no_completion_at t) (unfinished t)
 
 -- the rows in their order: from completing terms on, which are followed by the root's attributes, variables bound twice and
 -- numbers of parts; from unknown names on, which are followed by results, the root's number, lists and optional phyla; and

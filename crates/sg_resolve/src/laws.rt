@@ -1,14 +1,15 @@
 //! Laws of the definitions, each as the contract of a function without code.
-ghost use Rattle.std.specs.Prelude.{◌≡◌, List, None};
+ghost use Rattle.std.specs.Prelude.{◌≡◌, ◌≤◌, List, None, length, All};
+ghost use Rattle.sg_kinds.specs.Sound.{AreCounted, HasNames, IsNamed, IsNumbered};
+ghost use Rattle.sg_kinds.specs.declared.spec.Operator.{Operator};
+ghost use Rattle.sg_kinds.specs.declared.spec.Production.{Production};
 ghost use Rattle.sg_kinds.specs.declared.spec.Spec.{Spec};
 ghost use Rattle.sg_ast.specs.Declarations.{Decl};
 ghost use Rattle.sg_counts.specs.Duplicates.{duplicate};
 ghost use Rattle.sg_counts.specs.Limits.{limit};
 ghost use Rattle.sg_names.specs.Drafted.{HasTable};
 ghost use Rattle.sg_names.specs.Names.{names_of};
-ghost use Rattle.sg_resolve.specs.CountsNames.{CountsNames};
 ghost use Rattle.sg_resolve.specs.Limited.{IsLimited};
-ghost use Rattle.sg_resolve.specs.OwnNames.{HasOwnNames};
 
 /// Where no count of declarations is over its limit, each is within its own.
 #[tactic(auto, using(crate::proofs::Limiting::within_limits))]
@@ -16,12 +17,13 @@ pub fn counts_are_limited()
     ensures { (ds : List Decl) → limit ds ≡ None → IsLimited ds }
 {}
 
-/// Then the counts of what names mean are in the limits that soundness sets.
+/// Then a specification with these names is counted as soundness asks, if its transformations, schemes and productions are.
 pub fn names_are_counted()
-    ensures { (ds : List Decl) (spec : Spec) → limit ds ≡ None → HasTable (names_of ds) spec → CountsNames spec }
+    ensures { (ds : List Decl) (spec : Spec) → limit ds ≡ None → HasTable (names_of ds) spec → length spec.transforms ≤ 1024 → All (λ (o : Operator). length o.schemes ≤ 16) spec.ops → length spec.productions ≤ 1024 → All (λ (r : Production). length r.right ≤ 16) spec.productions → AreCounted spec }
 {}
 
-/// Where no definition is a second one, the names of what is defined are distinct.
+/// Where no definition is a second one, a specification with these names has the names that soundness asks for, if its
+/// nonterminals have.
 pub fn names_are_distinct()
-    ensures { (ds : List Decl) (spec : Spec) → duplicate ds ≡ None → HasTable (names_of ds) spec → HasOwnNames spec }
+    ensures { (ds : List Decl) (spec : Spec) → duplicate ds ≡ None → HasTable (names_of ds) spec → All (IsNamed spec) spec.productions → IsNumbered spec.productions → HasNames spec }
 {}

@@ -4,7 +4,5 @@
 pub mod laws;
 mod resolving;
 pub mod shape_laws;
-#[cfg(test)]
-mod tests;
 
 pub use resolving::resolve;

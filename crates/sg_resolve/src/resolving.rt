@@ -10,16 +10,16 @@ ghost use Rattle.sg_names.specs.UnknownName.{unknown_name};
 ghost use Rattle.sg_resolve.specs.Resolved as spec;
 
 use sg_ast::decl::Decl;
-use sg_completions::unfinished::unfinished;
 use sg_counts::duplicates::duplicate;
 use sg_counts::limits::limit;
 use sg_kinds::fault::SpecFault;
 use sg_kinds::memory::NoMemory;
-use sg_names::found::Found;
 use sg_names::names::Names;
-use sg_names::resolving::{binding_rows, shape_rows};
-use sg_names::tables::tables;
-use sg_names::walked::walked;
+use sg_shapes::resolving::{binding_rows, shape_rows};
+use sg_shapes::unfinished::unfinished;
+use sg_tables::tables::tables;
+use sg_uses::found::Found;
+use sg_uses::walked::walked;
 use std::alloc::Global;
 
 /// The fault of a phylum, at its first definition.
@@ -46,8 +46,7 @@ fn no_completion_at(
 fn no_completion(alloc: Global, names: &Names) -> Result<Option<SpecFault>, NoMemory>
     ensures { IfOk result (λ f. f ≡ spec.no_completion names.now) }
 {
-    let table = names.table();
-    match unfinished(alloc, table.phyla.as_slice(), table.ops.as_slice())? {
+    match unfinished(alloc, names.table())? {
         Some(place) => no_completion_at(alloc, names, place),
         None => Ok(None),
     }

@@ -1,5 +1,0 @@
-use Rattle.sg_completions.proofs.Tables.{same_tables}
-use Rattle.sg_completions.proofs.counts.are_same.Goals as goal
-
-pub returns : goal.returns
-returns c = same_tables c.args.a.now c.args.b.now c.eq.result c.eq.ensures

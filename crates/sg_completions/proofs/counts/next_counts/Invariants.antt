@@ -1,6 +1,0 @@
-use Rattle.std.proofs.Common.{◌≡◌, take}
-use Rattle.sg_completions.specs.Counts.{next_counts}
-use Rattle.sg_completions.proofs.counts.next_counts.Given as goal
-
-abbrev pub invariant-loop-phylum : goal.invariant-loop-phylum
-invariant-loop-phylum l = l.next.items ≡ next_counts (take l.phylum-index l.phyla) l.ops l.counts

@@ -1,6 +1,0 @@
-use Rattle.std.proofs.Common.{◌≡◌, drop}
-use Rattle.sg_completions.specs.Counts.{look, total}
-use Rattle.sg_completions.proofs.counts.total.Given as goal
-
-abbrev pub invariant-loop-p : goal.invariant-loop-p
-invariant-loop-p l = total (look l.counts) l.total (drop l.p-index l.phyla) ≡ total (look l.counts) l.first l.phyla

@@ -1,2 +1,0 @@
-pub mod Unfinished
-pub mod Counts

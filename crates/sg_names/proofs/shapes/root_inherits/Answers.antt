@@ -1,6 +1,0 @@
-use Rattle.std.proofs.Common.{◌∙◌}
-use Rattle.sg_names.proofs.Roots.{roots_found}
-use Rattle.sg_names.proofs.shapes.root_inherits.Goals as goal
-
-pub returns : goal.returns
-returns c = c.in_ok-found.ensures ∙ roots_found c.args.names.now c.args.decls.now

@@ -1,0 +1,6 @@
+pub mod Roots
+pub mod Tables
+pub mod Low
+pub mod Counted
+pub mod Finds
+pub mod Finished

@@ -1,0 +1,3 @@
+pub mod Resolved
+pub mod Counts
+pub mod Unfinished

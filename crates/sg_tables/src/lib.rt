@@ -1,0 +1,7 @@
+//! The tables of names, made of declarations.
+#![tactic(auto)]
+
+mod definitions;
+mod heads;
+mod owners;
+pub mod tables;

@@ -1,0 +1,7 @@
+use Rattle.std.proofs.Common.{◌≡◌, flat_map, drop}
+use Rattle.sg_uses.specs.Noted.{noted}
+use Rattle.sg_names.specs.Uses as uses
+use Rattle.sg_uses.proofs.walked.parts.Given as goal
+
+abbrev pub invariant-loop-one : goal.invariant-loop-one
+invariant-loop-one l = noted l.context.names.now l.found (flat_map uses.part_uses (drop l.one-index l.parts)) ≡ noted l.context.names.now l.fn.found (flat_map uses.part_uses l.parts)
