@@ -2,6 +2,7 @@
 use Rattle.std.proofs.Common.{◌≡◌, refl, sym, subst, ◌∙◌, arith, ℕ, zero, suc, ◌<◌, ◌≤◌, Bool, true, false, cond, nat_eq, List, [], ◌∷◌, map, length, Option, Some, None, slice_get}
 use Rattle.std.specs.Prelude.{◌&&◌, not, is_some, option_map, option_and_then, unwrap_or}
 use Rattle.std.specs.List.{AllByRecursion, count_by}
+use Rattle.std.proofs.lemmas.Bool.{and_parts}
 use Rattle.std.proofs.lemmas.Bool.Decides.{nat_tests}
 use Rattle.std.proofs.lemmas.List.{length-map}
 use Rattle.std.proofs.lemmas.Option.{slice_get_within}
@@ -19,7 +20,7 @@ use Rattle.sg_ast.specs.FirstFault.{first_of, first_repeat}
 use Rattle.sg_ast.proofs.FirstLaws.{first-none}
 use Rattle.sg_names.specs.Drafted.{drafted}
 use Rattle.sg_names.specs.declared.table.Table.{Table}
-use Rattle.sg_typing.proofs.RecordTyped.{neither}
+use Rattle.sg_typing.proofs.RecordTyped.{neither, equal_is}
 use Rattle.sg_equations.specs.declared.targets.Defined.{Defined}
 use Rattle.sg_equations.specs.Complete.{not_owed, not_defined_here, is_same_target, twice_at, twice, is_defined, lacks_slot, lacks_at, lacks, lacking, first_lacking, missing_at, missing, incomplete}
 use Rattle.sg_equations.specs.Owed.{owes}
@@ -63,22 +64,15 @@ none_twice defs h = by (first_repeat is_same_target defs) refl h
             no_end (d ∷ ds) (suc n) l f = no_end ds n (omega (arith, l)) f
         there (Some d) f g = cc
 
-both : (a b : Bool) → (a && b) ≡ true → (a ≡ true) × (b ≡ true)
-both true b h = (refl, h)
-both false b h = cc
-
-equal_is : (m n : ℕ) → nat_eq m n ≡ true → m ≡ n
-equal_is m n h = grind (arith, nat_tests)
-
 is_equal : (m n : ℕ) → m ≡ n → nat_eq m n ≡ true
 is_equal m n h = grind (arith, nat_tests)
 
 same_target : (op : ℕ) (o : Occurrence) (d e : Defined) → is_for op o (defined_key d) ≡ true → is_for op o (defined_key e) ≡ true → is_same_target d e ≡ true
 same_target op o d e h k =
-    let p = both (nat_eq d.op op) (nat_eq d.target.at o.at && nat_eq d.target.slot o.slot) h in
-    let q = both (nat_eq d.target.at o.at) (nat_eq d.target.slot o.slot) p.1 in
-    let r = both (nat_eq e.op op) (nat_eq e.target.at o.at && nat_eq e.target.slot o.slot) k in
-    let s = both (nat_eq e.target.at o.at) (nat_eq e.target.slot o.slot) r.1 in
+    let p = and_parts (nat_eq d.op op) (nat_eq d.target.at o.at && nat_eq d.target.slot o.slot) h in
+    let q = and_parts (nat_eq d.target.at o.at) (nat_eq d.target.slot o.slot) p.1 in
+    let r = and_parts (nat_eq e.op op) (nat_eq e.target.at o.at && nat_eq e.target.slot o.slot) k in
+    let s = and_parts (nat_eq e.target.at o.at) (nat_eq e.target.slot o.slot) r.1 in
     let x : nat_eq d.op e.op ≡ true = is_equal d.op e.op (equal_is d.op op p.0 ∙ sym (equal_is e.op op r.0)) in
     let y : nat_eq d.target.at e.target.at ≡ true = is_equal d.target.at e.target.at (equal_is d.target.at o.at q.0 ∙ sym (equal_is e.target.at o.at s.0)) in
     let z : nat_eq d.target.slot e.target.slot ≡ true = is_equal d.target.slot e.target.slot (equal_is d.target.slot o.slot q.1 ∙ sym (equal_is e.target.slot o.slot s.1)) in
@@ -140,7 +134,7 @@ inherited_there t op k slot h = by (slice_get (args_of t.ops op) k) refl h
 
 owed_there : (t : Table) (op k slot : ℕ) → is_owed (drafted t) op k slot ≡ true → (k < suc (length (args_of t.ops op))) × (slot < length (slots_there (drafted t) op k))
 owed_there t op zero slot h =
-    let b = both (is_some (slice_get (slots_there (drafted t) op 0) slot)) (not _) h in
+    let b = and_parts (is_some (slice_get (slots_there (drafted t) op 0) slot)) (not _) h in
     let x = is_some_is (slice_get (slots_there (drafted t) op 0) slot) b.0 in
     (omega arith, slice_get_within (slots_there (drafted t) op 0) slot x.0 x.1)
 owed_there t op (suc k) slot h = inherited_there t op k slot h

@@ -24,10 +24,10 @@ use Rattle.sg_names.specs.Names.{if_of, op_named}
 use Rattle.sg_names.specs.declared.table.Table.{Table}
 use Rattle.sg_names.proofs.DraftedLaws.{slot_kept, types_kept}
 use Rattle.sg_typing.specs.Arguments.{args_in}
-use Rattle.sg_typing.specs.Bindings.{OfEquation, own_slots}
+use Rattle.sg_types.specs.Bindings.{OfEquation, own_slots}
 use Rattle.sg_typing.specs.Bodies.{equation_typed, equation_mismatch, exprs_at, exprs_in, expr_count, mismatch_at_decl, first_mismatch, target_type}
 use Rattle.sg_typing.specs.Bodies as bodies
-use Rattle.sg_typing.specs.Expressions.{recorded}
+use Rattle.sg_types.specs.Expressions.{recorded}
 use Rattle.sg_typing.specs.Written.{AreWritten, HasLists, IsWritten}
 use Rattle.sg_typing.specs.declared.bodies.TypedExpr.{TypedExpr}
 use Rattle.sg_typing.proofs.ArgsTyped.{args_typed}

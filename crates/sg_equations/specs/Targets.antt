@@ -2,14 +2,13 @@
 use Rattle.std.specs.Prelude.{ℕ, ◌+◌, ◌^◌, ◌<◌, List, [], ◌∷◌, length, flat_map, Option, Some, None, option_map, option_and_then, unwrap_or}
 use Rattle.sg_kinds.specs.Specification.{attrs_of, locals_of, phylum_of}
 use Rattle.sg_kinds.specs.declared.spec.Occurrence.{Occurrence}
-use Rattle.sg_kinds.specs.declared.fault.Position.{Position}
 use Rattle.sg_ast.specs.declared.decl.Target.{Target}
 use Rattle.sg_ast.specs.declared.decl.Target.TheVariants as written
 use Rattle.sg_ast.specs.declared.name.Name.{Name}
 use Rattle.sg_ast.specs.Declarations.{Decl, Equation, Equations}
-use Rattle.sg_ast.specs.Chains.{occurrence_place}
 use Rattle.sg_names.specs.declared.table.Table.{Table}
 use Rattle.sg_names.specs.Lookups.{phylum_named, operator_named, local, reference}
+use Rattle.sg_typing.specs.Shown.{target_place}
 use Rattle.sg_equations.specs.declared.targets.Defined.{Defined}
 
 -- the operator of a phylum, both by name
@@ -31,11 +30,6 @@ own slot = record { at = 0; slot = slot }
 abbrev pub target_of : Table → ℕ → Target → Option Occurrence
 target_of t op (written.Attribute r) = reference t op r
 target_of t op (written.Local n) = option_map (λ k. own (attr_count t op + k)) (local t op n.text)
-
--- the place of a target's first token
-abbrev pub target_place : Target → Position
-target_place (written.Attribute r) = occurrence_place r.of
-target_place (written.Local n) = n.place
 
 -- what an equation defines; nothing where its target has no meaning
 abbrev pub defined_as : ℕ → Target → Option Occurrence → List Defined

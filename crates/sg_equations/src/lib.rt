@@ -7,8 +7,6 @@ mod narrow;
 mod owed;
 mod rules_of;
 pub mod targets;
-#[cfg(test)]
-mod tests;
 
 pub use completeness::incomplete;
 pub use rules_of::rules;

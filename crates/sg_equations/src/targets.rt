@@ -4,12 +4,13 @@ ghost use Rattle.sg_ast.specs.View.{trees_of, tree_of, equation_of};
 ghost use Rattle.sg_equations.specs.Targets as spec;
 
 use sg_ast::decl::{Decl, Equation, Target};
-use sg_ast::name::{Name, Occurrence as Written};
+use sg_ast::name::Name;
 use sg_kinds::fault::Position;
 use sg_kinds::ids::OpId;
 use sg_kinds::memory::NoMemory;
 use sg_kinds::spec::Occurrence;
 use sg_names::names::Names;
+use sg_typing::target_place;
 use std::alloc::Global;
 
 /// What an equation defines: an occurrence of an attribute, or a local, of an operator; and the place of its target.
@@ -39,18 +40,6 @@ pub(crate) fn target_of(names: &Names, op: OpId, target: &Target) -> Option<Occu
             let slot = names.attrs(phylum).len() as u32 + place;
             Some(Occurrence { at: 0, slot })
         }
-    }
-}
-
-fn target_place(target: &Target) -> Position
-    ensures { result ≡ spec.target_place target.now }
-{
-    match target {
-        Target::Attribute(reference) => match &reference.of {
-            Written::Own(place) => *place,
-            Written::Named(name, _) => name.place,
-        },
-        Target::Local(name) => name.place,
     }
 }
 

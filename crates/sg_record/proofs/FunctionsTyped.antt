@@ -20,7 +20,7 @@ use Rattle.sg_names.specs.UnknownName.{unknown_at}
 use Rattle.sg_names.specs.Uses.{UsesPhylum, Elsewhere, params_uses, params_scope, expr_uses, with_variable}
 use Rattle.sg_names.proofs.DraftedLaws.{usable_kept}
 use Rattle.sg_typing.specs.declared.bodies.TypedExpr.{TypedExpr}
-use Rattle.sg_typing.specs.Bindings.{OfNothing}
+use Rattle.sg_types.specs.Bindings.{OfNothing}
 use Rattle.sg_typing.specs.Bodies.{expr_count, exprs_at, exprs_in, parameter, function_typed}
 use Rattle.sg_typing.specs.Written.{HasLists, AreOutside, known}
 use Rattle.sg_typing.proofs.BodyTyped.{body_kept}

@@ -1,5 +1,5 @@
 -- Facts of each element of lists, and places in lists.
-use Rattle.std.proofs.Common.{◌≡◌, ℕ, zero, suc, ◌+◌, ◌<◌, Bool, true, false, cond, ◌&&◌, ◌||◌, List, [], ◌∷◌, ◌++◌, map, flat_map, length, Option, Some, None, slice_get, get_or, nat_eq, refl, ap, subst, ◌∙◌, arith, bytes_eq}
+use Rattle.std.proofs.Common.{◌≡◌, ℕ, zero, suc, ◌+◌, ◌<◌, Bool, true, false, cond, ◌||◌, List, [], ◌∷◌, ◌++◌, map, flat_map, length, Option, Some, None, slice_get, get_or, nat_eq, refl, ap, subst, ◌∙◌, arith, bytes_eq}
 use Rattle.std.specs.Prelude.{is_some, option_map, find, count_by}
 use Rattle.std.specs.List.{AllByRecursion as Each, Contains, list_any, position}
 use Rattle.std.proofs.Math.Nat.{suc-add, zero-add}
@@ -61,10 +61,6 @@ count-cons p x xs = sum_by-cons (λ y. cond (p y) 1 0) x xs
 pub some_there : {A : Type 0} (o : Option A) → is_some o ≡ true → (x : A) × (o ≡ Some x)
 some_there None h = absurd (cc h)
 some_there (Some x) h = (x, refl)
-
-pub both_true : (a b : Bool) → a && b ≡ true → (a ≡ true) × (b ≡ true)
-both_true true b h = (refl, h)
-both_true false b h = absurd (cc h)
 
 pub equal_is : (m n : ℕ) → nat_eq m n ≡ true → m ≡ n
 equal_is m n h = grind (arith, nat_tests)

@@ -23,10 +23,10 @@ use Rattle.sg_names.specs.Shapes.{result_count}
 use Rattle.sg_names.specs.UnknownName.{unknown_at}
 use Rattle.sg_names.specs.Uses.{UsesPhylum, InProduction, right_uses, part_uses, expr_uses}
 use Rattle.sg_typing.specs.declared.bodies.TypedExpr.{TypedExpr}
-use Rattle.sg_typing.specs.Bindings.{OfProduction}
+use Rattle.sg_types.specs.Bindings.{OfProduction}
 use Rattle.sg_typing.specs.Bodies as body
 use Rattle.sg_typing.specs.Bodies.{exprs_at, exprs_in, right_typed, right_mismatch}
-use Rattle.sg_typing.specs.Expressions.{recorded}
+use Rattle.sg_types.specs.Expressions.{recorded}
 use Rattle.sg_typing.specs.Written.{AreWritten, HasLists}
 use Rattle.sg_typing.proofs.BodyTyped.{body_kept}
 use Rattle.sg_record.specs.Premises.{IsWritten}

@@ -23,7 +23,7 @@ use Rattle.sg_names.specs.Names.{names_of}
 use Rattle.sg_names.specs.UnknownName.{unless_known, unknown_at}
 use Rattle.sg_names.specs.Uses.{UsesResult, decl_uses}
 use Rattle.sg_names.proofs.DraftedLaws.{accepted_kept, usable_kept}
-use Rattle.sg_typing.specs.Types as types
+use Rattle.sg_types.specs.Types as types
 use Rattle.sg_typing.proofs.TableFacts.{usable_is}
 use Rattle.sg_record.specs.Entries.{entered, twice_at, entry_twice, type_fault, entry_type}
 use Rattle.sg_record.specs.Record.{phylum_in, nonterminal_in, entry_at}
@@ -127,8 +127,8 @@ module _ (ds : List Decl) (spec : Spec) (kept : HasTable (names_of ds) spec) (re
       let k = result_known t m a h.0.1.0 in
       let number : nonterminal_in t m.text ≡ k.0 = ap (λ o. unwrap_or o 0) k.1 in
       let r = results m.text k.0 k.1 in
-      let test : types.is_accepted t (usable_named t n.text) (symbol_type t m.text a.text) ≡ true = passes (types.is_accepted t (usable_named t n.text) (symbol_type t m.text a.text)) h.1 in
-      let found : is_found (drafted t) p.0 (symbol_type t m.text a.text) ≡ true = ap (λ o. types.is_accepted t o (symbol_type t m.text a.text)) (sym p.1) ∙ test in
+      let test : types.fits_where t (usable_named t n.text) (symbol_type t m.text a.text) ≡ true = passes (types.fits_where t (usable_named t n.text) (symbol_type t m.text a.text)) h.1 in
+      let found : is_found (drafted t) p.0 (symbol_type t m.text a.text) ≡ true = ap (λ o. types.fits_where t o (symbol_type t m.text a.text)) (sym p.1) ∙ test in
       let q = accepted_there t p.0 (symbol_type t m.text a.text) found in
       let of : r.0.of ≡ q.0 = one_type r.0 a.text q.0 (ap (λ l. attr_type l a.text) (sym r.1) ∙ q.1) in
       let accepted : is_accepted spec r.0.of (phylum_in t n.text) ≡ true = (λ i. is_accepted spec (of i) (phylum i)) ∙ accepted_kept t spec kept q.0 p.0 ∙ q.2 in (

@@ -1,22 +1,19 @@
 -- The schemes of the record.
-use Rattle.std.proofs.Common.{◌≡◌, ℕ, zero, suc, ◌+◌, ◌<◌, ◌≤◌, ◌⊎◌, inl, inr, Bool, true, false, cond, not, ◌&&◌, if◌then◌else◌, List, [], ◌∷◌, ◌++◌, map, flat_map, length, replicate, set, Option, Some, None, slice_get, nat_eq, bytes_eq, refl, sym, ap, subst, ◌∙◌, arith}
+use Rattle.std.proofs.Common.{◌≡◌, ℕ, zero, suc, ◌+◌, ◌<◌, ◌≤◌, Bool, true, false, cond, ◌&&◌, ◌||◌, if◌then◌else◌, List, [], ◌∷◌, ◌++◌, map, flat_map, length, Option, Some, None, slice_get, nat_eq, refl, sym, ap, subst, ◌∙◌, arith}
 use Rattle.std.specs.Prelude.{option_map, option_and_then, unwrap_or, count_by, IsTrue, MatchOption}
-use Rattle.std.specs.List.{AllByRecursion as Each, All, Contains}
+use Rattle.std.specs.List.{AllByRecursion as Each, All, Contains, list_any}
+use Rattle.std.proofs.lemmas.Bool.{and_parts}
 use Rattle.std.proofs.lemmas.List.{length-append}
 use Rattle.std.proofs.lemmas.List.Sums.{sum_by-cons}
-use Rattle.std.proofs.lemmas.List.Elements.{All-from_recursion, All-contains}
+use Rattle.std.proofs.lemmas.List.Elements.{All-from_recursion}
 use Rattle.std.proofs.lemmas.Option.{slice_get_within}
-use Rattle.sg_kinds.specs.Sound.{HasSchemes, HasShapes, IsScheme, IsItem, IsShown, is_place, separators_fit, is_pair, root, argument}
-use Rattle.sg_kinds.specs.Specification.{args_of, phylum_of, has_shape, is_lexical_shape, is_list_shape, is_leaf_shape}
-use Rattle.sg_kinds.specs.Typing.{slot_type, is_usable, whitespace}
-use Rattle.sg_kinds.specs.declared.marks.Way.TheVariants.{Synthesized}
-use Rattle.sg_kinds.specs.declared.spec.Attr.{Attr}
+use Rattle.sg_kinds.specs.Sound.{HasSchemes, IsScheme, IsItem, IsShown, is_place, separators_fit, is_pair, root, argument}
+use Rattle.sg_kinds.specs.Specification.{args_of, phylum_of, has_shape, is_list_shape, is_leaf_shape}
+use Rattle.sg_kinds.specs.Typing.{slot_type}
 use Rattle.sg_kinds.specs.declared.fault.Position.{Position}
-use Rattle.sg_kinds.specs.declared.fault.SpecFault.{SpecFault}
 use Rattle.sg_kinds.specs.declared.fault.SpecFault.TheVariants.{NoScheme, SchemeKids}
 use Rattle.sg_kinds.specs.declared.spec.Occurrence.{Occurrence}
 use Rattle.sg_kinds.specs.declared.spec.Operator.{Operator}
-use Rattle.sg_kinds.specs.declared.spec.Phylum.{Phylum}
 use Rattle.sg_kinds.specs.declared.spec.Scheme.{Scheme}
 use Rattle.sg_kinds.specs.declared.spec.Spec.{Spec}
 use Rattle.sg_ast.specs.declared.decl.Item.{Item as Written}
@@ -37,17 +34,17 @@ use Rattle.sg_names.proofs.OpPlaces.{places_count}
 use Rattle.sg_names.proofs.Owned.{owned_append}
 use Rattle.sg_schemes.specs.Places as places
 use Rattle.sg_schemes.specs.Places.{places_fault, operator_faults, phylum_faults, kids_fault, scheme_kids}
-use Rattle.sg_schemes.specs.Shown.{flag, give_to, operator_at, give, give_all, given, fault_at, is_missing, missing_from, no_scheme}
-use Rattle.sg_schemes.specs.Shown as marks
-use Rattle.sg_schemes.proofs.Least.{all_shown}
-use Rattle.sg_typing.specs.Bindings.{local_slot}
+use Rattle.sg_schemes.specs.NoScheme.{gives, LacksScheme, IsNoScheme, all_have, first_lacks}
+use Rattle.sg_schemes.specs.Shown.{operator_at, fault_at, no_scheme}
+use Rattle.sg_schemes.proofs.FirstMissing.{no_scheme_is}
+use Rattle.sg_types.specs.Bindings.{local_slot}
 use Rattle.sg_typing.specs.Bodies.{reference_type, target_type}
 use Rattle.sg_typing.specs.Bodies as body
 use Rattle.sg_typing.specs.Shown.{hidden, hidden_item, hidden_scheme, hidden_at, first_hidden, target_place}
 use Rattle.sg_typing.proofs.RecordTyped.{unless_is}
 use Rattle.sg_record.specs.Premises.{IsWritten}
 use Rattle.sg_record.specs.Record.{first_slot, shown, item_of, scheme_of, schemes_under, schemes_at, schemes_of, with_scheme, with_schemes}
-use Rattle.sg_record.proofs.Lists.{both_true, each_append, each_both, each_flat, each_map, equal_is, equal_to, contains_at, slice_get-map_from}
+use Rattle.sg_record.proofs.Lists.{each_append, each_both, each_flat, each_map, equal_is, equal_to, slice_get-map_from}
 
 -- what stands at a place of a list whose elements are made with their places
 made_there : {A B : Type 0} (f : ℕ → A → B) (xs : List A) (k : ℕ) (y : B) → slice_get (map_from f 0 xs) k ≡ Some y → (x : A) × (slice_get xs k ≡ Some x) × (f k x ≡ y)
@@ -145,7 +142,7 @@ module _ (t : Table) (spec : Spec) (kept : HasTable t spec) where
 
   scheme_fine : (p op : ℕ) (n : Name) (s : SchemeDecl) → phylum_of t.ops op ≡ Some p → (places_fault (places.is_pair t p op) (length (args_of t.ops op)) n s ≡ None) × (hidden_scheme t op s ≡ None) → IsScheme spec op (scheme_of t op s)
   scheme_fine p op n s own h =
-      let fits = both_true (nat_eq (count_by places.is_place s.items) (length (args_of t.ops op))) (places.separators_fit (places.is_pair t p op) 0 s.items) (fitting_is (places.is_pair t p op) (length (args_of t.ops op)) n s h.0) in
+      let fits = and_parts (nat_eq (count_by places.is_place s.items) (length (args_of t.ops op))) (places.separators_fit (places.is_pair t p op) 0 s.items) (fitting_is (places.is_pair t p op) (length (args_of t.ops op)) n s h.0) in
       record {
         places = same_places t op s.items ∙ equal_is (count_by places.is_place s.items) (length (args_of t.ops op)) fits.0 ∙ ap length (sym (args_kept t spec kept op));
         separators = same_separators t op (is_pair spec op) 0 s.items ∙ ap (λ b. places.separators_fit b 0 s.items) (same_pair p op own) ∙ fits.1;
@@ -188,18 +185,7 @@ module _ (t : Table) (spec : Spec) (kept : HasTable t spec) where
       (each_flat IsOfOperator (λ d. (kids_fault t d ≡ None) × (hidden_at t d ≡ None)) (schemes_at t) ds decl_fine
       (each_both (λ d. kids_fault t d ≡ None) (λ d. hidden_at t d ≡ None) ds (first-none (kids_fault t) ds kids) (first-none (hidden_at t) ds hid)))
 
--- an operator whose flag stands has a scheme
-set_was : (F : List Bool) (k p : ℕ) → flag (set F k true) p ≡ true → (flag F p ≡ true) ⊎ (k ≡ p)
-set_was [] k p h = inl h
-set_was (b ∷ F) zero zero h = inr refl
-set_was (b ∷ F) zero (suc p) h = inl h
-set_was (b ∷ F) (suc k) zero h = inl h
-set_was (b ∷ F) (suc k) (suc p) h = by (set_was F k p h)
-  where
-    by : (flag F p ≡ true) ⊎ (k ≡ p) → (flag F p ≡ true) ⊎ (suc k ≡ suc p)
-    by (inl f) = inl f
-    by (inr e) = inr (ap suc e)
-
+-- an operator to which declarations give schemes has some
 some_owned : (t : Table) (k : ℕ) (ss : List SchemeDecl) → (ss ≡ [] → ⊥) → 1 ≤ length (owned (map (λ s. (k, scheme_of t k s)) ss) k)
 some_owned t k [] some = absurd (some refl)
 some_owned t k (s ∷ ss) some =
@@ -208,39 +194,26 @@ some_owned t k (s ∷ ss) some =
     let n : length (owned (map (λ x. (k, scheme_of t k x)) (s ∷ ss)) k) ≡ suc (length (owned (map (λ x. (k, scheme_of t k x)) ss) k)) = ap length e in
     omega (arith, n)
 
-gives : (t : Table) (F : List Bool) (k : ℕ) (d : Decl) → IsWritten d → flag (give t F d) k ≡ true → (flag F k ≡ true) ⊎ (1 ≤ length (owned (schemes_at t d) k))
-gives t F k (Schemes p op None ss) written h = by (operator_at t p op) h
+gives_some : (t : Table) (k : ℕ) (d : Decl) → IsWritten d → gives t k d ≡ true → 1 ≤ length (owned (schemes_at t d) k)
+gives_some t k (Schemes p op None ss) written h = by (operator_at t p op) h
   where
-    by : (o : Option ℕ) → flag (give_to F o) k ≡ true → (flag F k ≡ true) ⊎ (1 ≤ length (owned (schemes_under t ss o) k))
-    by None e = inl e
-    by (Some j) e = is (set_was F j k e)
-      where
-        is : (flag F k ≡ true) ⊎ (j ≡ k) → (flag F k ≡ true) ⊎ (1 ≤ length (owned (schemes_under t ss (Some j)) k))
-        is (inl f) = inl f
-        is (inr same) = inr (subst (λ m. 1 ≤ length (owned (schemes_under t ss (Some j)) m)) same (some_owned t j ss written))
-gives t F k d written h = inl h
+    by : (o : Option ℕ) → unwrap_or (option_map (nat_eq k) o) false ≡ true → 1 ≤ length (owned (schemes_under t ss o) k)
+    by None e = absurd (cc e)
+    by (Some j) e = subst (λ m. 1 ≤ length (owned (schemes_under t ss (Some m)) k)) (equal_is k j e) (some_owned t k ss written)
+gives_some t k d written h = absurd (cc h)
 
-given_has : (t : Table) (F : List Bool) (k : ℕ) (ds : List Decl) → Each IsWritten ds → flag (give_all t F ds) k ≡ true → (flag F k ≡ true) ⊎ (1 ≤ length (schemes_of t ds k))
-given_has t F k [] written h = inl h
-given_has t F k (d ∷ ds) written h =
-    let parts : length (schemes_of t (d ∷ ds) k) ≡ length (owned (schemes_at t d) k) + length (schemes_of t ds k) =
-    ap length (owned_append (schemes_at t d) (flat_map (schemes_at t) ds) k) ∙ length-append (owned (schemes_at t d) k) (schemes_of t ds k) in
-    by parts (given_has t (give t F d) k ds written.1 h)
+given_has : (t : Table) (k : ℕ) (ds : List Decl) → Each IsWritten ds → list_any (gives t k) ds ≡ true → 1 ≤ length (schemes_of t ds k)
+given_has t k [] written h = absurd (cc h)
+given_has t k (d ∷ ds) written h = by (gives t k d) refl (given_has t k ds written.1) h
   where
-    first_has : length (schemes_of t (d ∷ ds) k) ≡ length (owned (schemes_at t d) k) + length (schemes_of t ds k) → (flag F k ≡ true) ⊎ (1 ≤ length (owned (schemes_at t d) k)) → (flag F k ≡ true) ⊎ (1 ≤ length (schemes_of t (d ∷ ds) k))
-    first_has e (inl f) = inl f
-    first_has e (inr n) = inr (omega (arith, e, n))
+    parts : length (schemes_of t (d ∷ ds) k) ≡ length (owned (schemes_at t d) k) + length (schemes_of t ds k)
+    parts = ap length (owned_append (schemes_at t d) (flat_map (schemes_at t) ds) k) ∙ length-append (owned (schemes_at t d) k) (schemes_of t ds k)
 
-    by : length (schemes_of t (d ∷ ds) k) ≡ length (owned (schemes_at t d) k) + length (schemes_of t ds k) → (flag (give t F d) k ≡ true) ⊎ (1 ≤ length (schemes_of t ds k)) → (flag F k ≡ true) ⊎ (1 ≤ length (schemes_of t (d ∷ ds) k))
-    by e (inl f) = first_has e (gives t F k d written.0 f)
-    by e (inr n) = inr (omega (arith, e, n))
+    by : (b : Bool) → gives t k d ≡ b → (list_any (gives t k) ds ≡ true → 1 ≤ length (schemes_of t ds k)) → (b || list_any (gives t k) ds) ≡ true → 1 ≤ length (schemes_of t (d ∷ ds) k)
+    by true is rest some = let e = parts in let n : 1 ≤ length (owned (schemes_at t d) k) = gives_some t k d written.0 is in omega (arith, e, n)
+    by false is rest some = let e = parts in let n : 1 ≤ length (schemes_of t ds k) = rest some in omega (arith, e, n)
 
-none_up : (n p : ℕ) → flag (replicate n false) p ≡ true → ⊥
-none_up zero p h = absurd (cc h)
-none_up (suc n) zero h = absurd (cc h)
-none_up (suc n) (suc p) h = none_up n p h
-
--- no operator is missing
+-- where none is missing, no operator lacks a scheme
 place_there : (xs : List Position) (k : ℕ) → k < length xs → (p : Position) × (slice_get xs k ≡ Some p)
 place_there [] k h = absurd (omega (arith, h))
 place_there (x ∷ xs) zero h = (x, refl)
@@ -249,27 +222,11 @@ place_there (x ∷ xs) (suc k) h = place_there xs k (omega (arith, h))
 found_at : (t : Table) (k : ℕ) (o : Operator) → k < length t.op_places → fault_at t k o ≡ None → ⊥
 found_at t k o low h = let p = place_there t.op_places k low in cc (ap (option_map (λ place. NoScheme place o.name)) p.1, h)
 
-passed : (t : Table) (k : ℕ) (o : Operator) (rest : Option SpecFault) (b : Bool) → k < length t.op_places → (if b then fault_at t k o else rest) ≡ None → (b ≡ false) × (rest ≡ None)
-passed t k o rest true low h = absurd (found_at t k o low h)
-passed t k o rest false low h = (refl, h)
-
-not_missing : (t : Table) (shown given : List Bool) (k : ℕ) (ops : List Operator) (j : ℕ) (o : Operator) → k + length ops ≤ length t.op_places → missing_from t shown given k ops ≡ None → slice_get ops j ≡ Some o → is_missing shown given (k + j) o ≡ false
-not_missing t shown given k [] j o low h at = absurd (cc at)
-not_missing t shown given k (x ∷ ops) zero o low h at =
-    let same : x ≡ o = cc at in
-    let z : k ≡ k + 0 = omega arith in
-    let here : k < length t.op_places = omega (arith, low) in
-    ap (λ m. is_missing shown given m o) (sym z) ∙ ap (is_missing shown given k) (sym same) ∙ (passed t k x (missing_from t shown given (suc k) ops) (is_missing shown given k x) here h).0
-not_missing t shown given k (x ∷ ops) (suc j) o low h at =
-    let e : k + suc j ≡ suc k + j = omega arith in
-    let here : k < length t.op_places = omega (arith, low) in
-    ap (λ m. is_missing shown given m o) e
-    ∙ not_missing t shown given (suc k) ops j o (omega (arith, low)) (passed t k x (missing_from t shown given (suc k) ops) (is_missing shown given k x) here h).1 at
-
-flag_stands : (a b : Bool) → a && not b ≡ false → a ≡ true → b ≡ true
-flag_stands true true h e = refl
-flag_stands true false h e = absurd (cc h)
-flag_stands false b h e = absurd (cc e)
+none_lacks : (t : Table) (ds : List Decl) → length t.op_places ≡ length t.ops → IsNoScheme t ds None → (k : ℕ) (o : Operator) → LacksScheme t ds k o → ⊥
+none_lacks t ds all (all_have none e) k o lacks = none k o lacks
+none_lacks t ds all (first_lacks j x first before e) k o lacks =
+    let low : j < length t.ops = slice_get_within t.ops j x first.there in
+    found_at t j x (omega (arith, all, low)) (sym e)
 
 -- shown phyla are those of the draft
 module _ (t : Table) (spec : Spec) (kept : HasTable t spec) where
@@ -278,34 +235,10 @@ module _ (t : Table) (spec : Spec) (kept : HasTable t spec) where
   shown_kept (argument op p q own is there) =
       argument op p q (sym (phylum_kept t spec kept op) ∙ own) (shown_kept is) (subst (λ (l : List ℕ). Contains l q) (args_kept t spec kept op) there)
 
-  root_there : HasShapes spec → t.root < length t.phyla
-  root_there shapes = by (slice_get spec.phyla spec.root) refl shapes.root
-    where
-      by : (o : Option Phylum) → slice_get spec.phyla spec.root ≡ o → MatchOption o ⊥ (λ x. (1 ≤ length x.ops) × All (λ (a : Attr). a.way ≡ Synthesized) x.attrs) → t.root < length t.phyla
-      by None e h = absurd h
-      by (Some x) e h =
-          let low : spec.root < length spec.phyla = slice_get_within spec.phyla spec.root x e in
-          subst (λ m. m < length t.phyla) kept.root (subst (λ (l : List Phylum). spec.root < length l) kept.phyla low)
-
-  arg_there : HasShapes spec → (op q : ℕ) → Contains (args_of t.ops op) q → q < length t.phyla
-  arg_there shapes op q there = by (slice_get spec.ops op) refl (subst (λ (l : List ℕ). Contains l q) (sym (args_kept t spec kept op)) there)
-    where
-      usable : (p : ℕ) → is_usable spec p ≡ true → p < length t.phyla
-      usable p h = some (slice_get spec.phyla p) refl h
-        where
-          some : (o : Option Phylum) → slice_get spec.phyla p ≡ o → unwrap_or (option_map (λ (x : Phylum). not (is_lexical_shape x.shape && bytes_eq x.name whitespace)) o) false ≡ true → p < length t.phyla
-          some None e f = absurd (cc f)
-          some (Some x) e f = subst (λ (l : List Phylum). p < length l) kept.phyla (slice_get_within spec.phyla p x e)
-
-      by : (o : Option Operator) → slice_get spec.ops op ≡ o → Contains (unwrap_or (option_map (λ (x : Operator). x.args) o) []) q → q < length t.phyla
-      by None e c = absurd (omega (arith, c.1))
-      by (Some o) e c =
-          usable q (All-contains (λ p. IsTrue (is_usable spec p)) o.args q (All-contains (λ (x : Operator). All (λ p. IsTrue (is_usable spec p)) x.args) spec.ops o shapes.args (contains_at spec.ops op o e)) c)
-
 -- the schemes of the record fit their operators, and the operators of shown phyla have some
-pub record_schemes : (ds : List Decl) (spec : Spec) → HasTable (names_of ds) spec → spec.ops ≡ with_schemes (schemes_of (names_of ds) ds) (names_of ds).ops → HasShapes spec → Each IsWritten ds
+pub record_schemes : (ds : List Decl) (spec : Spec) → HasTable (names_of ds) spec → spec.ops ≡ with_schemes (schemes_of (names_of ds) ds) (names_of ds).ops → Each IsWritten ds
     → no_scheme (names_of ds) ds ≡ None → scheme_kids (names_of ds) ds ≡ None → first_hidden (names_of ds) ds ≡ None → HasSchemes spec
-record_schemes ds spec kept made shapes written none kids hid = record { shown = shown_have; schemes = schemes_fit }
+record_schemes ds spec kept made written none kids hid = record { shown = shown_have; schemes = schemes_fit }
   where
     schemes_fit : (op : ℕ) (o : Operator) → slice_get spec.ops op ≡ Some o → All (IsScheme spec op) o.schemes
     schemes_fit op o at =
@@ -314,17 +247,16 @@ record_schemes ds spec kept made shapes written none kids hid = record { shown =
         (subst (Each (IsScheme spec op)) (ap (λ (x : Operator). x.schemes) there.2) (all_fine (names_of ds) spec kept ds op kids hid))
 
     shown_have : (op : ℕ) (o : Operator) → slice_get spec.ops op ≡ Some o → IsShown spec o.phylum → 1 ≤ length o.schemes
-    shown_have op o at is =
-        let there = made_there (with_scheme (schemes_of (names_of ds) ds)) (names_of ds).ops op o (ap (λ l. slice_get l op) (sym made) ∙ at) in
-        let own : there.0.phylum ≡ o.phylum = ap (λ (x : Operator). x.phylum) there.2 in
-        let up : flag (marks.shown (names_of ds)) o.phylum ≡ true = all_shown (drafted (names_of ds)) (root_there (names_of ds) spec kept shapes) (arg_there (names_of ds) spec kept shapes) (shown_kept (names_of ds) spec kept is) in
-        let low : 0 + length (names_of ds).ops ≤ length (names_of ds).op_places = let e = places_count ds in omega (arith, e) in
-        let z : 0 + op ≡ op = omega arith in
-        let fine : is_missing (marks.shown (names_of ds)) (given (names_of ds) ds) op there.0 ≡ false =
-        ap (λ k. is_missing (marks.shown (names_of ds)) (given (names_of ds) ds) k there.0) (sym z) ∙ not_missing (names_of ds) (marks.shown (names_of ds)) (given (names_of ds) ds) 0 (names_of ds).ops op there.0 low none there.1 in
-        let stands : flag (given (names_of ds) ds) op ≡ true = flag_stands (flag (marks.shown (names_of ds)) there.0.phylum) (flag (given (names_of ds) ds) op) fine (ap (flag (marks.shown (names_of ds))) own ∙ up) in
-        subst (λ (x : Operator). 1 ≤ length x.schemes) there.2 (by op (given_has (names_of ds) (replicate (length (names_of ds).ops) false) op ds written stands))
+    shown_have op o at is = by (list_any (gives (names_of ds) op) ds) refl
       where
-        by : (k : ℕ) → (flag (replicate (length (names_of ds).ops) false) k ≡ true) ⊎ (1 ≤ length (schemes_of (names_of ds) ds k)) → 1 ≤ length (schemes_of (names_of ds) ds k)
-        by k (inl f) = absurd (none_up (length (names_of ds).ops) k f)
-        by k (inr n) = n
+        there : (x : Operator) × (slice_get (names_of ds).ops op ≡ Some x) × (with_scheme (schemes_of (names_of ds) ds) op x ≡ o)
+        there = made_there (with_scheme (schemes_of (names_of ds) ds)) (names_of ds).ops op o (ap (λ l. slice_get l op) (sym made) ∙ at)
+
+        is_shown : IsShown (drafted (names_of ds)) there.0.phylum
+        is_shown = subst (IsShown (drafted (names_of ds))) (ap (λ (x : Operator). x.phylum) (sym there.2)) (shown_kept (names_of ds) spec kept is)
+
+        by : (b : Bool) → list_any (gives (names_of ds) op) ds ≡ b → 1 ≤ length o.schemes
+        by true some = subst (λ (x : Operator). 1 ≤ length x.schemes) there.2 (given_has (names_of ds) op ds written some)
+        by false lacks =
+            absurd (none_lacks (names_of ds) ds (places_count ds) (subst (IsNoScheme (names_of ds) ds) none (no_scheme_is (names_of ds) ds)) op there.0
+            (record { there = there.1; shown = is_shown; none = lacks }))

@@ -28,7 +28,7 @@ use Rattle.sg_names.specs.Names.{map_from, value_attr, attrs_there, phylum, phyl
 use Rattle.sg_names.specs.UnknownName.{unknown_at, is_lexeme, is_nonterminal}
 use Rattle.sg_names.specs.Uses.{UsesSymbol, part_uses}
 use Rattle.sg_names.proofs.DraftedLaws.{usable_kept}
-use Rattle.sg_typing.specs.Bindings.{OfProduction, is_bound, symbol_there, reference_at}
+use Rattle.sg_types.specs.Bindings.{OfProduction, is_bound, symbol_there, reference_at}
 use Rattle.sg_typing.specs.Written.{AreOutside}
 use Rattle.sg_typing.proofs.TableFacts.{usable_is}
 use Rattle.sg_record.specs.Record.{phylum_in, symbol_named, symbol_of}

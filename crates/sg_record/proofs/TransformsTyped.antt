@@ -18,11 +18,11 @@ use Rattle.sg_names.specs.Lookups.{phylum_named, usable_named}
 use Rattle.sg_names.specs.Names.{op_named}
 use Rattle.sg_names.proofs.DraftedLaws.{bound_kept, usable_kept}
 use Rattle.sg_typing.specs.declared.bodies.TypedExpr.{TypedExpr}
-use Rattle.sg_typing.specs.Bindings.{OfNothing}
+use Rattle.sg_types.specs.Bindings.{OfNothing}
 use Rattle.sg_typing.specs.Bodies.{exprs_at, exprs_in, transform_typed, transform_mismatch}
-use Rattle.sg_typing.specs.Expressions.{mismatch_at}
-use Rattle.sg_typing.specs.Expressions as expr
-use Rattle.sg_typing.specs.Patterns.{parts_of, mismatch_in, variables_of, variables_of_all, recorded}
+use Rattle.sg_types.specs.Expressions.{mismatch_at}
+use Rattle.sg_types.specs.Expressions as expr
+use Rattle.sg_types.specs.Patterns.{parts_of, mismatch_in, variables_of, variables_of_all, recorded}
 use Rattle.sg_typing.specs.Written.{HasLists, known}
 use Rattle.sg_typing.proofs.BodyTyped.{body_kept}
 use Rattle.sg_typing.proofs.Kept.{pattern_kept}

@@ -8,7 +8,7 @@ use Rattle.sg_ast.specs.Declarations.{Decl, Entry}
 use Rattle.sg_ast.specs.FirstFault.{first, first_repeat}
 use Rattle.sg_names.specs.declared.table.Table.{Table}
 use Rattle.sg_names.specs.Lookups.{usable_named, symbol_type}
-use Rattle.sg_typing.specs.Types.{is_accepted}
+use Rattle.sg_types.specs.Types.{fits_where}
 use Rattle.sg_record.specs.Record.{phylum_in}
 
 -- the phyla of entries, as they are written
@@ -28,7 +28,7 @@ entry_twice t ds = twice_at (entered ds) (first_repeat nat_eq (map (λ (n : Name
 
 -- the first attribute whose type is not accepted
 abbrev pub type_fault : Table → Decl → Option SpecFault
-type_fault t (Entry n m a) = if is_accepted t (usable_named t n.text) (symbol_type t m.text a.text) then None else Some (fault.EntryType n.place n.text)
+type_fault t (Entry n m a) = if fits_where t (usable_named t n.text) (symbol_type t m.text a.text) then None else Some (fault.EntryType n.place n.text)
 type_fault t d = None
 
 abbrev pub entry_type : Table → List Decl → Option SpecFault

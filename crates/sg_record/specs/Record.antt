@@ -37,7 +37,7 @@ use Rattle.sg_names.specs.Lookups.{usable_named, nonterminal_named, reference}
 use Rattle.sg_typing.specs.declared.bodies.TypedExpr.{TypedExpr}
 use Rattle.sg_typing.specs.Arguments.{local_of}
 use Rattle.sg_typing.specs.Bodies.{expr_count, exprs_in, result_type}
-use Rattle.sg_typing.specs.Patterns.{recorded}
+use Rattle.sg_types.specs.Patterns.{recorded}
 use Rattle.sg_schemes.specs.Shown.{operator_at}
 
 -- the pieces of a string, none where it is not escaped; the strings of a separator, one behind the other

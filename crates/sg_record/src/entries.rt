@@ -15,7 +15,7 @@ use sg_kinds::fault::SpecFault;
 use sg_kinds::memory::NoMemory;
 use sg_kinds::spec::Entry;
 use sg_names::names::Names;
-use sg_typing::is_accepted;
+use sg_types::types::fits_where;
 use std::alloc::Global;
 
 /// The entries.
@@ -105,7 +105,7 @@ fn type_fault(alloc: Global, names: &Names, decl: &Decl) -> Result<Option<SpecFa
     };
     let wanted = names.usable_named(&phylum.text);
     let found = names.symbol_type(&nonterminal.text, &attr.text);
-    if is_accepted(names, &wanted, &found) {
+    if fits_where(names, &wanted, &found) {
         return Ok(None);
     }
     Ok(Some(SpecFault::EntryType(phylum.place, phylum.text.copy(alloc)?)))

@@ -8,6 +8,4 @@ pub mod pieces;
 mod productions;
 pub mod record;
 mod schemes;
-#[cfg(test)]
-mod tests;
 mod transforms;

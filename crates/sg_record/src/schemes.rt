@@ -4,12 +4,11 @@ ghost use Rattle.sg_ast.specs.View.{tree_of, trees_of};
 ghost use Rattle.sg_names.specs.Names.{owned};
 ghost use Rattle.sg_names.specs.Rows.{row_at};
 ghost use Rattle.sg_record.specs.Record as spec;
-ghost use Rattle.sg_schemes.specs.Shown as schemes;
 ghost use Rattle.sg_typing.specs.Arguments.{local_of};
 
 use crate::pieces::pieces;
 use sg_ast::decl::{Decl, Item as Written, SchemeDecl, Target};
-use sg_ast::name::{Name, Quoted};
+use sg_ast::name::Quoted;
 use sg_kinds::ids::OpId;
 use sg_kinds::memory::NoMemory;
 use sg_kinds::row::Row;
@@ -17,7 +16,8 @@ use sg_kinds::spec::{Item, Occurrence, Operator, Piece, Scheme};
 use sg_kinds::text::Text;
 use sg_names::groups::Groups;
 use sg_names::names::Names;
-use sg_typing::local_slot;
+use sg_schemes::shown::operator_at;
+use sg_types::bindings::local_slot;
 use std::alloc::Global;
 
 /// The pieces of a string; none where it has none.
@@ -111,14 +111,6 @@ fn scheme(alloc: Global, names: &Names, op: OpId, scheme: &SchemeDecl) -> Result
         editable: scheme.editable,
         items: Row::new(items),
     })
-}
-
-/// The operator of a phylum, by their names.
-fn operator_at(names: &Names, phylum: &Name, op: &Name) -> Option<OpId>
-    ensures { result ≡ schemes.operator_at names.now phylum.now op.now }
-{
-    let phylum = names.phylum_named(&phylum.text)?;
-    names.operator_named(phylum, &op.text)
 }
 
 /// Puts schemes of an operator behind its others.

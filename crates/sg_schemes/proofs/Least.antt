@@ -268,11 +268,11 @@ module _ (spec : Spec) where
   none_up (suc n) zero h = cc h
   none_up (suc n) (suc p) h = none_up n p h
 
-  pub only_shown : (p : ℕ) → flag (shown_among (length spec.phyla) spec.ops spec.root) p ≡ true → IsShown spec p
+  pub only_shown : (count p : ℕ) → flag (shown_among count spec.ops spec.root) p ≡ true → IsShown spec p
   unfolding AreShown
-  only_shown p h =
-      shown_passes (length spec.phyla) spec.ops (set (replicate (length spec.phyla) false) spec.root true)
-      (shown_set (replicate (length spec.phyla) false) spec.root (λ q f. absurd (none_up (length spec.phyla) q f)) root)
+  only_shown count p h =
+      shown_passes count spec.ops (set (replicate count false) spec.root true)
+      (shown_set (replicate count false) spec.root (λ q f. absurd (none_up count q f)) root)
       (show_from 0 spec.ops (λ j o e. let n : 0 + j ≡ j = omega arith in ap (slice_get spec.ops) n ∙ e)) p h
 
 -- each shown phylum has its flag
@@ -288,18 +288,18 @@ closed_at F [] k o all is up = absurd (cc is)
 closed_at F (x ∷ ops) zero o all is up = let e : x ≡ o = cc is in subst (λ (y : Operator). AreSet F y.args) e (all.0 (subst (λ (y : Operator). flag F y.phylum ≡ true) (sym e) up))
 closed_at F (x ∷ ops) (suc k) o all is up = closed_at F ops k o all.1 is up
 
-pub all_shown : (spec : Spec) → spec.root < length spec.phyla → ((op q : ℕ) → Contains (args_of spec.ops op) q → q < length spec.phyla) → {p : ℕ} → IsShown spec p → flag (shown_among (length spec.phyla) spec.ops spec.root) p ≡ true
-all_shown spec low inside root =
-    let l : length (replicate (length spec.phyla) false) ≡ length spec.phyla = length_false (length spec.phyla) in
-    up_passes (length spec.phyla) spec.ops (set (replicate (length spec.phyla) false) spec.root true) spec.root (up_at (replicate (length spec.phyla) false) spec.root (omega (arith, l, low)))
-all_shown spec low inside (argument op p q is shown contains) = by (slice_get spec.ops op) refl is contains (all_shown spec low inside shown) (inside op q contains)
+pub all_shown : (spec : Spec) (count : ℕ) → spec.root < count → ((op q : ℕ) → Contains (args_of spec.ops op) q → q < count) → {p : ℕ} → IsShown spec p → flag (shown_among count spec.ops spec.root) p ≡ true
+all_shown spec count low inside root =
+    let l : length (replicate count false) ≡ count = length_false count in
+    up_passes count spec.ops (set (replicate count false) spec.root true) spec.root (up_at (replicate count false) spec.root (omega (arith, l, low)))
+all_shown spec count low inside (argument op p q is shown contains) = by (slice_get spec.ops op) refl is contains (all_shown spec count low inside shown) (inside op q contains)
   where
     by : (o : Option Operator) → slice_get spec.ops op ≡ o → option_map (λ (x : Operator). x.phylum) o ≡ Some p → Contains (unwrap_or (option_map (λ (x : Operator). x.args) o) []) q
-        → flag (shown_among (length spec.phyla) spec.ops spec.root) p ≡ true → q < length spec.phyla → flag (shown_among (length spec.phyla) spec.ops spec.root) q ≡ true
+        → flag (shown_among count spec.ops spec.root) p ≡ true → q < count → flag (shown_among count spec.ops spec.root) q ≡ true
     by None at e c up there = absurd (cc e)
     by (Some o) at e c up there =
         let phylum : o.phylum ≡ p = cc e in
-        let all = closed_at (shown_among (length spec.phyla) spec.ops spec.root) spec.ops op o (closed (length spec.phyla) spec.ops spec.root low) at (subst (λ n. flag (shown_among (length spec.phyla) spec.ops spec.root) n ≡ true) (sym phylum) up) in
-        let same : set (shown_among (length spec.phyla) spec.ops spec.root) q true ≡ shown_among (length spec.phyla) spec.ops spec.root = set_at (shown_among (length spec.phyla) spec.ops spec.root) o.args c.0 q all c.1 c.2 in
-        let long : length (shown_among (length spec.phyla) spec.ops spec.root) ≡ length spec.phyla = length_passes (length spec.phyla) spec.ops (set (replicate (length spec.phyla) false) spec.root true) ∙ length_set (replicate (length spec.phyla) false) spec.root ∙ length_false (length spec.phyla) in
-        ap (λ (l : List Bool). flag l q) (sym same) ∙ up_at (shown_among (length spec.phyla) spec.ops spec.root) q (omega (arith, long, there))
+        let all = closed_at (shown_among count spec.ops spec.root) spec.ops op o (closed count spec.ops spec.root low) at (subst (λ n. flag (shown_among count spec.ops spec.root) n ≡ true) (sym phylum) up) in
+        let same : set (shown_among count spec.ops spec.root) q true ≡ shown_among count spec.ops spec.root = set_at (shown_among count spec.ops spec.root) o.args c.0 q all c.1 c.2 in
+        let long : length (shown_among count spec.ops spec.root) ≡ count = length_passes count spec.ops (set (replicate count false) spec.root true) ∙ length_set (replicate count false) spec.root ∙ length_false count in
+        ap (λ (l : List Bool). flag l q) (sym same) ∙ up_at (shown_among count spec.ops spec.root) q (omega (arith, long, there))

@@ -1,3 +1,4 @@
 pub mod Escaped
 pub mod Flags
 pub mod Least
+pub mod FirstMissing

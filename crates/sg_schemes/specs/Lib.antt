@@ -1,3 +1,4 @@
 pub mod Strings
 pub mod Places
 pub mod Shown
+pub mod NoScheme

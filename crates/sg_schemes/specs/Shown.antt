@@ -1,5 +1,6 @@
--- The first operator of a shown phylum that has no scheme.
-use Rattle.std.specs.Prelude.{ℕ, zero, suc, Bool, true, false, not, ◌&&◌, if◌then◌else◌, List, [], ◌∷◌, length, replicate, slice_set, slice_index_or, Option, Some, None, slice_get, option_map, option_and_then}
+-- The first operator of a shown phylum that has no scheme, as it is computed: passes over the operators put up the flags of the
+-- shown phyla, and declarations those of the operators that have schemes.
+use Rattle.std.specs.Prelude.{ℕ, zero, suc, max, Bool, true, false, not, ◌&&◌, if◌then◌else◌, List, [], ◌∷◌, length, replicate, slice_set, slice_index_or, Option, Some, None, slice_get, option_map, option_and_then}
 use Rattle.sg_kinds.specs.declared.spec.Operator.{Operator}
 use Rattle.sg_kinds.specs.declared.fault.SpecFault.{SpecFault}
 use Rattle.sg_kinds.specs.declared.fault.SpecFault.TheVariants as fault
@@ -28,12 +29,24 @@ unfoldable pub passes : ℕ → List Operator → List Bool → List Bool
 passes zero ops flags = flags
 passes (suc n) ops flags = passes n ops (pass flags ops)
 
--- the shown phyla among so many: first the root, then what as many passes show as there are phyla, which is all
+-- the shown phyla among so many: first the root, then what as many passes show as there are flags, which is all
 abbrev pub shown_among : ℕ → List Operator → ℕ → List Bool
 shown_among count ops root = passes count ops (slice_set (replicate count false) root true)
 
+-- one more than the greatest number of the root and of arguments, so that each of these has a flag
+abbrev pub past : List ℕ → ℕ
+past [] = 0
+past (p ∷ ps) = max (suc p) (past ps)
+
+abbrev pub past_all : List Operator → ℕ
+past_all [] = 0
+past_all (o ∷ ops) = max (past o.args) (past_all ops)
+
+abbrev pub width : Table → ℕ
+width t = max (suc t.root) (past_all t.ops)
+
 abbrev pub shown : Table → List Bool
-shown t = shown_among (length t.phyla) t.ops t.root
+shown t = shown_among (width t) t.ops t.root
 
 -- the operators that have schemes in the ordinary view
 abbrev pub give_to : List Bool → Option ℕ → List Bool

@@ -1,15 +1,21 @@
 //! Laws of the definitions, each as the contract of a function without code.
-ghost use Rattle.std.specs.Prelude.{◌≡◌, ◌<◌, ℕ, length, true};
-ghost use Rattle.std.specs.List.{Contains};
+ghost use Rattle.std.specs.Prelude.{◌≡◌, ℕ, List, Option, true};
+ghost use Rattle.sg_ast.specs.Declarations.{Decl};
 ghost use Rattle.sg_kinds.specs.Sound.{IsShown};
-ghost use Rattle.sg_kinds.specs.Specification.{args_of};
-ghost use Rattle.sg_kinds.specs.declared.spec.Spec.{Spec};
-ghost use Rattle.sg_schemes.specs.Shown.{flag, shown_among};
+ghost use Rattle.sg_kinds.specs.declared.fault.SpecFault.{SpecFault};
+ghost use Rattle.sg_names.specs.Drafted.{drafted};
+ghost use Rattle.sg_names.specs.declared.table.Table.{Table};
+ghost use Rattle.sg_schemes.specs.NoScheme.{IsNoScheme};
+ghost use Rattle.sg_schemes.specs.Shown.{flag, shown, no_scheme};
 
-/// The passes put up the flags of the shown phyla and no others: of the root, and of the arguments of the operators of
-/// shown phyla. That all are there needs that the root and all arguments are phyla.
+/// The passes put up the flags of the shown phyla and no others.
 pub fn flags_are_of_shown_phyla()
-    ensures only { (spec : Spec) (p : ℕ) → flag (shown_among (length spec.phyla) spec.ops spec.root) p ≡ true → IsShown spec p }
-    ensures all { (spec : Spec) → spec.root < length spec.phyla → ((op q : ℕ) → Contains (args_of spec.ops op) q → q < length spec.phyla) →
-        (p : ℕ) → IsShown spec p → flag (shown_among (length spec.phyla) spec.ops spec.root) p ≡ true }
+    ensures only { (t : Table) (p : ℕ) → flag (shown t) p ≡ true → IsShown (drafted t) p }
+    ensures all { (t : Table) (p : ℕ) → IsShown (drafted t) p → flag (shown t) p ≡ true }
+{}
+
+/// There is one answer to which operator of a shown phylum is the first without a scheme, and it is the computed one.
+pub fn missing_schemes_have_one_answer()
+    ensures holds { (t : Table) (ds : List Decl) → IsNoScheme t ds (no_scheme t ds) }
+    ensures one { (t : Table) (ds : List Decl) (a b : Option SpecFault) → IsNoScheme t ds a → IsNoScheme t ds b → a ≡ b }
 {}

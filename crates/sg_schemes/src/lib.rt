@@ -5,5 +5,3 @@ pub mod laws;
 pub mod places;
 pub mod shown;
 pub mod strings;
-#[cfg(test)]
-mod tests;

@@ -1,7 +1,8 @@
 //! Shown phyla, and operators without schemes.
-ghost use Rattle.std.specs.Prelude.{◌≡◌, ◌↔◌, IsTrue, false, true, length, replicate, slice_set, slice_get, option_map, IfOk, OnOk};
+ghost use Rattle.std.specs.Prelude.{◌≡◌, ◌≤◌, ◌^◌, ◌↔◌, IsTrue, false, true, length, replicate, slice_set, slice_get, option_map, IfOk, OnOk};
 ghost use Rattle.sg_ast.specs.View.{tree_of, trees_of};
 ghost use Rattle.sg_names.specs.Lookups.{operator_named};
+ghost use Rattle.sg_schemes.specs.NoScheme.{IsNoScheme};
 ghost use Rattle.sg_schemes.specs.Shown as spec;
 
 use sg_ast::decl::Decl;
@@ -95,18 +96,50 @@ fn passes(
     Ok(flags)
 }
 
+/// One more than the greatest of these numbers.
+fn past(phyla: &[PhylumId]) -> usize
+    ensures count { result ≡ spec.past phyla.now }
+    ensures few { result ≤ 2 ^ 32 }
+{
+    let mut most = 0usize;
+    for phylum in phyla {
+        most = most.max(phylum.number as usize + 1);
+    }
+    most
+}
+
+/// The same of the arguments of all operators.
+fn past_all(ops: &[Operator]) -> usize
+    ensures count { result ≡ spec.past_all ops.now }
+    ensures few { result ≤ 2 ^ 32 }
+{
+    let mut most = 0usize;
+    for operator in ops {
+        most = most.max(past(operator.args.as_slice()));
+    }
+    most
+}
+
+/// How many flags there are: one for the root and for each argument.
+fn width(table: &Table) -> usize
+    ensures { result ≡ spec.width table.now }
+{
+    let root = table.root.number as usize + 1;
+    root.max(past_all(table.ops.as_slice()))
+}
+
 /// The shown phyla.
 fn shown(alloc: Global, table: &Table) -> Result<Vec<bool>, NoMemory>
     ensures { IfOk result (λ v. v.items ≡ spec.shown table.now) }
 {
-    let count = table.phyla.len();
+    let count = width(table);
     let mut flags = vec![in alloc; false; count]?;
     set(&mut flags, table.root.number as usize);
     passes(alloc, count, table.ops.as_slice(), flags)
 }
 
 /// The operator of a phylum, by their names.
-fn operator_at(names: &Names, phylum: &Name, op: &Name) -> Option<OpId>
+pub fn operator_at(names: &Names, phylum: &Name, op: &Name) -> Option<OpId>
     ensures { result ≡ spec.operator_at names.now phylum.now op.now }
 {
     let phylum = names.phylum_named(&phylum.text)?;
@@ -174,16 +207,25 @@ fn missing(
     Ok(None)
 }
 
-/// The first operator of a shown phylum that has no scheme in the ordinary view. The root is shown, and so are the
-/// arguments of the operators of shown phyla.
-pub fn no_scheme(
-    alloc: Global,
-    names: &Names,
-    decls: &[Decl],
-) -> Result<Option<SpecFault>, NoMemory>
+// the same, from the flags
+fn computed(alloc: Global, names: &Names, decls: &[Decl]) -> Result<Option<SpecFault>, NoMemory>
     ensures { IfOk result (λ f. f ≡ spec.no_scheme names.now (trees_of decls.now)) }
 {
     let shown = shown(alloc, names.table())?;
     let given = given(alloc, names, decls)?;
     missing(alloc, names.table(), &shown, &given)
+}
+
+/// The fault of the first operator of a shown phylum that has no scheme in the ordinary view. The root is shown, and so are
+/// the arguments of the operators of shown phyla.
+#[tactic(auto, using(crate::proofs::FirstMissing::answers))]
+pub fn no_scheme(
+    alloc: Global,
+    names: &Names,
+    decls: &[Decl],
+) -> Result<Option<SpecFault>, NoMemory>
+    ensures first { IfOk result (IsNoScheme names.now (trees_of decls.now)) }
+    ensures computed { IfOk result (λ f. f ≡ spec.no_scheme names.now (trees_of decls.now)) }
+{
+    computed(alloc, names, decls)
 }

@@ -15,7 +15,7 @@ use Rattle.sg_names.specs.Drafted.{drafted}
 use Rattle.sg_names.specs.Lookups.{attribute, attribute_at, local, occurrence, phylum_there, reference}
 use Rattle.sg_names.specs.declared.table.Table.{Table}
 use Rattle.sg_typing.specs.Arguments.{added, local_of, args_from, args_from_all, args_from_cases, args_in}
-use Rattle.sg_typing.specs.Bindings.{is_at, own_slots}
+use Rattle.sg_types.specs.Bindings.{is_at, own_slots}
 use Rattle.sg_typing.proofs.ExprTyped.{left, right}
 use Rattle.sg_typing.proofs.TableFacts.{position_there}
 

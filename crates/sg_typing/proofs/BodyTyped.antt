@@ -7,22 +7,22 @@ use Rattle.sg_ast.specs.Chains.{expr_place}
 use Rattle.sg_names.specs.Drafted.{HasTable, drafted}
 use Rattle.sg_names.specs.declared.table.Table.{Table}
 use Rattle.sg_names.proofs.DraftedLaws.{accepted_kept, type_kept}
-use Rattle.sg_typing.specs.declared.scope.Variable.{Variable}
-use Rattle.sg_typing.specs.Bindings.{Owner}
-use Rattle.sg_typing.specs.Expressions.{type_in, mismatch_in, mismatch_at, recorded}
-use Rattle.sg_typing.specs.Types.{unless, is_accepted}
+use Rattle.sg_types.specs.declared.scope.Variable.{Variable}
+use Rattle.sg_types.specs.Bindings.{Owner}
+use Rattle.sg_types.specs.Expressions.{type_in, mismatch_in, mismatch_at, recorded}
+use Rattle.sg_types.specs.Types.{unless, fits_where}
 use Rattle.sg_typing.specs.Written.{AreWritten, HasLists, AreOutside, known}
 use Rattle.sg_typing.proofs.Kept.{expr_kept}
 use Rattle.sg_typing.proofs.RecordTyped.{neither, unless_is}
 
 -- what is wanted is known, and what is given is accepted there
 fits : (t : Table) (w : Owner) (vs : List Variable) (wanted : Option ℕ) (e : Expr) → mismatch_at t w vs wanted e ≡ None → (p : ℕ) × (wanted ≡ Some p) × (is_found (drafted t) p (type_in t w vs e) ≡ true) × (mismatch_in t w vs e ≡ None)
-fits t w vs wanted e h = by wanted (neither (unless (is_accepted t wanted (type_in t w vs e)) (expr_place e)) (mismatch_in t w vs e) h).0
+fits t w vs wanted e h = by wanted (neither (unless (fits_where t wanted (type_in t w vs e)) (expr_place e)) (mismatch_in t w vs e) h).0
   where
     inside : mismatch_in t w vs e ≡ None
-    inside = (neither (unless (is_accepted t wanted (type_in t w vs e)) (expr_place e)) (mismatch_in t w vs e) h).1
+    inside = (neither (unless (fits_where t wanted (type_in t w vs e)) (expr_place e)) (mismatch_in t w vs e) h).1
 
-    by : (o : Option ℕ) → unless (is_accepted t o (type_in t w vs e)) (expr_place e) ≡ None → (p : ℕ) × (o ≡ Some p) × (is_found (drafted t) p (type_in t w vs e) ≡ true) × (mismatch_in t w vs e ≡ None)
+    by : (o : Option ℕ) → unless (fits_where t o (type_in t w vs e)) (expr_place e) ≡ None → (p : ℕ) × (o ≡ Some p) × (is_found (drafted t) p (type_in t w vs e) ≡ true) × (mismatch_in t w vs e ≡ None)
     by None k = cc
     by (Some p) k = (p, refl, unless_is (is_found (drafted t) p (type_in t w vs e)) (expr_place e) k, inside)
 

@@ -3,6 +3,7 @@ use Rattle.std.proofs.Common.{◌≡◌, refl, sym, ap, subst, ◌∙◌, ℕ, z
 use Rattle.std.specs.Prelude.{◌^◌, ◌&&◌, option_map, option_and_then, unwrap_or, is_some}
 use Rattle.std.proofs.Math.Nat.{suc-add, zero-add}
 use Rattle.std.proofs.lemmas.Option.{slice_get_within}
+use Rattle.std.proofs.lemmas.Bool.{and_parts}
 use Rattle.sg_kinds.proofs.Pooled.{slice_get-left}
 use Rattle.sg_kinds.specs.Values.{Bytes}
 use Rattle.sg_kinds.specs.Specification.{truths, numbers, texts, has_shape, is_list_shape}
@@ -27,14 +28,14 @@ use Rattle.sg_names.specs.declared.table.Callable.{Callable}
 use Rattle.sg_names.specs.declared.table.Callable.TheVariants as callable
 use Rattle.sg_names.specs.Names.{op_named}
 use Rattle.sg_names.specs.Lookups as look
-use Rattle.sg_typing.specs.declared.scope.Variable as scope
+use Rattle.sg_types.specs.declared.scope.Variable as scope
 use Rattle.sg_names.specs.Drafted.{drafted, without_body}
-use Rattle.sg_typing.specs.Types.{unless, is_accepted, do_agree, list_of, list_at}
-use Rattle.sg_typing.specs.Scopes.{found, place_of}
-use Rattle.sg_typing.specs.Bindings.{Owner, outside, behind, reference_at, local_at, variable_at, type_there, place_there}
-use Rattle.sg_typing.specs.Patterns.{variables_of, variables_of_all}
-use Rattle.sg_typing.specs.Patterns as pattern
-use Rattle.sg_typing.specs.Expressions.{type_in, mismatch_in, mismatch_in_all, mismatch_in_cases, recorded, recorded_all, recorded_cases, where_wanted, at_infix, given, infix_in, prefix_type, prefix_of, params_in, at_cons, pair_in, called_in, called_type}
+use Rattle.sg_types.specs.Types.{unless, fits_where, do_agree, list_of, list_at}
+use Rattle.sg_types.specs.Scopes.{found, place_of}
+use Rattle.sg_types.specs.Bindings.{Owner, outside, behind, reference_at, local_at, variable_at, type_there, place_there}
+use Rattle.sg_types.specs.Patterns.{variables_of, variables_of_all}
+use Rattle.sg_types.specs.Patterns as pattern
+use Rattle.sg_types.specs.Expressions.{type_in, mismatch_in, mismatch_in_all, mismatch_in_cases, recorded, recorded_all, recorded_cases, where_wanted, at_infix, given, infix_in, prefix_type, prefix_of, params_in, at_cons, pair_in, called_in, called_type}
 use Rattle.sg_typing.specs.Written.{AreWritten, AreWrittenAll, AreWrittenCases, IsUsable, HasLists, AreOutside, IsCallable, AreCallable, is_builtin, known}
 use Rattle.sg_typing.proofs.RecordTyped.{neither, unless_is, untyped_is, below_is, equal_to, known-append, pattern_typed}
 
@@ -81,7 +82,7 @@ found_known vs S n y h g = by (place_of vs n) g
 -- what an expression where a type is wanted gives
 wanted_is : (t : Table) (wanted : ℕ) (o : Option ℕ) (place : Position) (inside : Option Position) → where_wanted t (Some wanted) o place inside ≡ None → (is_found (drafted t) wanted o ≡ true) × (inside ≡ None)
 wanted_is t wanted o place inside h =
-    let b = neither (unless (is_accepted t (Some wanted) o) place) inside h in
+    let b = neither (unless (fits_where t (Some wanted) o) place) inside h in
     (unless_is (is_found (drafted t) wanted o) place b.0, b.1)
 
 single_typed : (t : Table) (f : Prefix) (q : ℕ) (o : Option ℕ) → o ≡ Some q → typing.is_accepted (drafted t) q (prefix_type f) ≡ true → unary_type (drafted t) (prefix_of f) o ≡ Some (prefix_type f)
@@ -97,10 +98,6 @@ wanted_as t q o found place inside e h = rw e at h
 fits_there : (t : Table) (wanted p : ℕ) (o : Option ℕ) → is_found (drafted t) wanted o ≡ true → typing.where_fits (drafted t) wanted p o ≡ Some p
 fits_there t wanted p None h = cc
 fits_there t wanted p (Some q) h = rw h refl
-
-and_parts : (a b : Bool) → a && b ≡ true → (a ≡ true) × (b ≡ true)
-and_parts true b h = (refl, h)
-and_parts false b h = cc
 
 -- operators between operands
 plain_parts : (t : Table) (wanted : ℕ) (q r : Option ℕ) (x y : Position) (m n : Option Position) → or_else (where_wanted t (Some wanted) q x m) (where_wanted t (Some wanted) r y n) ≡ None

@@ -1,10 +1,7 @@
-pub mod CaseLemmas
-pub mod Smaller
 pub mod RecordTyped
 pub mod ExprTyped
 pub mod TableFacts
 pub mod Kept
-pub mod FirstPlaces
 pub mod ArgsTyped
 pub mod BodyTyped
 pub mod ListsThere

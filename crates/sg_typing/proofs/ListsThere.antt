@@ -14,7 +14,7 @@ use Rattle.sg_kinds.specs.declared.spec.Spec.{Spec}
 use Rattle.sg_names.specs.Drafted.{HasTable}
 use Rattle.sg_names.specs.declared.table.Table.{Table}
 use Rattle.sg_names.proofs.DraftedLaws.{args_kept, phylum_kept}
-use Rattle.sg_typing.specs.Types.{pair_of}
+use Rattle.sg_types.specs.Types.{pair_of}
 use Rattle.sg_typing.specs.Written.{HasLists}
 
 listed : (spec : Spec) (l : ℕ) (x : Phylum) (s : Shape) → is_list_shape s ≡ true → IsShaped spec l x s → IsList spec l x.ops

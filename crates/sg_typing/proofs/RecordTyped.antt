@@ -14,10 +14,10 @@ use Rattle.sg_ast.specs.Patterns.{Pattern, Patterns, Amount, Chars, Truth, Anyth
 use Rattle.sg_names.specs.declared.table.Table.{Table}
 use Rattle.sg_names.specs.Lookups.{usable_named}
 use Rattle.sg_names.specs.Names.{op_named}
-use Rattle.sg_typing.specs.declared.scope.Variable as scope
+use Rattle.sg_types.specs.declared.scope.Variable as scope
 use Rattle.sg_names.specs.Drafted.{drafted}
-use Rattle.sg_typing.specs.Types.{unless, untyped, is_accepted}
-use Rattle.sg_typing.specs.Patterns.{is_wanted, takes_texts, is_operator_of, parts_of, mismatch_in, mismatch_in_all, variables_of, variables_of_all, recorded, recorded_all, signed}
+use Rattle.sg_types.specs.Types.{unless, untyped, fits_where}
+use Rattle.sg_types.specs.Patterns.{is_wanted, takes_texts, is_operator_of, parts_of, mismatch_in, mismatch_in_all, variables_of, variables_of_all, recorded, recorded_all, signed}
 use Rattle.sg_typing.specs.Written.{HasValues, HaveValues, IsUsable, known}
 
 -- options and tests
@@ -63,7 +63,7 @@ signed_is false n h = below_is n (2 ^ 63) h
 signed_is true zero h = refl
 signed_is true (suc n) h = below_is n (2 ^ 63) (omega (arith, h))
 
-found_there : (t : Table) (p : ℕ) (o : Option ℕ) → is_accepted t (Some p) o ≡ true → (q : ℕ) × (o ≡ Some q) × (typing.is_accepted (drafted t) q p ≡ true)
+found_there : (t : Table) (p : ℕ) (o : Option ℕ) → fits_where t (Some p) o ≡ true → (q : ℕ) × (o ≡ Some q) × (typing.is_accepted (drafted t) q p ≡ true)
 found_there t p None h = cc
 found_there t p (Some q) h = (q, refl, h)
 
@@ -94,7 +94,7 @@ module _ (t : Table) (usable : IsUsable t) where
     pattern_typed (Anything place) p v h = refl
     pattern_typed (Variable n) p v h = refl
     pattern_typed (MadeAs made n place) p v h =
-        let x = found_there t p (usable_named t n.text) (unless_is (is_accepted t (Some p) (usable_named t n.text)) place h) in
+        let x = found_there t p (usable_named t n.text) (unless_is (fits_where t (Some p) (usable_named t n.text)) place h) in
         made_fits t made p x.0 (usable_named t n.text) x.1 (usable n.text x.0 x.1) x.2
     pattern_typed (Applied n xs) p v h =
         let b = neither (unless (is_operator_of t (op_named t.ops n.text) (Some p)) n.place) (mismatch_in_all t n.place xs (parts_of t (op_named t.ops n.text))) h in

@@ -2,6 +2,7 @@
 use Rattle.std.proofs.Common.{◌≡◌, refl, sym, ap, subst, ◌∙◌, arith, ℕ, zero, suc, Bool, true, false, nat_eq, List, [], ◌∷◌, length, Option, Some, None, slice_get, get_or}
 use Rattle.std.specs.Prelude.{◌&&◌, not, if◌then◌else◌, option_map, option_and_then, unwrap_or, bytes_eq, codes}
 use Rattle.std.specs.List.{position}
+use Rattle.std.proofs.lemmas.Bool.{and_parts}
 use Rattle.std.proofs.lemmas.List.Quantifiers.{position-Some}
 use Rattle.std.proofs.lemmas.Option.{slice_get-get_or}
 use Rattle.std.proofs.lemmas.Slice.Eq.{bytes_eq-Decides}
@@ -22,7 +23,7 @@ use Rattle.sg_names.specs.declared.table.Callable.TheVariants as callable
 use Rattle.sg_names.specs.Names.{op_named}
 use Rattle.sg_names.specs.Lookups.{phylum_named, is_whitespace, function_named, builtin_named, reference}
 use Rattle.sg_names.specs.Drafted.{drafted}
-use Rattle.sg_typing.specs.Bindings.{OfEquation, is_at, argument, local_slot}
+use Rattle.sg_types.specs.Bindings.{OfEquation, is_at, argument, local_slot}
 use Rattle.sg_typing.specs.Written.{IsUsable, IsCallable, AreCallable, AreOutside, is_builtin}
 use Rattle.sg_typing.proofs.RecordTyped.{equal_is}
 
@@ -119,10 +120,6 @@ types_there t op (x ∷ xs) A (suc k) o h g =
     let c = types_cons t op x xs A h in
     rw c.4 (types_there t op xs c.1 k o c.3 g)
 
-both_true : (a b : Bool) → a && b ≡ true → (a ≡ true) × (b ≡ true)
-both_true true b h = (refl, h)
-both_true false b h = cc
-
 argument_typed : (t : Table) (op : ℕ) (args : List Occurrence) (A : List ℕ) (at slot : ℕ) (x : ℕ × Option ℕ) → types_at (drafted t) op args ≡ Some A → argument t op args at slot ≡ Some x → slice_get A x.0 ≡ x.1
 argument_typed t op args A at slot x h g = by (position (is_at at slot) args) refl g
   where
@@ -130,7 +127,7 @@ argument_typed t op args A at slot x h g = by (position (is_at at slot) args) re
     by None e f = cc
     by (Some k) e f =
         let y = position_there (is_at at slot) args k e in
-        let b = both_true (nat_eq at y.0.at) (nat_eq slot y.0.slot) y.2 in
+        let b = and_parts (nat_eq at y.0.at) (nat_eq slot y.0.slot) y.2 in
         let a : at ≡ y.0.at = equal_is at y.0.at b.0 in
         let s : slot ≡ y.0.slot = equal_is slot y.0.slot b.1 in
         let z : slice_get A k ≡ slot_type (drafted t) op at slot = types_there t op args A k y.0 h y.1 ∙ ap (λ m. slot_type (drafted t) op m y.0.slot) (sym a) ∙ ap (slot_type (drafted t) op at) (sym s) in

@@ -6,7 +6,7 @@ use Rattle.sg_kinds.specs.declared.spec.Occurrence.{Occurrence}
 use Rattle.sg_ast.specs.Expressions.{Expr, Exprs, Cases, Amount, Chars, Truth, Variable, Attribute, MadeOf, Paren, Single, Binary, Choice, Call, Let, With, NoExpr, AndExpr, NoCase, Default, Case}
 use Rattle.sg_names.specs.declared.table.Table.{Table}
 use Rattle.sg_names.specs.Lookups.{reference}
-use Rattle.sg_typing.specs.Bindings.{is_at, local_slot}
+use Rattle.sg_types.specs.Bindings.{is_at, local_slot}
 
 -- an occurrence more, unless it stands already
 abbrev pub added : List Occurrence → Option Occurrence → List Occurrence

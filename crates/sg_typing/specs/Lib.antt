@@ -1,12 +1,4 @@
-pub mod Types
-pub mod Scopes
-pub mod Patterns
-pub mod PatternsView
-pub mod Bindings
-pub mod OwnersView
 pub mod Arguments
-pub mod Expressions
-pub mod ExpressionsView
 pub mod Bodies
 pub mod BodiesView
 pub mod Shown

@@ -11,7 +11,7 @@ use Rattle.sg_ast.specs.declared.decl.Item.{Item}
 use Rattle.sg_ast.specs.declared.decl.Item.TheVariants as item
 use Rattle.sg_ast.specs.declared.decl.SchemeDecl.{SchemeDecl}
 use Rattle.sg_names.specs.declared.table.Table.{Table}
-use Rattle.sg_typing.specs.Types.{unless}
+use Rattle.sg_types.specs.Types.{unless}
 use Rattle.sg_typing.specs.Bodies.{operator, target_type}
 
 -- the first token of what is shown

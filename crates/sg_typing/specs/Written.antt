@@ -14,12 +14,12 @@ use Rattle.sg_names.specs.declared.table.Callable.TheVariants as callable
 use Rattle.sg_kinds.specs.declared.marks.Unary.{Unary}
 use Rattle.sg_kinds.specs.declared.marks.Unary.TheVariants.{TextToNumber, NumberToText, TextLength}
 use Rattle.sg_names.specs.Lookups.{usable_named, callable as callable_named}
-use Rattle.sg_typing.specs.declared.scope.Variable.{Variable}
+use Rattle.sg_types.specs.declared.scope.Variable.{Variable}
 use Rattle.sg_kinds.specs.Specification.{phylum_of, args_of}
 use Rattle.sg_ast.specs.declared.name.Reference.{Reference}
 use Rattle.sg_names.specs.Drafted.{drafted}
-use Rattle.sg_typing.specs.Types.{list_at}
-use Rattle.sg_typing.specs.Bindings.{Owner, outside, reference_at, local_at}
+use Rattle.sg_types.specs.Types.{list_at}
+use Rattle.sg_types.specs.Bindings.{Owner, outside, reference_at, local_at}
 
 -- numbers are below 2^63, and strings are texts
 abbrev mutual

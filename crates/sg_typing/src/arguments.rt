@@ -3,13 +3,13 @@ ghost use Rattle.std.specs.Prelude.{◌≡◌, OnOk, IfOk};
 ghost use Rattle.sg_ast.specs.View.{expr_of, exprs_of, cases_of};
 ghost use Rattle.sg_typing.specs.Arguments as spec;
 
-use crate::bindings::{local_slot, place_of};
 use sg_ast::expr::{Cases, Expr, Exprs};
 use sg_kinds::ids::OpId;
 use sg_kinds::memory::NoMemory;
 use sg_kinds::spec::Occurrence;
 use sg_kinds::text::Text;
 use sg_names::names::Names;
+use sg_types::bindings::{local_slot, place_of};
 use std::alloc::Global;
 
 // an occurrence more, unless it stands already

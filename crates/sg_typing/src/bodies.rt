@@ -4,19 +4,13 @@ ghost use Rattle.sg_ast.specs.FirstFault.{first};
 ghost use Rattle.sg_ast.specs.View.{tree_of, trees_of, equation_of, right_of, expr_of, pattern_of};
 ghost use Rattle.sg_kinds.specs.ExprView as view;
 ghost use Rattle.sg_typing.specs.Bodies as spec;
-ghost use Rattle.sg_typing.specs.Bindings.{OfEquation};
-ghost use Rattle.sg_typing.specs.Expressions.{where_wanted};
-ghost use Rattle.sg_typing.specs.ExpressionsView.{IsFound};
+ghost use Rattle.sg_types.specs.Bindings.{OfEquation};
+ghost use Rattle.sg_types.specs.Expressions.{where_wanted};
+ghost use Rattle.sg_types.specs.ExpressionsView.{IsFound};
 ghost use Rattle.sg_typing.specs.BodiesView.{AreBodies};
-ghost use Rattle.sg_typing.specs.Patterns as patterns;
+ghost use Rattle.sg_types.specs.Patterns as patterns;
 
 use crate::arguments::args_in;
-use crate::bindings::{Owner, local_slot, slot_type};
-use crate::expr::{Walk, expr};
-use crate::found::{Found, where_wanted};
-use crate::pattern::pattern;
-use crate::scope::{Scope, Variable};
-use crate::types::{earlier, op_or_none, phylum_or_none};
 use sg_ast::decl::{Decl, Equation, Right, Target};
 use sg_ast::expr::Expr as Written;
 use sg_ast::name::{Name, Typed as Param};
@@ -29,6 +23,12 @@ use sg_kinds::pattern::Pattern;
 use sg_kinds::row::Row;
 use sg_kinds::spec::Occurrence;
 use sg_names::names::Names;
+use sg_types::bindings::{Owner, local_slot, slot_type};
+use sg_types::expr::{Walk, expr};
+use sg_types::found::{Found, where_wanted};
+use sg_types::pattern::pattern;
+use sg_types::scope::{Scope, Variable};
+use sg_types::types::{earlier, op_or_none, phylum_or_none};
 use std::alloc::Global;
 
 /// An expression of the record, its type, and of an equation its arguments: the different occurrences that it names, in the

@@ -7,12 +7,12 @@ ghost use Rattle.sg_kinds.specs.Typing.{bound_types, is_found, type_of, types_at
 ghost use Rattle.sg_kinds.specs.declared.spec.Occurrence.{Occurrence};
 ghost use Rattle.sg_kinds.specs.declared.spec.Spec.{Spec};
 ghost use Rattle.sg_names.specs.declared.table.Table.{Table};
-ghost use Rattle.sg_typing.specs.declared.scope.Variable.{Variable};
-ghost use Rattle.sg_typing.specs.Bindings.{Owner, OfEquation};
+ghost use Rattle.sg_types.specs.declared.scope.Variable.{Variable};
+ghost use Rattle.sg_types.specs.Bindings.{Owner, OfEquation};
 ghost use Rattle.sg_names.specs.Drafted.{HasTable, drafted};
 ghost use Rattle.sg_typing.specs.Arguments.{args_in};
-ghost use Rattle.sg_typing.specs.Expressions as expr;
-ghost use Rattle.sg_typing.specs.Patterns.{mismatch_in, recorded, variables_of};
+ghost use Rattle.sg_types.specs.Expressions as expr;
+ghost use Rattle.sg_types.specs.Patterns.{mismatch_in, recorded, variables_of};
 ghost use Rattle.sg_typing.specs.Written.{HasValues, AreWritten, HasLists, AreOutside, known};
 
 /// A pattern without a mismatch binds its variables in the record too, each with its type.
