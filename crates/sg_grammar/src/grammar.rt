@@ -1,7 +1,7 @@
 //! `Grammar`, productions over numbered symbols.
-ghost use Rattle.std.specs.Prelude.{◌≡◌, ◌+◌, ◌<◌, ◌≤◌, ◌↔◌, ◌++◌, length, slice_get, All, IsTrue, IfOk, IfSome, IfNone, Some};
+ghost use Rattle.std.specs.Prelude.{◌≡◌, ◌+◌, ◌<◌, ◌≤◌, ◌↔◌, ◌++◌, ◌^◌, ℕ, suc, length, slice_get, All, IsTrue, IfOk, IfSome, IfNone, Some};
 ghost use Rattle.sg_grammar.specs.Grammar.{grammar, right_of, symbol_at};
-ghost use Rattle.sg_grammar.specs.WellFormed.{IsRight, IsRule, IsWellFormed};
+ghost use Rattle.sg_grammar.specs.WellFormed.{AreBetween, IsRule, IsStart, IsWellFormed};
 
 use sg_kinds::copy::TryCopy;
 use sg_kinds::ids::ExprId;
@@ -61,7 +61,8 @@ impl Model for Grammar {
 pub const MOST: usize = 1 << 30;
 
 impl Grammar {
-    /// The grammar of these productions, or None exactly where a number in them is out of range.
+    /// The grammar of these productions, or None exactly where a number in them is out of range, the end or a marker stands on
+    /// a right side, or a start production does not begin with its marker.
     pub fn new(
         rules: Row<Production>,
         entries: Row<Production>,
@@ -71,13 +72,7 @@ impl Grammar {
         ensures some { IfSome result (λ g. g ≡ grammar rules entries terminals symbols) }
         ensures none { IfNone result (IsWellFormed (grammar rules entries terminals symbols) → ⊥) }
     {
-        if 0 < terminals
-            && terminals <= symbols
-            && rules.len() <= MOST
-            && entries.len() <= MOST
-            && are_rules(rules.as_slice(), terminals, symbols)
-            && are_rights(entries.as_slice(), symbols)
-        {
+        if is_well_formed(rules.as_slice(), entries.as_slice(), terminals, symbols) {
             Some(Grammar {
                 rules,
                 entries,
@@ -162,27 +157,70 @@ impl Grammar {
     }
 }
 
-/// Whether each symbol of a right side is in range.
-fn is_right(right: &[u32], symbols: u32) -> bool
-    ensures { IsTrue result ↔ IsRight symbols right.now }
+/// Whether there are not too many productions, and terminals for the end and the markers.
+fn are_counted(rules: usize, entries: usize, terminals: u32, symbols: u32) -> bool
+    ensures { IsTrue result ↔ ((rules ≤ 2 ^ 30) × (entries ≤ 2 ^ 30) × (entries < terminals) × (terminals ≤ symbols)) }
 {
-    right.len() <= MOST && right.iter().all(|x| *x < symbols)
+    rules <= MOST && entries <= MOST && entries < terminals as usize && terminals <= symbols
 }
 
-/// Whether each symbol of the right sides is in range.
-fn are_rights(productions: &[Production], symbols: u32) -> bool
-    ensures { IsTrue result ↔ All (λ r. IsRight symbols r.right) productions.now }
+/// Whether these are the productions of a grammar.
+fn is_well_formed(
+    rules: &[Production],
+    entries: &[Production],
+    terminals: u32,
+    symbols: u32,
+) -> bool
+    ensures { IsTrue result ↔ IsWellFormed (grammar rules.now entries.now terminals symbols) }
 {
-    productions
-        .iter()
-        .all(|r| is_right(r.right.as_slice(), symbols))
+    if !are_counted(rules.len(), entries.len(), terminals, symbols) {
+        return false;
+    }
+    let first = entries.len() as u32 + 1;
+    are_rules(rules, first, terminals, symbols) && are_starts(entries, first, symbols)
 }
 
-/// Whether each symbol is in range, and each left side a nonterminal.
-fn are_rules(productions: &[Production], terminals: u32, symbols: u32) -> bool
-    ensures { IsTrue result ↔ All (IsRule terminals symbols) productions.now }
+/// Whether each symbol is in range, and none of the first.
+fn are_between(right: &[u32], first: u32, symbols: u32) -> bool
+    ensures { IsTrue result ↔ AreBetween first symbols right.now }
+{
+    right.iter().all(|x| first <= *x && *x < symbols)
+}
+
+/// Whether it is the right side of the start production of the entry at a place.
+fn is_start(place: usize, right: &[u32], first: u32, symbols: u32) -> bool
+    requires { place < 2 ^ 30 }
+    ensures { IsTrue result ↔ IsStart first symbols place right.now }
+{
+    match right {
+        [] => false,
+        [marker, rest @ ..] => {
+            *marker as usize == place + 1 && rest.len() < MOST && are_between(rest, first, symbols)
+        }
+    }
+}
+
+/// Whether each right side is that of a start production.
+fn are_starts(entries: &[Production], first: u32, symbols: u32) -> bool
+    requires { length entries.now ≤ 2 ^ 30 }
+    ensures { IsTrue result ↔ ((k : ℕ) (r : Production) → slice_get entries.now k ≡ Some r → IsStart first symbols k r.right) }
+{
+    for (place, entry) in entries.iter().enumerate() {
+        if !is_start(place, entry.right.as_slice(), first, symbols) {
+            return false;
+        }
+    }
+    true
+}
+
+/// Whether each symbol of a right side is in range and none of the first, and each left side a nonterminal.
+fn are_rules(productions: &[Production], first: u32, terminals: u32, symbols: u32) -> bool
+    ensures { IsTrue result ↔ All (IsRule first terminals symbols) productions.now }
 {
     productions.iter().all(|r| {
-        terminals <= r.left && r.left < symbols && is_right(r.right.as_slice(), symbols)
+        terminals <= r.left
+            && r.left < symbols
+            && r.right.len() <= MOST
+            && are_between(r.right.as_slice(), first, symbols)
     })
 }

@@ -1,8 +1,9 @@
 //! The input grammar of a specification, whose symbols are numbers in their order.
 #![tactic(auto)]
 
-pub mod grammar;
+mod grammar;
 mod named;
-pub mod numbering;
-#[cfg(test)]
-mod tests;
+mod numbering;
+
+pub use grammar::{Grammar, Made, Production};
+pub use numbering::make;

@@ -7,8 +7,8 @@ use Rattle.sg_grammar.specs.Grammar.{Grammar}
 use Rattle.sg_grammar.specs.Derives.{AllProductive, IsFirstUnproductive}
 use Rattle.sg_lalr.specs.declared.conflict.Deed.{Deed}
 use Rattle.sg_lalr.specs.declared.conflict.Deed.TheVariants.{Shifts, Reduces}
-use Rattle.sg_lalr.specs.declared.tables.TableFault.{TableFault}
-use Rattle.sg_lalr.specs.declared.tables.TableFault.TheVariants as fault
+use Rattle.sg_lalr.specs.declared.table.TableFault.{TableFault}
+use Rattle.sg_lalr.specs.declared.table.TableFault.TheVariants as fault
 use Rattle.sg_lalr.specs.Items.{Item, item, Before}
 use Rattle.sg_lalr.specs.Prefixes.{Less, TooMany}
 use Rattle.sg_lalr.specs.Conflict.{Acts, Conflict, LeastConflict}

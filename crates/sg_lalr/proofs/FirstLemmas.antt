@@ -176,8 +176,8 @@ links-within g set links rows formed long linked k d l =
     let pair = get_or links k d in
     let b = (linked pair.0 pair.1).0 (Contains-get_or links k d l) in
     let r = b.1 in
-    let rule : IsRule g.terminals g.symbols b.0 = subst (IsRule g.terminals g.symbols) r.2 (formed.rules r.0 b.0 r.1) in
-    let symbol : pair.0 < g.symbols = subst (λ X. X < g.symbols) (get_or_from_slice_get b.0.right b.3.0 pair.0 0 b.3.2) (rule.2.1 b.3.0 0 (slice_get_within b.0.right b.3.0 pair.0 b.3.2)) in
+    let rule : IsRule (suc (length g.entries)) g.terminals g.symbols b.0 = subst (IsRule (suc (length g.entries)) g.terminals g.symbols) r.2 (formed.rules r.0 b.0 r.1) in
+    let symbol : pair.0 < g.symbols = subst (λ X. X < g.symbols) (get_or_from_slice_get b.0.right b.3.0 pair.0 0 b.3.2) (rule.2.1 b.3.0 0 (slice_get_within b.0.right b.3.0 pair.0 b.3.2)).1 in
     (omega (arith, symbol, long), subst (λ n. n < length rows) (sym b.2) (let m = rule.1 in omega (arith, m, long)))
 
 -- what begins, with a terminal behind it

@@ -17,5 +17,6 @@ pub mod LookLemmas
 pub mod ClashLemmas
 pub mod ConflictLemmas
 pub mod TableLemmas
+pub mod Searching
 pub mod TableLaws
 pub mod FaultLaws

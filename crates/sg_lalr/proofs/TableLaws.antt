@@ -3,8 +3,8 @@ use Rattle.std.proofs.Common.{◌≡◌, ◌≢◌, ℕ, ◌<◌, ◌⊎◌, inl
 use Rattle.std.proofs.lemmas.Bool.{cases_eq, cases_order}
 use Rattle.sg_lalr.specs.declared.conflict.Deed.{Deed}
 use Rattle.sg_lalr.specs.declared.conflict.Deed.TheVariants.{Shifts, Reduces}
-use Rattle.sg_lalr.specs.declared.tables.Action.{Action}
-use Rattle.sg_lalr.specs.declared.tables.Action.TheVariants.{Shift, Reduce, Accept, Stop}
+use Rattle.sg_lalr.specs.declared.table.Action.{Action}
+use Rattle.sg_lalr.specs.declared.table.Action.TheVariants.{Shift, Reduce, Accept, Stop}
 use Rattle.sg_lalr.specs.Automaton.{row_at}
 use Rattle.sg_lalr.specs.Tables.{View, IsTables, Leads, ActsIn, IsAction}
 use Rattle.sg_lalr.proofs.RisingLemmas.{rising-same}

@@ -10,7 +10,7 @@ use Rattle.sg_lalr.specs.declared.states.Origin.{Origin}
 use Rattle.sg_lalr.specs.declared.lookaheads.Node.{Node}
 use Rattle.sg_lalr.specs.declared.conflict.Deed.{Deed}
 use Rattle.sg_lalr.specs.declared.conflict.Deed.TheVariants.{Shifts, Reduces}
-use Rattle.sg_lalr.specs.declared.tables.Action.TheVariants as action
+use Rattle.sg_lalr.specs.declared.table.Action.TheVariants as action
 use Rattle.sg_lalr.specs.ValidItems.{Valid, start, close, step, Viable, SameCore}
 use Rattle.sg_lalr.specs.Items.{Item, HasNext, symbol_of}
 use Rattle.sg_lalr.specs.Automaton.{row_at, goto, IsWhole, state_of}

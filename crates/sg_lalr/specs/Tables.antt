@@ -8,11 +8,11 @@ use Rattle.sg_lalr.specs.declared.states.Origin.{Origin}
 use Rattle.sg_lalr.specs.declared.lookaheads.Node.{Node}
 use Rattle.sg_lalr.specs.declared.conflict.Deed.{Deed}
 use Rattle.sg_lalr.specs.declared.conflict.Deed.TheVariants.{Shifts, Reduces}
-pub use Rattle.sg_lalr.specs.declared.tables.Action.{Action}
-use Rattle.sg_lalr.specs.declared.tables.Action.TheVariants as action
-pub use Rattle.sg_lalr.specs.declared.tables.TableFault.{TableFault}
-use Rattle.sg_lalr.specs.declared.tables.TableFault.TheVariants as fault
-use Rattle.sg_lalr.specs.Items.{Item, item, IsRising}
+pub use Rattle.sg_lalr.specs.declared.table.Action.{Action}
+use Rattle.sg_lalr.specs.declared.table.Action.TheVariants as action
+pub use Rattle.sg_lalr.specs.declared.table.TableFault.{TableFault}
+use Rattle.sg_lalr.specs.declared.table.TableFault.TheVariants as fault
+use Rattle.sg_lalr.specs.Items.{Item, item, IsRising, HasNext}
 use Rattle.sg_lalr.specs.ValidItems.{InCore, Viable}
 use Rattle.sg_lalr.specs.Prefixes.{TooMany}
 use Rattle.sg_lalr.specs.Conflict.{Acts, LeastConflict, IsQuiet}
@@ -55,6 +55,13 @@ IsAction v s t (action.Shift u) = ActsIn v s t Shifts × Leads v s t u
 IsAction v s t (action.Reduce p) = (p < length v.grammar.rules) × ActsIn v s t (Reduces p)
 IsAction v s t action.Accept = (p : ℕ) × (length v.grammar.rules ≤ p) × ActsIn v s t (Reduces p)
 IsAction v s t action.Stop = (w : List ℕ) (i : Item) (a : Deed) → IsCore v.grammar w (row_at v.cores s) → Acts v.grammar w t i a → ⊥
+
+-- what is decided of tables: what a state does on a terminal, and the state behind a symbol
+pub record Decided (v : View) : Type 0 where
+  pub act : ℕ → ℕ → Action
+  pub go : ℕ → ℕ → ℕ
+  pub acts : (s t : ℕ) → s < length v.cores → t < v.grammar.terminals → IsAction v s t (act s t)
+  pub leads : (s X : ℕ) → s < length v.cores → HasNext v.grammar (row_at v.cores s) X → Leads v s X (go s X)
 
 -- why a grammar has no tables
 abbrev pub IsTableFault : Grammar → TableFault → Type 0

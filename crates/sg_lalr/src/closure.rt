@@ -5,11 +5,10 @@ ghost use Rattle.sg_sets.specs.Rows.{Holds};
 ghost use Rattle.sg_lalr.specs.Items.{Item, IsRising};
 ghost use Rattle.sg_lalr.specs.Closure.{HasLeft, LeadsTo, Corner, Opens, OpensAt, InRange, IsOpened, IsKernel, IsClosure};
 
-use crate::NoMemory;
 use crate::items::Item;
-use sg_grammar::grammar::{Grammar, Production};
+use sg_grammar::{Grammar, Production};
 use sg_sets::{BitSet, Relation};
-use std::alloc::Global;
+use std::alloc::{AllocError, Global};
 
 /// Relates a production to those of a left side.
 fn add_lefts(relation: &mut Relation, rules: &[Production], a: usize, left: u32)
@@ -46,7 +45,7 @@ fn lead(relation: &mut Relation, rules: &[Production], a: usize)
 }
 
 /// The left corners of the productions.
-pub(crate) fn corners(alloc: Global, rules: &[Production]) -> Result<Relation, NoMemory>
+pub(crate) fn corners(alloc: Global, rules: &[Production]) -> Result<Relation, AllocError>
     ensures size { IfOk result (λ r. length r ≡ length rules.now) }
     ensures exact { IfOk result (λ r. (x y : ℕ) → Holds r x y ↔ Corner rules.now x y) }
 {
@@ -90,7 +89,12 @@ fn open_all(g: &Grammar, corners: &Relation, kernel: &[Item], set: &mut BitSet)
 }
 
 /// The items of a kernel and the beginnings of the productions of a set, in their order.
-fn merge(alloc: Global, rules: u32, opened: &BitSet, kernel: &[Item]) -> Result<Vec<Item>, NoMemory>
+fn merge(
+    alloc: Global,
+    rules: u32,
+    opened: &BitSet,
+    kernel: &[Item],
+) -> Result<Vec<Item>, AllocError>
     requires rising { IsRising kernel.now }
     requires dots { All (λ i. i.production < rules → 0 < i.dot) kernel.now }
     ensures rising { IfOk result (λ v. IsRising v.items) }
@@ -120,7 +124,7 @@ pub(crate) fn closure(
     g: &Grammar,
     corners: &Relation,
     kernel: &[Item],
-) -> Result<Vec<Item>, NoMemory>
+) -> Result<Vec<Item>, AllocError>
     requires size { length corners.now ≡ length g.now.rules }
     requires exact { (x y : ℕ) → Holds corners.now x y ↔ Corner g.now.rules x y }
     requires kernel { IsKernel g.now kernel.now }

@@ -9,7 +9,7 @@ ghost use Rattle.sg_lalr.specs.Clashes.{Does, Clashes, IsApart, ShiftsThere};
 use crate::items::Item;
 use crate::lookaheads::Node;
 use crate::moves::symbol_of;
-use sg_grammar::grammar::Grammar;
+use sg_grammar::Grammar;
 use sg_sets::{BitSet, Rows};
 
 /// What an item does on a terminal: it shifts it, or reduces by a production.

@@ -6,11 +6,10 @@ ghost use Rattle.sg_sets.specs.Rows.{Holds, AreRows};
 ghost use Rattle.sg_grammar.specs.declared.grammar.Production.{Production};
 ghost use Rattle.sg_lalr.specs.Firsts.{First, StandsBehind, IsNullable};
 
-use crate::NoMemory;
 use crate::least_set::has_all;
-use sg_grammar::grammar::{Grammar, Production};
+use sg_grammar::{Grammar, Production};
 use sg_sets::{BitSet, Rows};
-use std::alloc::Global;
+use std::alloc::{AllocError, Global};
 
 /// Whether a set has the first symbols of a string.
 fn has_front(set: &BitSet, symbols: &[u32], n: usize) -> bool
@@ -25,7 +24,7 @@ fn link_rule(
     nullable: &BitSet,
     rule: &Production,
     links: &mut Vec<(usize, usize)>,
-) -> Result<(), NoMemory>
+) -> Result<(), AllocError>
     ensures { OnOk result ((a b : ℕ) → Linked links.new.items a b ↔ (Linked links.old.items a b ⊎ ((b ≡ rule.now.left) × StandsBehind nullable.now rule.now.right a))) }
 {
     let right = rule.right.as_slice();
@@ -42,7 +41,7 @@ fn link_rules(
     alloc: Global,
     nullable: &BitSet,
     rules: &[Production],
-) -> Result<Vec<(usize, usize)>, NoMemory>
+) -> Result<Vec<(usize, usize)>, AllocError>
     ensures { IfOk result (λ v. (a b : ℕ) → Linked v.items a b ↔ ((r : Production) × Contains rules.now r × (b ≡ r.left) × StandsBehind nullable.now r.right a)) }
 {
     let mut links = Vec::new(alloc);
@@ -53,7 +52,7 @@ fn link_rules(
 }
 
 /// For each symbol the terminals with which it begins.
-pub(crate) fn firsts(alloc: Global, g: &Grammar, nullable: &BitSet) -> Result<Rows, NoMemory>
+pub(crate) fn firsts(alloc: Global, g: &Grammar, nullable: &BitSet) -> Result<Rows, AllocError>
     requires { IsNullable g.now nullable.now }
     ensures count { IfOk result (λ rows. length rows.rows ≡ g.now.symbols) }
     ensures width { IfOk result (λ rows. rows.width ≡ g.now.terminals) }
@@ -75,7 +74,7 @@ pub(crate) fn first_of(
     nullable: &BitSet,
     rows: &Rows,
     symbols: &[u32],
-) -> Result<BitSet, NoMemory>
+) -> Result<BitSet, AllocError>
     requires { All (λ X. X < length rows.now.rows) symbols.now }
     ensures width { IfOk result (λ s. length s ≡ rows.now.width) }
     ensures exact { IfOk result (λ s. (u : ℕ) → Has s u ↔ ((Y : ℕ) × StandsBehind nullable.now symbols.now Y × Holds rows.now.rows Y u)) }

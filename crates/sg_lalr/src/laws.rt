@@ -3,7 +3,7 @@ ghost use Rattle.std.specs.Prelude.{◌≡◌, ◌≢◌, ℕ, ◌<◌, length};
 ghost use Rattle.sg_grammar.specs.Grammar.{Grammar};
 ghost use Rattle.sg_lalr.specs.Prefixes.{TooMany};
 ghost use Rattle.sg_lalr.specs.Tables.{Action, TableFault, View, IsAction, IsTableFault, IsTables, Leads};
-ghost use Rattle.sg_lalr.specs.declared.tables.TableFault.TheVariants as fault;
+ghost use Rattle.sg_lalr.specs.declared.table.TableFault.TheVariants as fault;
 
 /// A state does one thing on a terminal: the four answers of `Tables::action` exclude each other.
 pub fn one_action()

@@ -2,11 +2,10 @@
 ghost use Rattle.std.specs.Prelude.{◌≡◌, ◌≤◌, ◌++◌, length, map, IfOk, OnOk};
 ghost use Rattle.sg_lalr.specs.Lookaheads.{node, IsLaid};
 
-use crate::NoMemory;
 use crate::items::Item;
 use crate::lookaheads::Node;
 use sg_kinds::row::Row;
-use std::alloc::Global;
+use std::alloc::{AllocError, Global};
 
 /// The items of all states, and for each state the place of its first one; the last place is their number.
 #[derive(Drop)]
@@ -16,7 +15,7 @@ pub(crate) struct Layout {
 }
 
 /// Puts the items of a state behind the others.
-fn push_core(nodes: &mut Vec<Node>, state: u32, core: &[Item]) -> Result<(), NoMemory>
+fn push_core(nodes: &mut Vec<Node>, state: u32, core: &[Item]) -> Result<(), AllocError>
     ensures { OnOk result (nodes.new.items ≡ nodes.old.items ++ map (node state) core.now) }
 {
     for item in core {
@@ -26,7 +25,7 @@ fn push_core(nodes: &mut Vec<Node>, state: u32, core: &[Item]) -> Result<(), NoM
 }
 
 /// The items of all states, in order.
-pub(crate) fn lay(alloc: Global, cores: &[Row<Item>]) -> Result<Layout, NoMemory>
+pub(crate) fn lay(alloc: Global, cores: &[Row<Item>]) -> Result<Layout, AllocError>
     requires { length cores.now ≤ 65536 }
     ensures { IfOk result (λ l. IsLaid cores.now l.nodes.items l.firsts.items) }
 {

@@ -4,10 +4,9 @@ ghost use Rattle.std.specs.Bool.{OnTrue, OnFalse};
 ghost use Rattle.sg_sets.specs.Members.{Has, missing_of};
 ghost use Rattle.sg_lalr.specs.Least.{Grown, HasOnly, IsClosed};
 
-use crate::NoMemory;
-use sg_grammar::grammar::{Grammar, Production};
+use sg_grammar::{Grammar, Production};
 use sg_sets::BitSet;
-use std::alloc::Global;
+use std::alloc::{AllocError, Global};
 
 /// Whether a set has each symbol.
 pub(crate) fn has_all(set: &BitSet, symbols: &[u32]) -> bool
@@ -48,7 +47,7 @@ fn grow(rules: &[Production], set: &mut BitSet) -> bool
 }
 
 /// The least set that has the symbols below a bound, and each left side whose right side it has.
-pub(crate) fn least_set(alloc: Global, g: &Grammar, low: u32) -> Result<BitSet, NoMemory>
+pub(crate) fn least_set(alloc: Global, g: &Grammar, low: u32) -> Result<BitSet, AllocError>
     requires { low ≤ g.now.symbols }
     ensures width { IfOk result (λ s. length s ≡ g.now.symbols) }
     ensures exact { IfOk result (λ s. (X : ℕ) → Has s X ↔ Grown g.now.rules low (X ∷ [])) }

@@ -2,21 +2,20 @@
 #![tactic(auto)]
 
 mod closure;
-pub mod conflict;
+mod conflict;
 mod firsts;
-pub mod items;
+mod items;
 pub mod laws;
 mod layout;
 mod least_set;
 mod lookaheads;
-pub mod making;
+mod making;
 mod moves;
 mod productive;
 mod search;
 mod states;
-pub mod tables;
-#[cfg(test)]
-mod tests;
+mod table;
 
-/// Want of memory, while tables are made.
-type NoMemory = std::alloc::AllocError;
+pub use items::Item;
+pub use making::tables;
+pub use table::{Action, TableFault, Tables};

@@ -11,17 +11,16 @@ ghost use Rattle.sg_lalr.specs.Least.{Grown};
 ghost use Rattle.sg_lalr.specs.Firsts.{First, IsNullable};
 ghost use Rattle.sg_lalr.specs.Lookaheads.{node_at, rest_of, BeginsWith, IsStart, IsLaid, OpensTo, FlowsTo, Gives, AreLookaheads};
 
-use crate::NoMemory;
 use crate::firsts::{first_of, firsts};
 use crate::items::Item;
 use crate::layout::{Layout, lay};
 use crate::least_set::{has_all, least_set};
 use crate::moves::symbol_of;
 use crate::states::{Automaton, Move};
-use sg_grammar::grammar::Grammar;
+use sg_grammar::Grammar;
 use sg_kinds::row::Row;
 use sg_sets::{BitSet, Rows};
-use std::alloc::Global;
+use std::alloc::{AllocError, Global};
 
 /// An item of a state.
 #[derive(Clone, Copy)]
@@ -68,7 +67,7 @@ fn link_item(
     a: usize,
     item: Item,
     links: &mut Vec<(usize, usize)>,
-) -> Result<(), NoMemory>
+) -> Result<(), AllocError>
     requires order { from ≤ to }
     requires to { to ≤ length nodes.now }
     ensures { OnOk result ((x y : ℕ) → Linked links.new.items x y ↔ (Linked links.old.items x y ⊎ ((x ≡ a) × (from ≤ y) × (y < to) × ((node_at nodes.now y).item ≡ item)))) }
@@ -90,7 +89,7 @@ fn link_begun(
     a: usize,
     x: u32,
     links: &mut Vec<(usize, usize)>,
-) -> Result<(), NoMemory>
+) -> Result<(), AllocError>
     requires order { from ≤ to }
     requires to { to ≤ length nodes.now }
     ensures { OnOk result ((x' y : ℕ) → Linked links.new.items x' y ↔ (Linked links.old.items x' y ⊎ ((x' ≡ a) × (from ≤ y) × (y < to) × BeginsWith g.now (node_at nodes.now y).item x))) }
@@ -169,7 +168,7 @@ fn open_node(
     a: usize,
     x: u32,
     flow: &mut Flow,
-) -> Result<(), NoMemory>
+) -> Result<(), AllocError>
     requires there { a < length layout.now.nodes.items }
     requires symbol { symbol_of g.now (node_at layout.now.nodes.items a).item ≡ Some x }
     requires range { InRange g.now (node_at layout.now.nodes.items a).item }
@@ -213,7 +212,7 @@ fn link_node(
     layout: &Layout,
     a: usize,
     flow: &mut Flow,
-) -> Result<(), NoMemory>
+) -> Result<(), AllocError>
     requires there { a < length layout.now.nodes.items }
     requires whole { IsWhole g.now (map (λ k. k.items) automaton.now.kernels.keys) automaton.now.cores.items automaton.now.moves.items automaton.now.origins.items }
     requires laid { IsLaid automaton.now.cores.items layout.now.nodes.items layout.now.firsts.items }
@@ -269,7 +268,7 @@ pub(crate) fn all_lookaheads(
     alloc: Global,
     g: &Grammar,
     automaton: &Automaton,
-) -> Result<Lookaheads, NoMemory>
+) -> Result<Lookaheads, AllocError>
     requires productive { AllProductive g.now }
     requires entry { 0 < length g.now.entries }
     requires whole { IsWhole g.now (map (λ k. k.items) automaton.now.kernels.keys) automaton.now.cores.items automaton.now.moves.items automaton.now.origins.items }

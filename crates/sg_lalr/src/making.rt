@@ -4,8 +4,8 @@ ghost use Rattle.sg_lalr.specs.Prefixes.{TooMany};
 ghost use Rattle.sg_lalr.specs.Tables.{IsTableFault};
 
 use crate::productive::first_unproductive;
-use crate::tables::{TableFault, Tables, with_entry, without_entry};
-use sg_grammar::grammar::Grammar;
+use crate::table::{TableFault, Tables, with_entry, without_entry};
+use sg_grammar::Grammar;
 use std::alloc::Global;
 
 /// The tables of a grammar, or why it has none: its first unproductive symbol, then too many states, then its least conflict.

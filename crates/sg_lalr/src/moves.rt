@@ -3,10 +3,9 @@ ghost use Rattle.std.specs.Prelude.{◌≡◌, ℕ, ◌+◌, ◌^◌, ◌<◌, �
 ghost use Rattle.sg_lalr.specs.Items.{HasNext, symbol_of, advance};
 ghost use Rattle.sg_lalr.specs.Closure.{InRange};
 
-use crate::NoMemory;
 use crate::items::Item;
-use sg_grammar::grammar::Grammar;
-use std::alloc::Global;
+use sg_grammar::Grammar;
+use std::alloc::{AllocError, Global};
 
 /// The symbol behind an item's dot.
 pub(crate) fn symbol_of(g: &Grammar, item: Item) -> Option<u32>
@@ -47,7 +46,7 @@ pub(crate) fn next_symbol(g: &Grammar, items: &[Item], bound: u32) -> u32
 }
 
 /// Puts an item with its dot behind the symbol after the others, where its dot is before it.
-fn push_moved(g: &Grammar, x: u32, item: Item, kernel: &mut Vec<Item>) -> Result<(), NoMemory>
+fn push_moved(g: &Grammar, x: u32, item: Item, kernel: &mut Vec<Item>) -> Result<(), AllocError>
     requires { InRange g.now item }
     ensures { OnOk result (kernel.new.items ≡ kernel.old.items ++ advance g.now x (item ∷ [])) }
 {
@@ -70,7 +69,7 @@ pub(crate) fn advance(
     g: &Grammar,
     x: u32,
     items: &[Item],
-) -> Result<Vec<Item>, NoMemory>
+) -> Result<Vec<Item>, AllocError>
     requires { All (InRange g.now) items.now }
     ensures { IfOk result (λ v. v.items ≡ advance g.now x items.now) }
 {

@@ -2,13 +2,12 @@
 ghost use Rattle.std.specs.Prelude.{IfOk, IfSome, IfNone};
 ghost use Rattle.sg_grammar.specs.Derives.{AllProductive, IsFirstUnproductive};
 
-use crate::NoMemory;
 use crate::least_set::least_set;
-use sg_grammar::grammar::Grammar;
-use std::alloc::Global;
+use sg_grammar::Grammar;
+use std::alloc::{AllocError, Global};
 
 /// The first symbol that derives no tokens, or None where each derives some.
-pub(crate) fn first_unproductive(alloc: Global, g: &Grammar) -> Result<Option<u32>, NoMemory>
+pub(crate) fn first_unproductive(alloc: Global, g: &Grammar) -> Result<Option<u32>, AllocError>
     ensures none { IfOk result (λ found. IfNone found (AllProductive g.now)) }
     ensures some { IfOk result (λ found. IfSome found (IsFirstUnproductive g.now)) }
 {

@@ -6,15 +6,14 @@ ghost use Rattle.sg_lalr.specs.Lookaheads.{IsLaid, AreLookaheads};
 ghost use Rattle.sg_lalr.specs.Clashes.{Clashes, IsClearBelow};
 ghost use Rattle.sg_lalr.specs.Conflict.{LeastConflict, IsQuiet};
 
-use crate::NoMemory;
 use crate::conflict::{first_but, least_clash};
 use crate::items::Item;
 use crate::lookaheads::Lookaheads;
 use crate::states::{Automaton, Origin};
-use sg_grammar::grammar::Grammar;
+use sg_grammar::Grammar;
 use sg_kinds::row::Row;
 use sg_sets::BitSet;
-use std::alloc::Global;
+use std::alloc::{AllocError, Global};
 
 /// A conflict: a prefix, a terminal, the first item that acts on it and the first that acts otherwise.
 #[derive(Drop)]
@@ -26,7 +25,7 @@ pub(crate) struct Found {
 }
 
 /// The prefix by which a state was found first.
-fn prefix_of(alloc: Global, origins: &[Origin], state: usize) -> Result<Vec<u32>, NoMemory>
+fn prefix_of(alloc: Global, origins: &[Origin], state: usize) -> Result<Vec<u32>, AllocError>
     requires there { state ≤ length origins.now }
     requires back { (k : ℕ) → k < length origins.now → (origin_at origins.now k).state ≤ k }
     ensures { IfOk result (λ v. (w : List ℕ) × FoundBy origins.now state w × (v.items ≡ reverse w)) }
@@ -50,7 +49,7 @@ fn describe(
     looks: &Lookaheads,
     state: usize,
     terminal: u32,
-) -> Result<Found, NoMemory>
+) -> Result<Found, AllocError>
     requires productive { AllProductive g.now }
     requires entry { 0 < length g.now.entries }
     requires whole { IsWhole g.now (map (λ k. k.items) automaton.now.kernels.keys) automaton.now.cores.items automaton.now.moves.items automaton.now.origins.items }
@@ -83,7 +82,7 @@ pub(crate) fn least_conflict(
     g: &Grammar,
     automaton: &Automaton,
     looks: &Lookaheads,
-) -> Result<Option<Found>, NoMemory>
+) -> Result<Option<Found>, AllocError>
     requires productive { AllProductive g.now }
     requires entry { 0 < length g.now.entries }
     requires whole { IsWhole g.now (map (λ k. k.items) automaton.now.kernels.keys) automaton.now.cores.items automaton.now.moves.items automaton.now.origins.items }

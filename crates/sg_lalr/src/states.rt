@@ -5,15 +5,14 @@ ghost use Rattle.sg_sets.specs.Rows.{Holds};
 ghost use Rattle.sg_lalr.specs.Closure.{Corner, IsClosure};
 ghost use Rattle.sg_lalr.specs.Automaton.{row_at, start_items, Entered, IsPart, IsWhole, Overflows};
 
-use crate::NoMemory;
 use crate::closure::{closure, corners};
 use crate::items::Item;
 use crate::moves::{advance, next_symbol};
 use indexmap::IndexSet;
-use sg_grammar::grammar::Grammar;
+use sg_grammar::Grammar;
 use sg_kinds::row::Row;
 use sg_sets::Relation;
-use std::alloc::Global;
+use std::alloc::{AllocError, Global};
 
 /// The most states.
 pub const MOST_STATES: usize = 65_536;
@@ -52,7 +51,7 @@ fn find(kernels: &IndexSet<Vec<Item>>, kernel: &[Item]) -> Option<usize>
 }
 
 /// Puts a kernel that is not among the others behind them.
-fn add(kernels: &mut IndexSet<Vec<Item>>, kernel: Vec<Item>) -> Result<(), NoMemory>
+fn add(kernels: &mut IndexSet<Vec<Item>>, kernel: Vec<Item>) -> Result<(), AllocError>
     requires { Contains (map (λ k. k.items) kernels.old.keys) kernel.items → ⊥ }
     ensures { OnOk result (map (λ k. k.items) kernels.new.keys ≡ map (λ k. k.items) kernels.old.keys ++ kernel.items ∷ []) }
 {
@@ -66,7 +65,7 @@ fn enter(
     origins: &mut Vec<Origin>,
     kernel: Vec<Item>,
     origin: Origin,
-) -> Result<Option<u32>, NoMemory>
+) -> Result<Option<u32>, AllocError>
     requires { length kernels.old.keys ≤ MOST_STATES }
     ensures few { OnOk result (length kernels.new.keys ≤ MOST_STATES) }
     ensures entered { IfOk result (λ found. IfSome found (Entered (map (λ k. k.items) kernels.old.keys) (map (λ k. k.items) kernels.new.keys) origins.old.items origins.new.items kernel.items origin)) }
@@ -86,7 +85,7 @@ fn enter(
 
 impl Automaton {
     /// Finds the core and the moves of the next state, or answers false where there are too many states.
-    fn expand(&mut self, alloc: Global, g: &Grammar, corners: &Relation) -> Result<bool, NoMemory>
+    fn expand(&mut self, alloc: Global, g: &Grammar, corners: &Relation) -> Result<bool, AllocError>
         requires part { IsPart g.now (map (λ k. k.items) self.old.kernels.keys) self.old.cores.items self.old.moves.items self.old.origins.items }
         requires moves { length self.old.moves.items ≡ length self.old.cores.items }
         requires next { length self.old.cores.items < length self.old.kernels.keys }
@@ -129,7 +128,7 @@ impl Automaton {
         g: &Grammar,
         corners: &Relation,
         state: usize,
-    ) -> Result<Vec<Item>, NoMemory>
+    ) -> Result<Vec<Item>, AllocError>
         requires part { IsPart g.now (map (λ k. k.items) self.now.kernels.keys) self.now.cores.items self.now.moves.items self.now.origins.items }
         requires there { state < length self.now.kernels.keys }
         requires size { length corners.now ≡ length g.now.rules }
@@ -143,7 +142,7 @@ impl Automaton {
 }
 
 /// The items with which the entries begin.
-fn starts(alloc: Global, g: &Grammar) -> Result<Vec<Item>, NoMemory>
+fn starts(alloc: Global, g: &Grammar) -> Result<Vec<Item>, AllocError>
     ensures { IfOk result (λ v. v.items ≡ start_items g.now) }
 {
     g.sound();
@@ -159,7 +158,7 @@ fn starts(alloc: Global, g: &Grammar) -> Result<Vec<Item>, NoMemory>
 }
 
 /// The automaton of a grammar with an entry, or None where it has too many states.
-pub(crate) fn all_states(alloc: Global, g: &Grammar) -> Result<Option<Automaton>, NoMemory>
+pub(crate) fn all_states(alloc: Global, g: &Grammar) -> Result<Option<Automaton>, AllocError>
     requires { 0 < length g.now.entries }
     ensures whole { IfOk result (λ found. IfSome found (λ a. IsWhole g.now (map (λ k. k.items) a.kernels.keys) a.cores.items a.moves.items a.origins.items)) }
     ensures none { IfOk result (λ found. IfNone found (Overflows g.now)) }

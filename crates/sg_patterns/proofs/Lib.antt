@@ -7,6 +7,10 @@ pub mod Answering
 pub mod LiteralTexts
 pub mod Trying
 pub mod InText
+pub mod Deciding
+pub mod ScanLaws
+pub mod InPlace
+pub mod WholeTexts
 pub mod Runs
 pub mod Spelt
 pub mod Forms

@@ -4,6 +4,7 @@ pub mod Programs
 pub mod Marks
 pub mod LongestMatch
 pub mod Lexemes
+pub mod LexemesOf
 pub mod Scan
 pub mod Kinds
 pub mod Spelling

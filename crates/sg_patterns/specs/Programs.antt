@@ -101,3 +101,9 @@ AreOrdered programs = (k : ℕ) (p : Program) → slice_get programs k ≡ Some 
 -- so many flags are enough for each of the programs
 abbrev pub HaveRoom : List Program → ℕ → Type 0
 HaveRoom programs n = (k : ℕ) (p : Program) → slice_get programs k ≡ Some p → length p.nodes.items ≤ n
+
+-- the programs of patterns, with so much room for their flags
+pub record AreReady (programs : List Program) (patterns : List plain.Lexeme) (begins finals : ℕ) : Type 0 where
+  pub are : ArePrograms programs patterns
+  pub begins_room : HaveRoom programs begins
+  pub finals_room : HaveRoom programs finals

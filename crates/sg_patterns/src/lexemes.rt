@@ -1,18 +1,19 @@
 //! The literals and the lexeme phyla of an input grammar, with their terminal numbers.
-ghost use Rattle.std.specs.Prelude.{◌≡◌, suc, ◌+◌, ◌<◌, ◌^◌, length, map, ◌++◌, ◌∷◌, List, [], nat_lt, nat_eq, ◌&&◌, IfOk, OnOk};
+ghost use Rattle.std.specs.Prelude.{◌≡◌, ◌+◌, ◌<◌, ◌^◌, length, map, ◌++◌, ◌∷◌, List, [], nat_lt, nat_eq, ◌&&◌, IfOk, OnOk};
 ghost use Rattle.std.specs.List.{starts_with};
 ghost use Rattle.sg_kinds.specs.Values.{Bytes};
 ghost use Rattle.sg_patterns.specs.LongestMatch.{Literal, IsAnswer};
 ghost use Rattle.sg_patterns.specs.Lexemes.{is_blank, with_text, literals_in, literals_of, blank_of, IsTable};
 
+mod making;
+
 use crate::longest_match::len_of;
 use indexmap::IndexSet;
-use sg_kinds::copy::TryCopy;
 use sg_kinds::lexeme::Lexeme;
 use sg_kinds::marks::Shape;
 use sg_kinds::memory::NoMemory;
 use sg_kinds::row::{Row, item};
-use sg_kinds::spec::{Phylum, Production, Spec, Symbol};
+use sg_kinds::spec::{Phylum, Production, Symbol};
 use sg_kinds::text::Text;
 use std::alloc::Global;
 
@@ -144,33 +145,7 @@ fn is_longer(literal: &[u8], rest: &[u8], len: usize) -> bool
     len < literal.len() && rest.starts_with(literal)
 }
 
-// more literals, lexeme phyla or entries than this are taken as want of memory, so that the numbers of terminals fit
-const MOST: usize = 1 << 30;
-
 impl Lexemes {
-    /// The literals and the lexeme phyla of a specification. `NoMemory` is also the answer where there are more of them
-    /// than the numbers of terminals reach.
-    pub fn new(alloc: Global, spec: &Spec) -> Result<Lexemes, NoMemory>
-        ensures first { IfOk result (λ l. l.first ≡ suc (length spec.now.entries)) }
-        ensures literals { IfOk result (λ l. l.literals ≡ literals_of spec.now.productions) }
-        ensures patterns { IfOk result (λ l. l.patterns ≡ spec.now.lexemes) }
-        ensures blank { IfOk result (λ l. l.blank ≡ blank_of spec.now.phyla) }
-    {
-        let literals = literals_of(alloc, spec.productions.as_slice())?;
-        let table = table_of(alloc, literals.as_slice())?;
-        let entries = spec.entries.len();
-        if entries > MOST || literals.len() > MOST || spec.lexemes.len() > MOST {
-            return Err(NoMemory);
-        }
-        Ok(Lexemes {
-            first: entries + 1,
-            literals: Row::new(literals),
-            patterns: spec.lexemes.try_copy(alloc)?,
-            blank: blank_of(spec.phyla.as_slice()),
-            table,
-        })
-    }
-
     /// Whether matches of the terminal are skipped, which is counted from the first literal on.
     pub fn is_blank(&self, number: usize) -> bool
         ensures { result ≡ is_blank self.now.blank (length self.now.literals) number }

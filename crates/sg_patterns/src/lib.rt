@@ -2,9 +2,11 @@
 #![tactic(auto)]
 
 mod kinds;
+pub mod laws;
 mod lexemes;
 mod longest_match;
 mod marks;
+mod matcher;
 mod program;
 mod reader;
 mod reading;
@@ -12,8 +14,6 @@ mod scanning;
 
 pub use lexemes::Lexemes;
 pub use longest_match::{longest, matches_empty};
+pub use matcher::Matcher;
 pub use reading::{PatternFault, read};
 pub use scanning::{InToken, ScanFault, scan};
-
-#[cfg(test)]
-mod tests;

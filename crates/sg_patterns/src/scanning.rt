@@ -30,14 +30,6 @@ pub enum ScanFault {
     NoMemory,
 }
 
-impl From<NoMemory> for ScanFault {
-    ghost from_gives = { λ _ e. e ≡ fault.NoMemory };
-
-    fn from(_: NoMemory) -> ScanFault {
-        ScanFault::NoMemory
-    }
-}
-
 impl From<AllocError> for ScanFault {
     ghost from_gives = { λ _ e. e ≡ fault.NoMemory };
 

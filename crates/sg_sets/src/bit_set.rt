@@ -3,8 +3,8 @@ ghost use Rattle.std.specs.Prelude.{◌≡◌, ℕ, ◌<◌, ◌≤◌, ◌↔�
 ghost use Rattle.std.specs.Bool.{OnTrue, OnFalse};
 ghost use Rattle.sg_sets.specs.Members.{has, Has, missing_of, Shared};
 
-use crate::{NoMemory, words};
-use std::alloc::Global;
+use crate::words;
+use std::alloc::{AllocError, Global};
 use std::marker::Model;
 
 /// A set of numbers below a width, which is chosen when the set is made.
@@ -27,7 +27,7 @@ impl Model for BitSet {
 
 impl BitSet {
     /// Returns the empty set of numbers below `width`.
-    pub fn new(alloc: Global, width: usize) -> Result<BitSet, NoMemory>
+    pub fn new(alloc: Global, width: usize) -> Result<BitSet, AllocError>
         ensures { IfOk result (λ s. s ≡ replicate width false) }
     {
         let words = vec![in alloc; 0u64; width.div_ceil(64)]?;
@@ -77,7 +77,7 @@ impl BitSet {
     }
 
     /// Returns an equal set.
-    pub fn copy(&self, alloc: Global) -> Result<BitSet, NoMemory>
+    pub fn copy(&self, alloc: Global) -> Result<BitSet, AllocError>
         ensures { IfOk result (λ s. s ≡ self.now) }
     {
         let words = Vec::from_slice(alloc, &self.words)?;
@@ -109,7 +109,7 @@ impl BitSet {
     }
 
     /// Returns whether some number is in both sets.
-    pub fn meets(&self, other: &BitSet) -> bool
+    pub(crate) fn meets(&self, other: &BitSet) -> bool
         requires { length self.now ≡ length other.now }
         ensures { IsTrue result ↔ ((a : ℕ) × Shared self.now other.now a) }
     {

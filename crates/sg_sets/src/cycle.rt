@@ -6,8 +6,8 @@ ghost use Rattle.sg_sets.specs.Members.{Has};
 ghost use Rattle.sg_sets.specs.Paths.{Path};
 ghost use Rattle.sg_sets.specs.Rows.{Holds};
 
-use crate::{BitSet, NoMemory, Relation};
-use std::alloc::Global;
+use crate::{BitSet, Relation};
+use std::alloc::{AllocError, Global};
 
 impl Relation {
     /// Returns the cycle that starts at the least vertex of any cycle, is a shortest one from there,
@@ -15,7 +15,7 @@ impl Relation {
     ///
     /// A cycle is written as its vertices from the first on: each is related to the next, and the last
     /// to the first.
-    pub fn cycle(&self, alloc: Global) -> Result<Option<Vec<usize>>, NoMemory>
+    pub fn cycle(&self, alloc: Global) -> Result<Option<Vec<usize>>, AllocError>
         ensures none { IfOk result (λ found. IfNone found (HasNoCycle (Holds self.now))) }
         ensures cycle { IfOk result (λ found. IfSome found (λ c. IsCycle (Holds self.now) c.items)) }
         ensures start { IfOk result (λ found. IfSome found (λ c. StartsLeast (Holds self.now) c.items)) }
@@ -31,7 +31,7 @@ impl Relation {
     }
 
     /// Returns the least vertex that leads to itself.
-    fn first_on_cycle(&self, alloc: Global) -> Result<Option<usize>, NoMemory>
+    fn first_on_cycle(&self, alloc: Global) -> Result<Option<usize>, AllocError>
         ensures none { IfOk result (λ found. IfNone found ((v : ℕ) → ¬ (Path (Holds self.now) v v))) }
         ensures cycle { IfOk result (λ found. IfSome found (λ s. Path (Holds self.now) s s)) }
         ensures least { IfOk result (λ found. IfSome found (λ s. (v : ℕ) → Path (Holds self.now) v v → s ≤ v)) }
@@ -47,7 +47,7 @@ impl Relation {
     }
 
     /// Returns the vertices that are related to a member of the set.
-    fn before(&self, alloc: Global, set: &BitSet) -> Result<BitSet, NoMemory>
+    fn before(&self, alloc: Global, set: &BitSet) -> Result<BitSet, AllocError>
         requires { length set.now ≡ length self.now }
         ensures width { IfOk result (λ s. length s ≡ length self.now) }
         ensures before { IfOk result (λ s. (v : ℕ) → Has s v ↔ ((b : ℕ) × Holds self.now v b × Has set.now b)) }
@@ -62,7 +62,7 @@ impl Relation {
     }
 
     /// Returns the layers round the goal that lack the goal itself, from the innermost on.
-    fn layers(&self, alloc: Global, goal: usize) -> Result<Vec<BitSet>, NoMemory>
+    fn layers(&self, alloc: Global, goal: usize) -> Result<Vec<BitSet>, AllocError>
         requires { Path (Holds self.now) goal goal }
         ensures layers { IfOk result (λ layers. AreLayers (Holds self.now) goal (length self.now) layers.items) }
         ensures apart { IfOk result (λ layers. IsApart (Holds self.now) goal goal (length layers.items)) }
@@ -87,7 +87,7 @@ impl Relation {
         alloc: Global,
         start: usize,
         mut layers: Vec<BitSet>,
-    ) -> Result<Vec<usize>, NoMemory>
+    ) -> Result<Vec<usize>, AllocError>
         requires layers { AreLayers (Holds self.now) start (length self.now) layers.items }
         requires apart { IsApart (Holds self.now) start start (length layers.items) }
         ensures { IfOk result (λ c. (via : List ℕ) × (c.items ≡ start ∷ via) × IsLeastWay (Holds self.now) start start (length layers.items) via) }

@@ -11,9 +11,3 @@ mod words;
 pub use bit_set::BitSet;
 pub use relation::Relation;
 pub use rows::Rows;
-
-/// Want of memory, the only error of this crate.
-pub type NoMemory = std::alloc::AllocError;
-
-#[cfg(test)]
-mod tests;

@@ -6,8 +6,8 @@ ghost use Rattle.sg_sets.specs.Rows.{row_of, Holds, all_missing};
 ghost use Rattle.sg_sets.specs.Paths.{Path, IsTransitive};
 ghost use Rattle.sg_sets.specs.Relations.{predecessors};
 
-use crate::{BitSet, NoMemory, Rows};
-use std::alloc::Global;
+use crate::{BitSet, Rows};
+use std::alloc::{AllocError, Global};
 use std::marker::Model;
 
 /// A relation on the numbers below its size, each of them a vertex of a graph.
@@ -28,7 +28,7 @@ impl Model for Relation {
 
 impl Relation {
     /// Returns the empty relation on the numbers below `n`.
-    pub fn new(alloc: Global, n: usize) -> Result<Relation, NoMemory>
+    pub fn new(alloc: Global, n: usize) -> Result<Relation, AllocError>
         ensures { IfOk result (λ r. r ≡ replicate n (replicate n false)) }
     {
         let rows = Rows::new(alloc, n, n)?;
@@ -83,7 +83,7 @@ impl Relation {
     }
 
     /// Returns an equal relation.
-    pub fn copy(&self, alloc: Global) -> Result<Relation, NoMemory>
+    pub fn copy(&self, alloc: Global) -> Result<Relation, AllocError>
         ensures { IfOk result (λ r. r ≡ self.now) }
     {
         let rows = self.rows.copy(alloc)?;

@@ -5,8 +5,8 @@ ghost use Rattle.sg_sets.specs.Members.{has, Has};
 ghost use Rattle.sg_sets.specs.Rows.{Table, table, row_of, Holds, all_missing, SameShape, AreRows, IsSettled};
 ghost use Rattle.sg_sets.specs.Paths.{Reaches, Linked};
 
-use crate::{BitSet, NoMemory};
-use std::alloc::Global;
+use crate::BitSet;
+use std::alloc::{AllocError, Global};
 use std::marker::Model;
 use std::mem;
 
@@ -29,7 +29,7 @@ impl Model for Rows {
 
 impl Rows {
     /// Returns `count` empty rows of numbers below `width`.
-    pub fn new(alloc: Global, count: usize, width: usize) -> Result<Rows, NoMemory>
+    pub fn new(alloc: Global, count: usize, width: usize) -> Result<Rows, AllocError>
         ensures { IfOk result (λ r. r ≡ table width (replicate count (replicate width false))) }
     {
         let mut rows = Vec::with_capacity(alloc, count)?;
@@ -96,7 +96,7 @@ impl Rows {
 
     /// Puts the numbers of each row of `other` into the same row, and returns whether some of them
     /// were not there.
-    pub fn union(&mut self, other: &Rows) -> bool
+    pub(crate) fn union(&mut self, other: &Rows) -> bool
         requires { SameShape self.old other.now }
         ensures joins { (x y : ℕ) → Holds self.new.rows x y ↔ (Holds self.old.rows x y ⊎ Holds other.now.rows x y) }
         ensures grows { OnTrue result (all_missing self.new.rows < all_missing self.old.rows) }
@@ -132,7 +132,7 @@ impl Rows {
     }
 
     /// Returns equal rows.
-    pub fn copy(&self, alloc: Global) -> Result<Rows, NoMemory>
+    pub fn copy(&self, alloc: Global) -> Result<Rows, AllocError>
         ensures { IfOk result (λ r. r ≡ self.now) }
     {
         let mut rows = Vec::with_capacity(alloc, self.rows.len())?;
