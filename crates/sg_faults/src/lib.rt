@@ -4,8 +4,6 @@
 mod cycle;
 mod grammar;
 mod line;
-#[cfg(test)]
-mod tests;
 mod words;
 
 pub use line::fault_line;

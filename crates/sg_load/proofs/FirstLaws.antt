@@ -5,7 +5,7 @@ use Rattle.sg_kinds.specs.declared.fault.SpecFault.{SpecFault}
 use Rattle.sg_kinds.specs.declared.spec.Spec.{Spec}
 use Rattle.sg_ast.specs.Declarations.{Decl}
 use Rattle.sg_load.specs.Trees.{trees_in}
-use Rattle.sg_load.specs.FirstFault.{Phase, phases, HasNoFault, HaveNoFault, IsFirstFault}
+use Rattle.sg_load.specs.FirstFault.{Phase, phases, HasNoFaultOf, HaveNoFault, IsFirstFault}
 use Rattle.sg_load.specs.Verdict.{Verdict, IsJudged, IsOfTrees}
 use Rattle.sg_load.specs.Verdict.Verdict.{Refused, Accepted}
 use Rattle.sg_load.specs.Only.{IsTheSpec, IsTheFault, IsTheFaultOf, IsTheJudgement, IsTheVerdict}
@@ -18,7 +18,7 @@ here ds phase rest f the = record {
 }
 
 -- the first phase has none
-pub later : (ds : List Decl) (phase : Phase) (rest : List Phase) (f : SpecFault) → HasNoFault ds phase → IsTheFault ds rest f → IsTheFault ds (phase ∷ rest) f
+pub later : (ds : List Decl) (phase : Phase) (rest : List Phase) (f : SpecFault) → HasNoFaultOf ds phase → IsTheFault ds rest f → IsTheFault ds (phase ∷ rest) f
 later ds phase rest f none the = record {
   is = inr (none, the.is);
   only = λ g h. elim h [ inl e ↦ absurd (none g e) | inr n ↦ the.only g n.1 ];

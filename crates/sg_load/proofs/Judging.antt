@@ -20,7 +20,7 @@ use Rattle.sg_record.specs.Entries.{entry_twice, entry_type}
 use Rattle.sg_record.specs.Premises.{HaveWritten}
 use Rattle.sg_record.specs.Record.{record_of}
 use Rattle.std.specs.Prelude.{All, Result, Ok, Err, IfOk, OnOk}
-use Rattle.sg_load.specs.FirstFault.{HasNoFault, HaveNoFault, early_phases, shown_phases, late_phases, schemes_fault, entries_fault}
+use Rattle.sg_load.specs.FirstFault.{HasNoFaultOf, HaveNoFault, early_phases, shown_phases, late_phases, schemes_fault, entries_fault}
 use Rattle.sg_load.specs.FirstFault.Phase.{Names, Types, Equations}
 use Rattle.sg_load.specs.Verdict.Verdict.{Refused, Accepted}
 use Rattle.sg_load.specs.Only.{IsTheSpec, IsTheFault, IsTheJudgement}
@@ -59,7 +59,7 @@ unfolding record_of
 kept_lexemes t ds rules lexemes spec is some = subst HasLexemes (sym is) some
 
 module _ (ds : List Decl) (t : Table) (same : t ≡ names_of ds) (named : resolve_fault ds ≡ None) where
-  no_names : HasNoFault ds Names
+  no_names : HasNoFaultOf ds Names
   no_names = none_computed (resolve_fault ds) named
 
   pub types_refused : (f : SpecFault) → first_fault t ds ≡ Some f → IsTheJudgement ds (Refused f)
@@ -69,7 +69,7 @@ module _ (ds : List Decl) (t : Table) (same : t ≡ names_of ds) (named : resolv
       (here ds Types (Equations ∷ (shown_phases ++ late_phases)) f (record { is = e; only = the_computed (first_fault (names_of ds) ds) f e })))
 
   module _ (typed : first_fault t ds ≡ None) where
-    no_types : HasNoFault ds Types
+    no_types : HasNoFaultOf ds Types
     no_types = none_computed (first_fault (names_of ds) ds) (sym (ap (λ (u : Table). first_fault u ds) same) ∙ typed)
 
     pub equations_refused : (f : SpecFault) → incomplete t ds ≡ Some f → IsTheJudgement ds (Refused f)

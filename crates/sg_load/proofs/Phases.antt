@@ -10,8 +10,8 @@ use Rattle.sg_ast.specs.Declarations.{Decl}
 use Rattle.sg_grammar.specs.Numbered.{grammar_of}
 use Rattle.sg_grammar.specs.Grammar.{Grammar}
 use Rattle.sg_lalr.specs.Tables.{IsTableFault}
-use Rattle.sg_lalr.specs.declared.tables.TableFault.{TableFault}
-use Rattle.sg_lalr.specs.declared.tables.TableFault.TheVariants as table
+use Rattle.sg_lalr.specs.declared.table.TableFault.{TableFault}
+use Rattle.sg_lalr.specs.declared.table.TableFault.TheVariants as table
 use Rattle.sg_lalr.specs.Prefixes.{TooMany}
 use Rattle.sg_lalr.specs.Tables.{View, IsTables}
 use Rattle.sg_lalr.proofs.FaultLaws.{one_fault as one_table_fault, no_fault as no_table_faults}
@@ -28,7 +28,7 @@ use Rattle.sg_load.specs.declared.parts.Rest.{Rest}
 use Rattle.sg_load.specs.PartsOf.{rest_of, joined}
 use Rattle.sg_load.specs.Patterns.{AreLexemes}
 use Rattle.sg_load.specs.SpecOf.{spec_with}
-use Rattle.sg_load.specs.FirstFault.{Phase, IsFaultOf, HasNoFault}
+use Rattle.sg_load.specs.FirstFault.{Phase, IsFaultOf, HasNoFaultOf}
 use Rattle.sg_load.specs.FirstFault.Phase.{Tables, Order}
 use Rattle.sg_load.specs.Only.{IsTheSpec, IsTheFaultOf}
 
@@ -50,7 +50,7 @@ the_table_fault ds spec e f the some is printed = record {
       h.printed ∙ (λ i. printed_table (same i) ds (one i)) ∙ sym printed;
 }
 
-pub no_table_fault : (ds : List Decl) (spec : Spec) → IsTheSpec ds spec → ((e : TableFault) → IsTableFault (grammar_of spec) e → e ≢ table.NoMemory → ⊥) → HasNoFault ds Tables
+pub no_table_fault : (ds : List Decl) (spec : Spec) → IsTheSpec ds spec → ((e : TableFault) → IsTableFault (grammar_of spec) e → e ≢ table.NoMemory → ⊥) → HasNoFaultOf ds Tables
 no_table_fault ds spec the none f h =
     let same : h.spec ≡ spec = the.only h.spec h.spec_is in
     none h.fault (subst (λ (s : Spec). IsTableFault (grammar_of s) h.fault) same h.fault_is) h.some
@@ -66,7 +66,7 @@ the_order_fault ds spec e f the ranges some is printed = record {
       h.printed ∙ (λ i. printed_order (same i) ds (one i)) ∙ sym printed;
 }
 
-pub no_order_fault : (ds : List Decl) (spec : Spec) → IsTheSpec ds spec → AreInRange (rules_of spec) → IsOrdered (rules_of spec) → HasNoFault ds Order
+pub no_order_fault : (ds : List Decl) (spec : Spec) → IsTheSpec ds spec → AreInRange (rules_of spec) → IsOrdered (rules_of spec) → HasNoFaultOf ds Order
 no_order_fault ds spec the ranges ordered f h =
     let same : h.spec ≡ spec = the.only h.spec h.spec_is in
     refused (rules_of spec) ranges h.fault (subst (λ (s : Spec). IsFault (rules_of s) h.fault) same h.fault_is) h.some ordered
@@ -92,7 +92,7 @@ pub found_table_fault : (ds : List Decl) (spec : Spec) (g : Grammar) (e : TableF
 found_table_fault ds spec g e f the made is printed some =
     the_table_fault ds spec e f the (λ none. some (printed some ∙ ap (printed_table spec ds) none ∙ printed_no_table ds spec)) (subst (λ (h : Grammar). IsTableFault h e) made is) (printed some)
 
-pub found_tables : (ds : List Decl) (spec : Spec) (v : View) (g : Grammar) → IsTheSpec ds spec → g ≡ grammar_of spec → v.grammar ≡ g → IsTables v → (TooMany g → ⊥) → HasNoFault ds Tables
+pub found_tables : (ds : List Decl) (spec : Spec) (v : View) (g : Grammar) → IsTheSpec ds spec → g ≡ grammar_of spec → v.grammar ≡ g → IsTables v → (TooMany g → ⊥) → HasNoFaultOf ds Tables
 found_tables ds spec v g the made kept sound few =
     no_table_fault ds spec the (λ e is some. no_table_faults v sound (λ many. few (subst TooMany kept many)) e (subst (λ (h : Grammar). IsTableFault h e) (sym (kept ∙ made)) is) some)
 

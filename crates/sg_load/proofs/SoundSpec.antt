@@ -19,7 +19,7 @@ use Rattle.sg_equations.specs.Complete.{incomplete}
 use Rattle.sg_equations.proofs.RulesSound.{rules_sound}
 use Rattle.sg_resolve.specs.Resolved.{resolve_fault}
 use Rattle.sg_resolve.specs.ShapeLexemes.{lexeme_text}
-use Rattle.sg_resolve.proofs.ShapeRows.{HasNoFault as HasNoNamesFault, no_fault}
+use Rattle.sg_resolve.proofs.ShapeRows.{HasNoNamesFault, no_fault}
 use Rattle.sg_resolve.proofs.ShapesSound.{shapes_sound}
 use Rattle.sg_record.specs.Premises.{IsWritten, HaveWritten}
 use Rattle.sg_record.specs.Record.{record_of}
@@ -35,7 +35,7 @@ use Rattle.sg_load.specs.FirstFault.{schemes_fault, entries_fault}
 use Rattle.sg_load.proofs.RecordCounts.{record_counted}
 use Rattle.sg_load.proofs.RecordNamed.{record_named}
 use Rattle.sg_load.specs.Patterns.{text_at, ArePatterns, AreLexemes}
-use Rattle.sg_load.specs.SpecOf.{rules_of, spec_with}
+use Rattle.sg_load.specs.SpecOf.{equations_of, spec_with}
 
 -- as many patterns as lexeme phyla
 as_many : (ss : List Quoted) (ps : List Lexeme) → ArePatterns ss ps → length ps ≡ length ss
@@ -89,7 +89,7 @@ module _ (ds : List Decl) (lexemes : List Lexeme) (written : HaveWritten ds) (ro
   none = no_fault ds rows
 
   table : HasTable (names_of ds) (spec_with ds lexemes)
-  table = table_kept (names_of ds) ds (rules_of ds) lexemes (names_bare ds)
+  table = table_kept (names_of ds) ds (equations_of ds) lexemes (names_bare ds)
 
   shapes : HasShapes (spec_with ds lexemes)
   unfolding record_of
@@ -104,22 +104,22 @@ module _ (ds : List Decl) (lexemes : List Lexeme) (written : HaveWritten ds) (ro
   schemes =
       let first = neither (no_scheme (names_of ds) ds) (or_else (scheme_kids (names_of ds) ds) (or_else (scheme_text ds) None)) shown in
       let second = neither (scheme_kids (names_of ds) ds) (or_else (scheme_text ds) None) first.1 in
-      record_shown ds (rules_of ds) lexemes written first.0 second.0 typed shapes
+      record_shown ds (equations_of ds) lexemes written first.0 second.0 typed shapes
 
   entries : HasEntries (spec_with ds lexemes)
   entries =
       let first = neither (entry_twice (names_of ds) ds) (or_else (entry_type (names_of ds) ds) None) entered in
       let second = neither (entry_type (names_of ds) ds) None first.1 in
-      record_entered ds (rules_of ds) lexemes written none.unknown none.results first.0 second.0
+      record_entered ds (equations_of ds) lexemes written none.unknown none.results first.0 second.0
 
   pub sound : All (λ p. Matches p [] → ⊥) lexemes → IsSound (spec_with ds lexemes)
   unfolding record_of
   sound some = record {
-    counted = record_counted ds (rules_of ds) lexemes none.limits none.duplicates;
-    names = record_named ds (rules_of ds) lexemes written none.duplicates none.results;
+    counted = record_counted ds (equations_of ds) lexemes none.limits none.duplicates;
+    names = record_named ds (equations_of ds) lexemes written none.duplicates none.results;
     shapes = shapes;
     rules = rules;
-    typed = record_typed ds (rules_of ds) lexemes written none.unknown none.results typed shapes;
+    typed = record_typed ds (equations_of ds) lexemes written none.unknown none.results typed shapes;
     schemes = schemes;
     lexemes = some;
     entries = entries;

@@ -16,8 +16,8 @@ use Rattle.sg_schemes.specs.Strings.{scheme_text}
 use Rattle.sg_record.specs.Entries.{entry_twice, entry_type}
 use Rattle.sg_grammar.specs.Numbered.{grammar_of}
 use Rattle.sg_lalr.specs.Tables.{IsTableFault}
-use Rattle.sg_lalr.specs.declared.tables.TableFault.{TableFault}
-use Rattle.sg_lalr.specs.declared.tables.TableFault.TheVariants as table
+use Rattle.sg_lalr.specs.declared.table.TableFault.{TableFault}
+use Rattle.sg_lalr.specs.declared.table.TableFault.TheVariants as table
 use Rattle.sg_orders.specs.declared.fault.OrderFault.{OrderFault}
 use Rattle.sg_orders.specs.declared.fault.OrderFault.TheVariants as order
 use Rattle.sg_orders.specs.Faults.{IsFault}
@@ -76,17 +76,17 @@ IsFaultOf ds Tables f = IsPrintedTable ds f
 IsFaultOf ds Order f = IsPrintedOrder ds f
 
 -- no fault of a phase; of any of these phases
-abbrev pub HasNoFault : List Decl → Phase → Type 0
-HasNoFault ds phase = (f : SpecFault) → IsFaultOf ds phase f → ⊥
+abbrev pub HasNoFaultOf : List Decl → Phase → Type 0
+HasNoFaultOf ds phase = (f : SpecFault) → IsFaultOf ds phase f → ⊥
 
 abbrev pub HaveNoFault : List Decl → List Phase → Type 0
 HaveNoFault ds [] = ⊤
-HaveNoFault ds (phase ∷ phases) = HasNoFault ds phase × HaveNoFault ds phases
+HaveNoFault ds (phase ∷ phases) = HasNoFaultOf ds phase × HaveNoFault ds phases
 
 -- a fault of the first of these phases that has one
 abbrev pub IsFirstFault : List Decl → List Phase → SpecFault → Type 0
 IsFirstFault ds [] f = ⊥
-IsFirstFault ds (phase ∷ phases) f = IsFaultOf ds phase f ⊎ (HasNoFault ds phase × IsFirstFault ds phases f)
+IsFirstFault ds (phase ∷ phases) f = IsFaultOf ds phase f ⊎ (HasNoFaultOf ds phase × IsFirstFault ds phases f)
 
 -- the phases in their order: of names and equations, of what is shown and typed in, of the record
 abbrev pub early_phases : List Phase

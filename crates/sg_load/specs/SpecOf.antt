@@ -10,13 +10,13 @@ use Rattle.sg_equations.specs.RulesOf.{rules_in}
 use Rattle.sg_record.specs.Record.{record_of}
 use Rattle.sg_load.specs.Patterns.{AreLexemes}
 
--- the rules of declarations
-abbrev pub rules_of : List Decl → List Rule
-rules_of ds = rules_in (names_of ds) (exprs_in (names_of ds) ds) 0 ds
+-- the equations of declarations
+abbrev pub equations_of : List Decl → List Rule
+equations_of ds = rules_in (names_of ds) (exprs_in (names_of ds) ds) 0 ds
 
 -- their record with these patterns of the lexeme phyla
 abbrev pub spec_with : List Decl → List Lexeme → Spec
-spec_with ds lexemes = record_of (names_of ds) ds (rules_of ds) lexemes
+spec_with ds lexemes = record_of (names_of ds) ds (equations_of ds) lexemes
 
 -- their record, in which each lexeme phylum has the pattern of its text
 pub record IsSpecOf (ds : List Decl) (spec : Spec) : Type 0 where

@@ -6,11 +6,7 @@ mod loaded;
 mod loading;
 mod parts;
 mod patterns;
-#[cfg(test)]
-mod tests;
 mod trees;
 
 pub use loaded::Loaded;
 pub use loading::load;
-pub use patterns::lexemes;
-pub use trees::read;

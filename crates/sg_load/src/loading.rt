@@ -13,11 +13,11 @@ ghost use Rattle.sg_ast.specs.FirstFault.{or_else};
 ghost use Rattle.sg_schemes.specs.Places.{scheme_kids as kids_row};
 ghost use Rattle.sg_schemes.specs.Strings.{scheme_text as text_row};
 ghost use Rattle.sg_load.specs.FirstFault as rows;
-ghost use Rattle.sg_load.specs.FirstFault.{HasNoFault, HaveNoFault, late_phases, shown_phases};
+ghost use Rattle.sg_load.specs.FirstFault.{HasNoFaultOf, HaveNoFault, late_phases, shown_phases};
 ghost use Rattle.sg_load.specs.FirstFault.Phase.{Tables as TablesPhase, Order as OrderPhase};
-ghost use Rattle.sg_load.specs.Loaded.{AreLexemesOf};
+ghost use Rattle.sg_patterns.specs.LexemesOf.{AreLexemesOf};
 ghost use Rattle.sg_load.specs.Only.{AreTheLexemes, IsTheFault, IsTheFaultOf, IsTheJudgement, IsTheSpec, IsTheVerdict};
-ghost use Rattle.sg_load.specs.SpecOf as record_of;
+ghost use Rattle.sg_load.specs.SpecOf.{equations_of};
 ghost use Rattle.sg_load.specs.Verdict.Verdict.{Refused, Accepted};
 
 use crate::loaded::Loaded;
@@ -26,15 +26,14 @@ use crate::patterns::lexemes;
 use crate::trees;
 use sg_ast::decl::Decl;
 use sg_equations::rules;
-use sg_grammar::numbering::make;
+use sg_grammar::make;
 use sg_kinds::fault::SpecFault;
 use sg_kinds::lexeme::Lexeme;
 use sg_kinds::memory::NoMemory;
 use sg_kinds::plans::Plans;
 use sg_kinds::row::Row;
 use sg_kinds::spec::{Rule, Spec};
-use sg_lalr::making::tables;
-use sg_lalr::tables::Tables;
+use sg_lalr::{Tables, tables};
 use sg_names::names::Names;
 use sg_orders::order;
 use sg_patterns::Lexemes;
@@ -108,7 +107,7 @@ fn entries_fault(
 fn judge_tables(alloc: Global, decls: &[Decl], spec: &Spec) -> Result<Tables, SpecFault>
     requires the { IsTheSpec (trees_of decls.now) spec.now }
     ensures tables { IfOk result (λ t. t.grammar ≡ grammar_of spec.now) }
-    ensures none { OnOk result (HasNoFault (trees_of decls.now) TablesPhase) }
+    ensures none { OnOk result (HasNoFaultOf (trees_of decls.now) TablesPhase) }
     ensures fault { IfErr result (λ f. f ≢ SpecFault.NoMemory → IsTheFaultOf (trees_of decls.now) TablesPhase f) }
 {
     let grammar = make(alloc, spec)?;
@@ -127,7 +126,7 @@ fn judge_order(alloc: Global, decls: &[Decl], spec: Spec) -> Result<(Spec, Plans
     requires sound { IsSound spec }
     ensures same { IfOk result (λ x. x.0 ≡ spec) }
     ensures plans { IfOk result (λ x. AreValid (rules_of spec) x.1) }
-    ensures none { OnOk result (HasNoFault (trees_of decls.now) OrderPhase) }
+    ensures none { OnOk result (HasNoFaultOf (trees_of decls.now) OrderPhase) }
     ensures fault { IfErr result (λ f. f ≢ SpecFault.NoMemory → IsTheFaultOf (trees_of decls.now) OrderPhase f) }
 {
     let (rules, rest) = split(spec);
@@ -185,7 +184,7 @@ fn assemble(
 ) -> Result<Spec, SpecFault>
     requires names { names ≡ names_of (trees_of decls.now) }
     requires typed { typed ≡ typed_of names (trees_of decls.now) }
-    requires rules { rules ≡ record_of.rules_of (trees_of decls.now) }
+    requires rules { rules ≡ equations_of (trees_of decls.now) }
     ensures the { IfOk result (IsTheSpec (trees_of decls.now)) }
     ensures lexemes { IfOk result HasLexemes }
     ensures none { OnOk result (HaveNoFault (trees_of decls.now) shown_phases) }

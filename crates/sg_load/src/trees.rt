@@ -58,7 +58,7 @@ fn parsed(alloc: Global, bytes: &[u8]) -> Result<Vec<Decl>, SpecFault>
 }
 
 /// The declarations of a text, or the first fault of its length, its tokens and its syntax.
-pub fn read(alloc: Global, bytes: &[u8]) -> Result<Vec<Decl>, SpecFault>
+pub(crate) fn read(alloc: Global, bytes: &[u8]) -> Result<Vec<Decl>, SpecFault>
     ensures trees { IfOk result (λ ds. trees_in bytes.now ≡ Ok (trees_of ds.items)) }
     ensures written { IfOk result (λ ds. HaveWritten (trees_of ds.items)) }
     ensures fault { IfErr result (λ f. f ≢ SpecFault.NoMemory → trees_in bytes.now ≡ Err f) }

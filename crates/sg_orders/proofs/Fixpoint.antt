@@ -1,7 +1,7 @@
 -- The bound of from-scratch values is never reached: each is the outcome of its equation on those of its arguments.
-use Rattle.std.specs.Prelude.{◌≡◌, ℕ, zero, suc, ◌+◌, ◌<◌, ◌&&◌, ◌||◌, Bool, true, false, cond, nat_eq, nat_lt, List, [], ◌∷◌, length, map, filter, flat_map, count_by, Option, None, Some, slice_get, unwrap_or, option_map, option_and_then, is_some, Contains}
+use Rattle.std.specs.Prelude.{◌≡◌, ◌≢◌, ℕ, zero, suc, ◌+◌, ◌<◌, ◌⊎◌, ◌&&◌, ◌||◌, Bool, true, false, cond, nat_eq, nat_lt, List, [], ◌∷◌, length, map, filter, flat_map, count_by, Option, None, Some, slice_get, unwrap_or, option_map, option_and_then, is_some, Contains}
 use Rattle.std.proofs.Common.{refl, sym, ap, ◌∙◌, subst, get_or, arith, inl, inr}
-use Rattle.std.proofs.lemmas.Bool.{false≢true, eqb-true, eq-eqb, ltb-true, lt-ltb, or_cases, or_left, or_right, and_parts, and_from, false_from_ne_true}
+use Rattle.std.proofs.lemmas.Bool.{false≢true, eqb-true, eq-eqb, ltb-true, lt-ltb, cases_order, or_cases, or_left, or_right, and_parts, and_from, false_from_ne_true}
 use Rattle.std.proofs.lemmas.List.Elements.{Contains-append_left, Contains-append_right, All-contains}
 use Rattle.std.proofs.lemmas.List.Sums.{count_by-le-length}
 use Rattle.std.proofs.lemmas.Option.{none-some, same_Some}
@@ -31,12 +31,12 @@ use Rattle.sg_orders.proofs.Rising.{count_lt}
 use Rattle.sg_orders.proofs.Seating.{filter_has}
 
 -- keys as lists are an order
-less_itself : (xs : List ℕ) → IsLess xs xs → ⊥
+pub less_itself : (xs : List ℕ) → IsLess xs xs → ⊥
 less_itself [] less = less
 less_itself (x ∷ xs) (inl less) = omega (arith, less)
 less_itself (x ∷ xs) (inr rest) = less_itself xs rest.1
 
-less_on : (xs ys zs : List ℕ) → IsLess xs ys → IsLess ys zs → IsLess xs zs
+pub less_on : (xs ys zs : List ℕ) → IsLess xs ys → IsLess ys zs → IsLess xs zs
 less_on xs ys [] less more = more
 less_on xs [] (z ∷ zs) less more = absurd less
 less_on [] (y ∷ ys) (z ∷ zs) less more = tt
@@ -44,6 +44,16 @@ less_on (x ∷ xs) (y ∷ ys) (z ∷ zs) (inl f) (inl g) = inl (omega (arith, f,
 less_on (x ∷ xs) (y ∷ ys) (z ∷ zs) (inl f) (inr g) = let e = g.0 in inl (omega (arith, f, e))
 less_on (x ∷ xs) (y ∷ ys) (z ∷ zs) (inr f) (inl g) = let e = f.0 in inl (omega (arith, e, g))
 less_on (x ∷ xs) (y ∷ ys) (z ∷ zs) (inr f) (inr g) = inr (f.0 ∙ g.0, less_on xs ys zs f.1 g.1)
+
+pub one_less : (xs ys : List ℕ) → xs ≢ ys → IsLess xs ys ⊎ IsLess ys xs
+one_less [] [] other = absurd (other refl)
+one_less [] (y ∷ ys) other = inl tt
+one_less (x ∷ xs) [] other = inr tt
+one_less (x ∷ xs) (y ∷ ys) other = elim (cases_order x y) [
+  | inl same ↦ elim (one_less xs ys (λ rest. other (λ i. same i ∷ rest i))) [ inl less ↦ inl (inr (same, less)) | inr more ↦ inr (inr (sym same, more)) ]
+  | inr (inl less) ↦ inl (inl less)
+  | inr (inr more) ↦ inr (inl more)
+]
 
 -- and a test
 is_less : List ℕ → List ℕ → Bool
@@ -131,10 +141,10 @@ module _ (spec : Spec) (ranges : AreInRange (rules_of spec)) (plans : Plans) (ti
   all = instances rules t
 
   -- an instance with its equation
-  record IsFound (a : Reference Place) (i : Site Place) : Type 0 where
-    live : IsLive rules t i
-    there : Contains (places_in t) a.node
-    slot : a.slot < slots_of rules (label_of (sub t a.node))
+  pub record IsFound (a : Reference Place) (i : Site Place) : Type 0 where
+    pub live : IsLive rules t i
+    pub there : Contains (places_in t) a.node
+    pub slot : a.slot < slots_of rules (label_of (sub t a.node))
 
   live_from : (u : Place) (o : Occurrence) (i : Site Place) → IsSiteAt rules t u o i → IsLive rules t i
   live_from u o i is = record { label = ap (λ v. label_of (sub t v)) is.node ∙ is.label ∙ ap (λ n. Operation n) (sym is.rule.op_is); stands = is.rule.stands }
@@ -178,7 +188,7 @@ module _ (spec : Spec) (ranges : AreInRange (rules_of spec)) (plans : Plans) (ti
         slot = inherited.0;
       }
 
-  found : (a : Reference Place) (i : Site Place) → site_of rules net a ≡ Some i → IsFound a i
+  pub found : (a : Reference Place) (i : Site Place) → site_of rules net a ≡ Some i → IsFound a i
   found a i is = found_by a.node a.slot i (is_inherited_at rules net a) refl is
 
   -- it is one of the instances
@@ -256,3 +266,17 @@ module _ (spec : Spec) (ranges : AreInRange (rules_of spec)) (plans : Plans) (ti
   -- each value is that of its equation on the values of its arguments
   pub fixpoint : (a : Reference Place) → value_in spec t a ≡ leaf_or (net.label a.node) (site_value spec net (value_in spec t) (site_of rules net a))
   fixpoint a = stable (length all) (suc (length all)) a (λ i is. rank_low i a is) (λ i is. let l = rank_low i a is in omega (arith, l)) (site_of rules net a) refl
+
+  -- what holds of a site where it holds of the sites of its arguments holds of all
+  inducted : (P : Site Place → Type 0)
+      → ((i : Site Place) → IsLive rules t i → ((o : Occurrence) → Contains i.rule.args o → (j : Site Place) → site_of rules net (referred net i.node o) ≡ Some j → P j) → P i)
+      → (n : ℕ) (a : Reference Place) (i : Site Place) → site_of rules net a ≡ Some i → rank i < n → P i
+  inducted P step zero a i is low = absurd (omega (arith, low))
+  inducted P step (suc n) a i is low =
+      let live = (found a i is).live in
+      step i live (λ o has j at. inducted P step n (referred net i.node o) j at (falls n i low o has live j at))
+
+  pub site_induction : (P : Site Place → Type 0)
+      → ((i : Site Place) → IsLive rules t i → ((o : Occurrence) → Contains i.rule.args o → (j : Site Place) → site_of rules net (referred net i.node o) ≡ Some j → P j) → P i)
+      → (a : Reference Place) (i : Site Place) → site_of rules net a ≡ Some i → P i
+  site_induction P step a i is = inducted P step (suc (rank i)) a i is (omega arith)

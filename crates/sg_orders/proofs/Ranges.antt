@@ -17,11 +17,11 @@ held : {X : Type 0} (P : X → Type 0) (xs : List X) (k : ℕ) (x : X) → All P
 held P xs k x all low at = subst P at (all k x low)
 
 module _ (rules : Rules) (ranges : AreInRange rules) where
-  attr_count_small : (o : Option ℕ) → attr_count rules o < 2 ^ 20
+  attr_count_small : (o : Option ℕ) → attr_count rules o < 2 ^ 22
   attr_count_small None = omega arith
   attr_count_small (Some X) = elim (slice_get_cases rules.phyla X).1 [
     | inl is ↦
-        let small = held (λ (x : Phylum). length x.attrs < 2 ^ 20) rules.phyla X is.0 ranges.few.attrs is.1 is.3 in
+        let small = held (λ (x : Phylum). length x.attrs < 2 ^ 22) rules.phyla X is.0 ranges.few.attrs is.1 is.3 in
         let same : length (attrs_of rules.phyla X) ≡ length is.0.attrs = ap (λ o. length (unwrap_or (option_map (λ (x : Phylum). x.attrs) o) [])) is.2 in
         omega (arith, small, same)
     | inr past ↦
@@ -29,10 +29,10 @@ module _ (rules : Rules) (ranges : AreInRange rules) where
         omega (arith, none)
   ]
 
-  pub attrs_small : (X : ℕ) → length (attrs_of rules.phyla X) < 2 ^ 20
+  pub attrs_small : (X : ℕ) → length (attrs_of rules.phyla X) < 2 ^ 22
   attrs_small X = let s = attr_count_small (Some X) in omega (arith, s)
 
-  attrs_before_small : (p k : ℕ) → attrs_before rules p k ≤ k * 1048576
+  attrs_before_small : (p k : ℕ) → attrs_before rules p k ≤ k * 4194304
   attrs_before_small p zero = omega arith
   attrs_before_small p (suc k) =
       let h = attrs_before_small p k in

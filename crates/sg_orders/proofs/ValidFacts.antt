@@ -1,5 +1,5 @@
 -- What valid plans give attribution.
-use Rattle.std.specs.Prelude.{◌≡◌, ℕ, ◌<◌, length, Some, Contains}
+use Rattle.std.specs.Prelude.{◌≡◌, ℕ, ◌<◌, ◌≤◌, length, slice_index, Some, Contains}
 use Rattle.sg_kinds.specs.declared.plans.Plans.{Plans}
 use Rattle.sg_kinds.specs.declared.spec.Spec.{Spec}
 use Rattle.sg_kinds.specs.declared.spec.Rules.{Rules}
@@ -12,16 +12,21 @@ use Rattle.sg_kinds.specs.Nets.{Reference, referred, net_of}
 use Rattle.sg_kinds.specs.Instances.{Site, site_of}
 use Rattle.sg_kinds.specs.Keys.{key, IsLess}
 use Rattle.sg_kinds.specs.FromScratch.{leaf_or, site_value, value_in}
+use Rattle.sg_kinds.specs.Dependencies.{IsAttr}
 use Rattle.sg_kinds.specs.ValidPlans.{AreValid}
+use Rattle.sg_kinds.specs.Visits.{row_at, visit_count}
 use Rattle.sg_orders.specs.LiveSites.{IsLive}
 use Rattle.sg_orders.specs.PlanFacts.{HasPlanFacts}
+use Rattle.sg_orders.specs.Proper.{AreProper}
+use Rattle.sg_orders.specs.StepFacts.{HasStepFacts}
 use Rattle.sg_orders.specs.Timed.{AreTimed}
 use Rattle.sg_orders.specs.Vertices.{AreInRange}
 use Rattle.sg_orders.proofs.PlanFacts as facts
+use Rattle.sg_orders.proofs.StepFacts as steps
 use Rattle.sg_orders.proofs.KeysFall as keys
 use Rattle.sg_orders.proofs.Fixpoint as values
 
-valid_timed : (rules : Rules) (plans : Plans) → AreValid rules plans → AreTimed rules plans
+pub valid_timed : (rules : Rules) (plans : Plans) → AreValid rules plans → AreTimed rules plans
 valid_timed rules plans valid = record { layer = valid.layer; visits = valid.visits; positions = valid.positions }
 
 pub plan_facts : (rules : Rules) (plans : Plans) → AreInRange rules → AreValid rules plans → (p : ℕ) → p < length rules.ops → HasPlanFacts rules plans p
@@ -36,6 +41,24 @@ plan_facts rules plans ranges valid p op =
       seat_before = facts.seat_before rules ranges plans timed p op;
       own_visit = facts.belongs_itself rules ranges plans timed p op;
       named_before = λ r o stands is names. facts.named_before rules ranges plans timed p op r o stands is names;
+    }
+
+pub visit_low : (rules : Rules) (plans : Plans) → AreValid rules plans → (X a : ℕ) → X < length rules.phyla → IsAttr rules X a → 1 ≤ slice_index (row_at plans.visits X) a
+visit_low rules plans valid X a low there = facts.visit_low rules X (valid.layer X) plans (valid.visits X low) a there
+
+pub visit_high : (rules : Rules) (plans : Plans) → AreValid rules plans → (X a : ℕ) → X < length rules.phyla → IsAttr rules X a → slice_index (row_at plans.visits X) a ≤ visit_count plans X
+visit_high rules plans valid X a low there = facts.visit_high rules X (valid.layer X) plans (valid.visits X low) a there
+
+pub step_facts : (rules : Rules) (plans : Plans) → AreInRange rules → AreProper rules → AreValid rules plans → (p : ℕ) → p < length rules.ops → HasStepFacts rules plans p
+step_facts rules plans ranges proper valid p op =
+    let timed = valid_timed rules plans valid in
+    let at_p = valid.positions p op in
+    record {
+      position_low = steps.position_low rules ranges plans valid.layer p at_p;
+      one_vertex = steps.one_vertex rules ranges plans valid.layer p at_p;
+      one_position = steps.one_position rules plans p;
+      one_step = steps.one_step rules ranges proper plans timed p op;
+      step_low = steps.step_low rules ranges proper plans timed p op;
     }
 
 pub keys_fall : (spec : Spec) (plans : Plans) (t : Term) (root : ℕ) → AreInRange (rules_of spec) → AreValid (rules_of spec) plans → Fits spec t root

@@ -18,3 +18,4 @@ pub mod SeatRows
 pub mod StepKinds
 pub mod LiveSites
 pub mod PlanFacts
+pub mod StepFacts

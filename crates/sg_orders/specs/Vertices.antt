@@ -24,7 +24,7 @@ IsVertex rules p o = o.slot < attr_count rules (phylum_there rules p o.at) + loc
 -- so few operators, attributes, arguments, locals and equations that vertices and equations have small numbers
 pub record AreFew (rules : Rules) : Type 0 where
   pub ops : length rules.ops < 2 ^ 32
-  pub attrs : All (λ (x : Phylum). length x.attrs < 2 ^ 20) rules.phyla
+  pub attrs : All (λ (x : Phylum). length x.attrs < 2 ^ 22) rules.phyla
   pub args : All (λ (o : Operator). length o.args < 2 ^ 8) rules.ops
   pub locals : All (λ (o : Operator). length o.locals < 2 ^ 20) rules.ops
   pub equations : length rules.rules < 2 ^ 32

@@ -1,5 +1,5 @@
 //! Laws of the ordering, each as the contract of a function without code.
-ghost use Rattle.std.specs.Prelude.{◌≡◌, ◌≢◌, ℕ, ◌<◌, length, Some, Contains};
+ghost use Rattle.std.specs.Prelude.{◌≡◌, ◌≢◌, ℕ, ◌<◌, ◌≤◌, ◌⊎◌, List, length, slice_index, Some, Contains};
 ghost use Rattle.sg_kinds.specs.Dependencies.{IsAttr};
 ghost use Rattle.sg_kinds.specs.Fits.{Fits};
 ghost use Rattle.sg_kinds.specs.FromScratch.{leaf_or, site_value, value_in};
@@ -12,7 +12,8 @@ ghost use Rattle.sg_kinds.specs.Places.{Place};
 ghost use Rattle.sg_kinds.specs.Sound.{AreCounted, HasShapes, HasRules};
 ghost use Rattle.sg_kinds.specs.Specification.{rules_of};
 ghost use Rattle.sg_kinds.specs.Terms.{Term};
-ghost use Rattle.sg_kinds.specs.ValidPlans.{AreValid};
+ghost use Rattle.sg_kinds.specs.ValidPlans.{AreValid, vertices};
+ghost use Rattle.sg_kinds.specs.Visits.{row_at, vertex, visit_count};
 ghost use Rattle.sg_kinds.specs.declared.plans.Plans.{Plans};
 ghost use Rattle.sg_kinds.specs.declared.spec.Occurrence.{Occurrence};
 ghost use Rattle.sg_kinds.specs.declared.spec.Rules.{Rules};
@@ -21,7 +22,8 @@ ghost use Rattle.sg_orders.specs.Faults.{IsFault};
 ghost use Rattle.sg_orders.specs.LiveSites.{IsLive};
 ghost use Rattle.sg_orders.specs.PlanFacts.{HasPlanFacts};
 ghost use Rattle.sg_orders.specs.Proper.{AreProper};
-ghost use Rattle.sg_orders.specs.Vertices.{AreInRange};
+ghost use Rattle.sg_orders.specs.StepFacts.{HasStepFacts};
+ghost use Rattle.sg_orders.specs.Vertices.{AreInRange, IsVertex};
 ghost use Rattle.sg_orders.specs.declared.fault.OrderFault.TheVariants as fault;
 ghost use Rattle.sg_orders.specs.declared.fault.OrderFault.{OrderFault};
 
@@ -42,6 +44,34 @@ pub fn unique_layers()
 /// what an equation names before what it defines.
 pub fn plan_facts()
     ensures { (rules : Rules) (plans : Plans) → AreInRange rules → AreValid rules plans → (p : ℕ) → p < length rules.ops → HasPlanFacts rules plans p }
+{}
+
+/// Each attribute has one of the visits of its phylum, counted from 1.
+pub fn visits_are_counted()
+    ensures low { (rules : Rules) (plans : Plans) → AreValid rules plans → (X a : ℕ) → X < length rules.phyla → IsAttr rules X a → 1 ≤ slice_index (row_at plans.visits X) a }
+    ensures high { (rules : Rules) (plans : Plans) → AreValid rules plans → (X a : ℕ) → X < length rules.phyla → IsAttr rules X a → slice_index (row_at plans.visits X) a ≤ visit_count plans X }
+{}
+
+/// The numbers of an operator's vertices are below their count, and different.
+#[tactic(auto, using(crate::proofs::Numbers::vertex_under, crate::proofs::Numbers::same_vertex))]
+pub fn vertices_are_numbered()
+    ensures low { (rules : Rules) (p : ℕ) (o : Occurrence) → IsVertex rules p o → vertex rules p o < vertices rules p }
+    ensures one_each { (rules : Rules) (p : ℕ) (u v : Occurrence) → IsVertex rules p u → IsVertex rules p v → vertex rules p u ≡ vertex rules p v → u ≡ v }
+{}
+
+/// No two vertices of an operator stand at one position, nor do two of its steps.
+#[tactic(auto, using(crate::proofs::ValidFacts::step_facts))]
+pub fn step_facts()
+    ensures { (rules : Rules) (plans : Plans) → AreInRange rules → AreProper rules → AreValid rules plans → (p : ℕ) → p < length rules.ops → HasStepFacts rules plans p }
+{}
+
+/// Keys are in a strict order: none is less than itself, what is less than a lesser one is less, and of two that differ one
+/// is less.
+#[tactic(auto, using(crate::proofs::Fixpoint::less_itself, crate::proofs::Fixpoint::less_on, crate::proofs::Fixpoint::one_less))]
+pub fn keys_are_ordered()
+    ensures irreflexive { (xs : List ℕ) → IsLess xs xs → ⊥ }
+    ensures transitive { (xs ys zs : List ℕ) → IsLess xs ys → IsLess ys zs → IsLess xs zs }
+    ensures total { (xs ys : List ℕ) → xs ≢ ys → IsLess xs ys ⊎ IsLess ys xs }
 {}
 
 /// Each argument of an equation of a term that has an equation itself has a smaller key than what names it.

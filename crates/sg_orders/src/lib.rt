@@ -20,12 +20,12 @@ mod readers;
 mod rounds;
 mod seats;
 mod steps;
-#[cfg(test)]
-mod tests;
 mod timing;
+mod vertices;
 mod visits;
 
 pub use fault::OrderFault;
 pub use ordering::order;
 pub use proper::is_proper;
 pub use range::is_in_range;
+pub use vertices::vertex_of;

@@ -8,7 +8,7 @@ use sg_kinds::ids::{OpId, PhylumId};
 use sg_kinds::row::Row;
 use sg_kinds::spec::{Occurrence, Operator, Rule, Rules};
 
-/// Returns whether the phyla of the operators and the occurrences of the equations are there, with fewer than 2^20
+/// Returns whether the phyla of the operators and the occurrences of the equations are there, with fewer than 2^22
 /// attributes a phylum, fewer than 2^8 arguments and 2^20 locals an operator, and fewer than 2^32 operators and equations.
 pub fn is_in_range(rules: &Rules) -> bool
     ensures { IsTrue result ↔ AreInRange rules.now }
@@ -22,7 +22,7 @@ fn are_few(rules: &Rules) -> bool
 {
     let ops = rules.ops.as_slice();
     let phyla = rules.phyla.as_slice();
-    let few_attrs = phyla.iter().all(|x| x.attrs.len() < 1 << 20);
+    let few_attrs = phyla.iter().all(|x| x.attrs.len() < 1 << 22);
     let few_args = ops.iter().all(|o| o.args.len() < 1 << 8);
     let few_locals = ops.iter().all(|o| o.locals.len() < 1 << 20);
     let few_rules = rules.rules.len() < 1 << 32;

@@ -14,9 +14,9 @@ abbrev pub place_in : List Position → ℕ → Position
 place_in places k = slice_index_or places k nowhere
 
 -- each operator at its name
-abbrev pub operators_at : Decl → List Position
-operators_at (Operators n alts) = map (λ (a : Alt). a.name.place) alts
-operators_at d = []
+abbrev pub op_places_at : Decl → List Position
+op_places_at (Operators n alts) = map (λ (a : Alt). a.name.place) alts
+op_places_at d = []
 
 -- each production at its `(`
 abbrev pub rights_at : Decl → List Position
@@ -30,7 +30,7 @@ entries_at d = []
 
 -- the operators in their order
 abbrev pub operator_places : List Decl → List Position
-operator_places ds = flat_map operators_at ds
+operator_places ds = flat_map op_places_at ds
 
 -- the productions in their order, and behind them the start productions
 abbrev pub production_places : List Decl → List Position

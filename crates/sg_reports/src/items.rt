@@ -6,13 +6,13 @@ ghost use Rattle.sg_reports.specs.Symbols.{printed_symbols};
 ghost use Rattle.sg_reports.specs.Items.{printed_item};
 
 use crate::symbols::symbols_in;
-use sg_grammar::grammar::Grammar;
+use sg_grammar::Grammar;
 use sg_kinds::fault::{PrintedItem, PrintedSymbol};
 use sg_kinds::memory::NoMemory;
 use sg_kinds::row::Row;
 use sg_kinds::spec::{Production, Spec};
 use sg_kinds::text::Text;
-use sg_lalr::items::Item;
+use sg_lalr::Item;
 use std::alloc::Global;
 
 /// The right side of a production, empty where it is not there.

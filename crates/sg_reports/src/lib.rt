@@ -7,6 +7,4 @@ pub mod orders;
 mod places;
 mod symbols;
 pub mod tables;
-#[cfg(test)]
-mod tests;
 mod vertices;

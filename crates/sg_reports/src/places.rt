@@ -46,7 +46,7 @@ fn push_rights(places: &mut Vec<Position>, rights: &[Right]) -> Result<(), NoMem
 
 /// Puts the places of a declaration's operators behind the others.
 fn push_operators_at(places: &mut Vec<Position>, decl: &Decl) -> Result<(), NoMemory>
-    ensures { OnOk result (places.new.items ≡ places.old.items ++ spec.operators_at (tree_of decl.now)) }
+    ensures { OnOk result (places.new.items ≡ places.old.items ++ spec.op_places_at (tree_of decl.now)) }
 {
     match decl {
         Decl::Operators(_, alts) => push_operators(places, alts.as_slice()),

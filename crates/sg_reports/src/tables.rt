@@ -8,11 +8,11 @@ use crate::items::printed_item;
 use crate::places::{head_place, place_in, production_places};
 use crate::symbols::{name_in, printed_symbols, symbol_in, symbols_in};
 use sg_ast::decl::Decl;
-use sg_grammar::grammar::Grammar;
+use sg_grammar::Grammar;
 use sg_kinds::fault::{PrintedConflict, SpecFault};
 use sg_kinds::memory::NoMemory;
 use sg_kinds::spec::Spec;
-use sg_lalr::tables::TableFault;
+use sg_lalr::TableFault;
 use std::alloc::Global;
 
 /// A fault of tables as it is printed.

@@ -7,7 +7,7 @@ use Rattle.sg_kinds.specs.declared.spec.Spec.{Spec}
 use Rattle.sg_ast.specs.View.{trees_of}
 use Rattle.sg_grammar.specs.Numbered.{grammar_of}
 use Rattle.sg_load.specs.FirstFault.Phase.{Tables, Order}
-use Rattle.sg_load.specs.Loaded.{AreLexemesOf}
+use Rattle.sg_patterns.specs.LexemesOf.{AreLexemesOf}
 use Rattle.sg_load.proofs.FirstLaws.{here, later}
 use Rattle.sg_load.proofs.loading.complete.Goals as goal
 
@@ -32,8 +32,8 @@ invariant_of-result c =
       blank = c.in_ok-lexemes.ensures.blank;
     } in
     record {
-      is_sound = ∣ subst IsSound (sym same) c.requires.sound ∣₁;
-      plans_valid = ∣ subst (λ (s : Spec). AreValid (rules_of s) c.in_ok-spec.plans) (sym same) c.in_ok-spec.ensures.plans ∣₁;
-      tables_of_it = ∣ c.in_ok-tables.ensures.tables ∙ ap grammar_of (sym same) ∣₁;
-      lexemes_of_it = ∣ subst (λ (s : Spec). AreLexemesOf s c.in_ok-lexemes.lexemes) (sym same) lexemes ∣₁;
+      sound = subst IsSound (sym same) c.requires.sound;
+      plans = subst (λ (s : Spec). AreValid (rules_of s) c.in_ok-spec.plans) (sym same) c.in_ok-spec.ensures.plans;
+      tables = c.in_ok-tables.ensures.tables ∙ ap grammar_of (sym same);
+      lexemes = subst (λ (s : Spec). AreLexemesOf s c.in_ok-lexemes.lexemes) (sym same) lexemes;
     }
