@@ -8,3 +8,4 @@ pub mod Matched
 pub mod Clipped
 pub mod TypeFacts
 pub mod OfTypes
+pub mod AppliedBy

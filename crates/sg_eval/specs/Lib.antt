@@ -1,3 +1,4 @@
+pub mod Applied
 pub mod Journal
 pub mod Lives
 pub mod Typed

@@ -5,6 +5,7 @@ ghost use Rattle.sg_kinds.specs.Pools.{value_at, Stands, IsGrown};
 ghost use Rattle.sg_kinds.specs.Evaluation.{Reached, outcome_in};
 ghost use Rattle.sg_kinds.specs.Outcome.{outcome, outcome_of};
 ghost use Rattle.sg_eval.specs.Journal.{now_of, total_of};
+ghost use Rattle.sg_eval.specs.Applied.{IsApplied};
 ghost use Rattle.sg_eval.specs.Lives.{IsReached, clipped};
 
 use crate::eval::{Scope, enter};
@@ -56,6 +57,13 @@ impl Evaluator {
         })
     }
 
+    /// The specification.
+    pub fn spec(&self) -> &Spec
+        ensures { result.now ≡ self.now }
+    {
+        &self.spec
+    }
+
     /// Notes `who` in the journal and answers the number of the rule's outcome on the values of these numbers. It is the only
     /// call that evaluates an equation.
     pub fn run(
@@ -81,10 +89,11 @@ impl Evaluator {
         evaluate(self.alloc, spec, rule.expr, args, pool)
     }
 
-    /// The outcome of an expression of the specification on these values, of which each is the binding at its place. For the
-    /// expression of a transform these are the values of its pattern's variables, for that of an input production the results of
-    /// its nonterminals and the texts of its lexemes, from left to right. No journal is handed in.
+    /// The outcome of the expression of a transformation or of an input production on these values, of which each is the
+    /// binding at its place: the values of the pattern's variables, or the results of the nonterminals and the texts of the
+    /// lexemes, from left to right. No journal is handed in, so it takes no equation.
     pub fn apply(&self, e: ExprId, bound: &[Value]) -> Result<Value, NoMemory>
+        requires applied { IsApplied self.now e }
         ensures { IfOk result (λ v. v ≡ outcome_of self.now e bound.now) }
     {
         let mut pool = Pool::new(self.alloc)?;
@@ -92,8 +101,23 @@ impl Evaluator {
         for value in bound {
             numbers.push(clip(value, &mut pool)?)?;
         }
-        let id = evaluate(self.alloc, &self.spec, e, &numbers, &mut pool)?;
+        let id = self.apply_in(e, &numbers, &mut pool)?;
         Ok(pool.value(self.alloc, id)?)
+    }
+
+    /// As `apply`, but on numbers of a pool, and the outcome is put there.
+    pub fn apply_in(
+        &self,
+        e: ExprId,
+        bound: &[ValueId],
+        pool: &mut Pool,
+    ) -> Result<ValueId, NoMemory>
+        requires applied { IsApplied self.now e }
+        requires bound { All (λ k. k < length pool.old) bound.now }
+        ensures outcome { IfOk result (λ id. Stands pool.new id (outcome_of self.now e (map (value_at pool.old) bound.now))) }
+        ensures grown { IsGrown pool.old pool.new }
+    {
+        evaluate(self.alloc, &self.spec, e, bound, pool)
     }
 }
 

@@ -33,8 +33,8 @@ impl Model for Journal {
 }
 
 impl Journal {
-    /// A journal without entries, of the runtime.
-    pub fn new(rt: &impl AllocGlobal) -> Journal
+    /// A journal without entries. Only who has the runtime itself can make one: an allocator is not enough.
+    pub fn new(rt: &HostRuntime) -> Journal
         ensures now { now_of result ≡ [] }
         ensures total { total_of result ≡ 0 }
     {

@@ -9,8 +9,6 @@ mod live;
 mod numbers;
 mod operators;
 mod patterns;
-#[cfg(test)]
-mod tests;
 mod texts;
 mod trees;
 

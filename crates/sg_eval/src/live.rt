@@ -21,14 +21,6 @@ pub enum Stop {
     NoMemory,
 }
 
-impl From<NoMemory> for Stop {
-    ghost from_gives = { λ _ e. e ≡ StopNoMemory };
-
-    fn from(_: NoMemory) -> Stop {
-        Stop::NoMemory
-    }
-}
-
 impl From<AllocError> for Stop {
     ghost from_gives = { λ _ e. e ≡ StopNoMemory };
 

@@ -72,7 +72,7 @@ ends_text shelf old new n status ended bytes put = record {
     most = omega arith;
   };
   taken = refl;
-  served = none_or_one_more [] shelf;
+  served = none_or_one_more [] shelf (omega arith);
   calls = λ _. sym (tallied-zero shelf.calls);
   sink_later = put.later;
   sink_fault = put.rose;
@@ -106,7 +106,7 @@ ends_unput shelf old new n m spec status is_cut memory fault rose later puts cou
     most = omega (arith, counts);
   };
   taken = refl;
-  served = none_or_one_more [] shelf;
+  served = none_or_one_more [] shelf (omega arith);
   calls = λ _. sym (tallied-zero shelf.calls);
   sink_later = later;
   sink_fault = rose;

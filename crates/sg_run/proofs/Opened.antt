@@ -17,24 +17,29 @@ use Rattle.sg_run.specs.declared.status.Status.TheVariants.{Memory, ReadFault}
 use Rattle.sg_run.specs.Output.{Told, text, opened, judged, screened, shown, session, fault_told, unbuilt, read_fault_text}
 use Rattle.sg_run.specs.World.{SinkState, World, world}
 use Rattle.sg_run.specs.Parts.{Ends, Finished}
-use Rattle.sg_run.specs.Opening.{IsRightOf, IsKnown, IsKnownOf}
+use Rattle.sg_run.specs.Opening.{IsQuiet, IsRightOf, IsKnown, IsKnownOf, Silent}
 use Rattle.sg_run.proofs.Endings.{ends_text, ends_as, ends_memory}
 
 -- no reply is taken
-pub judged_quiet : (v : Verdict) (next : Spec → Told) → ((spec : Spec) → (next spec).taken ≡ 0) → (judged v next).taken ≡ 0
-judged_quiet (Refused f) next quiet = refl
+pub judged_quiet : (v : Verdict) (next : Spec → Told) → ((spec : Spec) → IsQuiet (next spec)) → IsQuiet (judged v next)
+judged_quiet (Refused f) next quiet = record { taken = refl; asked = omega arith }
 judged_quiet (Accepted spec) next quiet = quiet spec
 
-pub screened_quiet : (f : Option SmallFault) (t : Told) → t.taken ≡ 0 → (screened f t).taken ≡ 0
+pub screened_quiet : (f : Option SmallFault) (t : Told) → IsQuiet t → IsQuiet (screened f t)
 screened_quiet None t quiet = quiet
-screened_quiet (Some f) t quiet = refl
+screened_quiet (Some f) t quiet = record { taken = refl; asked = omega arith }
 
-pub shown_quiet : (bytes : List ℕ) (spec : Spec) → (shown bytes spec []).taken ≡ 0
-shown_quiet bytes spec = screened_quiet (first_fault bytes) (session (spec_of bytes) []) refl
+pub shown_quiet : (bytes : List ℕ) (spec : Spec) → IsQuiet (shown bytes spec [])
+shown_quiet bytes spec = screened_quiet (first_fault bytes) (session (spec_of bytes) []) (record { taken = refl; asked = omega arith })
 
 -- want of memory before anything was put
-pub ends_early : (shelf : ShelfState) (sink : SinkState) (n : ℕ) (t : Told) → t.taken ≡ 0 → Ends (world shelf sink n) t [] Memory (world shelf sink n)
-ends_early shelf sink n t quiet = ends_memory shelf shelf sink n n t quiet (none_or_one_more _ shelf) (omega arith) (omega arith)
+pub ends_early : (shelf : ShelfState) (sink : SinkState) (n : ℕ) (t : Told) → IsQuiet t → Ends (world shelf sink n) t [] Memory (world shelf sink n)
+ends_early shelf sink n t quiet = ends_memory shelf shelf sink n n t quiet.taken (none_or_one_more t.requests shelf quiet.asked) (omega arith) (omega arith)
+
+pub ends_silent : (shelf : ShelfState) (old new : SinkState) (status : Status) (n : ℕ) (t : Told) → IsQuiet t → Silent status old new n n → Ends (world shelf old n) t [] status (world shelf new n)
+ends_silent shelf old new status n t quiet is =
+    subst (λ (s : Status). Ends (world shelf old n) t [] s (world shelf new n)) (sym is.memory)
+    (subst (λ (x : SinkState). Ends (world shelf old n) t [] Memory (world shelf x n)) (sym is.sink) (ends_early shelf old n t quiet))
 
 -- the one verdict
 pub told_by_verdict : (bytes : List ℕ) (v w : Verdict) (next : Spec → Told) → IsTheVerdict bytes w → IsVerdict bytes v → judged v next ≡ judged w next

@@ -12,10 +12,3 @@ mod words;
 
 pub use running::{Outcome, run};
 pub use status::Status;
-
-#[cfg(test)]
-mod faults;
-#[cfg(test)]
-mod languages;
-#[cfg(test)]
-mod tests;

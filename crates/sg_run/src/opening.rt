@@ -11,7 +11,7 @@ ghost use Rattle.sg_small_spec.specs.SpecOf.{spec_of};
 ghost use Rattle.sg_load.specs.Only.{IsTheVerdict};
 ghost use Rattle.sg_load.specs.Verdict.{Verdict, IsVerdict};
 ghost use Rattle.sg_load.specs.Verdict.Verdict.{Accepted};
-ghost use Rattle.sg_run.specs.Opening.{IsFetched, IsKnown};
+ghost use Rattle.sg_run.specs.Opening.{IsQuiet, IsEnding, IsFetched, IsKnown};
 ghost use Rattle.sg_run.specs.Output.{Told, asked, fault_told, judged, screened, specification};
 ghost use Rattle.sg_run.specs.Parts.{Ends, Played};
 ghost use Rattle.sg_run.specs.World.{SinkState, world, sink_state};
@@ -71,19 +71,28 @@ fn refuse<K: Sink>(alloc: Global, fault: &SpecFault, sink: &mut K) -> Status
     }
 }
 
+/// Ends the run by what there is in place of a specification: want of memory, or a static fault.
+fn end_by<K: Sink>(alloc: Global, fault: &SpecFault, sink: &mut K) -> Status
+    ensures { (n : ℕ) → IsEnding n fault.now result (sink_state (K.written sink.old) (K.faults sink.old) (K.puts sink.old)) (sink_state (K.written sink.new) (K.faults sink.new) (K.puts sink.new)) }
+{
+    if is_memory(fault) {
+        return Status::Memory;
+    }
+    refuse(alloc, fault, sink)
+}
+
 /// Loads the specification of these bytes. An error says with which status the run is over.
 pub fn judge<K: Sink>(alloc: Global, bytes: &[u8], sink: &mut K) -> Result<Loaded, Status>
     ensures accepted { IfOk result (λ loaded. IsTheVerdict bytes.now (Accepted loaded.spec)) }
     ensures quiet { IfOk result (λ _. sink_state (K.written sink.new) (K.faults sink.new) (K.puts sink.new) ≡ sink_state (K.written sink.old) (K.faults sink.old) (K.puts sink.old)) }
     ensures known { IfErr result (λ status. (n : ℕ) → IsKnown bytes.now status (sink_state (K.written sink.old) (K.faults sink.old) (K.puts sink.old)) (sink_state (K.written sink.new) (K.faults sink.new) (K.puts sink.new)) n n) }
-    ensures refused { IfErr result (λ status. (v : Verdict) → IsVerdict bytes.now v → (next : Spec → Told) → ((spec : Spec) → (next spec).taken ≡ 0) → (shelf : ShelfState) (n : ℕ)
+    ensures refused { IfErr result (λ status. (v : Verdict) → IsVerdict bytes.now v → (next : Spec → Told) → ((spec : Spec) → IsQuiet (next spec)) → (shelf : ShelfState) (n : ℕ)
         → Ends (world shelf (sink_state (K.written sink.old) (K.faults sink.old) (K.puts sink.old)) n) (judged v next) [] status
         (world shelf (sink_state (K.written sink.new) (K.faults sink.new) (K.puts sink.new)) n)) }
 {
     match load(alloc, bytes) {
         Ok(loaded) => Ok(loaded),
-        Err(fault) if is_memory(&fault) => Err(Status::Memory),
-        Err(fault) => Err(refuse(alloc, &fault, sink)),
+        Err(fault) => Err(end_by(alloc, &fault, sink)),
     }
 }
 
@@ -93,7 +102,7 @@ pub fn screen<K: Sink>(alloc: Global, bytes: &[u8], sink: &mut K) -> Result<Spec
     ensures record_of { IfOk result (λ spec. spec ≡ spec_of bytes.now) }
     ensures showable { IfOk result (λ spec. IsShowable spec) }
     ensures quiet { IfOk result (λ _. sink_state (K.written sink.new) (K.faults sink.new) (K.puts sink.new) ≡ sink_state (K.written sink.old) (K.faults sink.old) (K.puts sink.old)) }
-    ensures refused { IfErr result (λ status. (next : Told) → next.taken ≡ 0 → (shelf : ShelfState) (n : ℕ)
+    ensures refused { IfErr result (λ status. (next : Told) → IsQuiet next → (shelf : ShelfState) (n : ℕ)
         → Ends (world shelf (sink_state (K.written sink.old) (K.faults sink.old) (K.puts sink.old)) n) (screened (first_fault bytes.now) next) [] status
         (world shelf (sink_state (K.written sink.new) (K.faults sink.new) (K.puts sink.new)) n)) }
 {

@@ -2,7 +2,6 @@
 ghost use Rattle.std.specs.Prelude.{◌≡◌};
 ghost use Rattle.sg_run.specs.Statuses.{number_of};
 
-use sg_kinds::memory::NoMemory;
 use sg_outside::SinkError;
 use std::alloc::AllocError;
 
@@ -48,16 +47,6 @@ impl From<AllocError> for Status {
     ghost from_gives = { λ _ s. s ≡ OutOfMemory };
 
     fn from(_: AllocError) -> Self {
-        Status::Memory
-    }
-}
-
-impl From<NoMemory> for Status {
-    ghost use Rattle.sg_run.specs.declared.status.Status.TheVariants.{Memory as OutOfMemory};
-
-    ghost from_gives = { λ _ s. s ≡ OutOfMemory };
-
-    fn from(_: NoMemory) -> Self {
         Status::Memory
     }
 }

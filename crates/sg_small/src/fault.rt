@@ -3,7 +3,6 @@ ghost use Rattle.std.specs.Prelude.{◌≡◌};
 ghost use Rattle.sg_small.specs.declared.fault.ReadFault.TheVariants as fault;
 ghost use Rattle.sg_small.specs.declared.fault.Refusal.TheVariants as refusal;
 
-use sg_kinds::memory::NoMemory as OutOfMemory;
 use std::alloc::{AllocError, AllocFailed};
 use thiserror::Error;
 
@@ -30,14 +29,6 @@ impl<T: Drop> From<AllocFailed<T>> for ReadFault {
 pub(crate) enum Refusal {
     NotSmall,
     NoMemory,
-}
-
-impl From<OutOfMemory> for Refusal {
-    ghost from_gives = { λ _ e. e ≡ refusal.NoMemory };
-
-    fn from(_: OutOfMemory) -> Refusal {
-        Refusal::NoMemory
-    }
 }
 
 impl From<AllocError> for Refusal {

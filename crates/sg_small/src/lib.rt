@@ -13,6 +13,3 @@ pub use decl::{Alt, Decl, Item, Part, Reference};
 pub use fault::ReadFault;
 pub use number::Number;
 pub use reading::read;
-
-#[cfg(test)]
-mod tests;

@@ -5,4 +5,3 @@ pub mod Pages
 pub mod Rules
 pub mod Visits
 mod Worked
-pub mod Calc

@@ -3,4 +3,3 @@ pub mod Page
 pub mod FirstScreen
 pub mod Upward
 pub mod Found
-pub mod Calc

@@ -5,8 +5,6 @@ mod cells;
 mod found;
 mod page;
 mod showing;
-#[cfg(test)]
-mod tests;
 mod visit;
 
 pub use showing::show;

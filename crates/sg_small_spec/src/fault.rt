@@ -2,7 +2,6 @@
 ghost use Rattle.std.specs.Prelude.{◌≡◌};
 ghost use Rattle.sg_small_spec.specs.declared.fault.Refusal.TheVariants as refusal;
 
-use sg_kinds::memory::NoMemory as OutOfMemory;
 use std::alloc::{AllocError, AllocFailed};
 use thiserror::Error;
 
@@ -25,14 +24,6 @@ pub enum SmallFault {
 pub(crate) enum Refusal {
     NotSmall,
     NoMemory,
-}
-
-impl From<OutOfMemory> for Refusal {
-    ghost from_gives = { λ _ e. e ≡ refusal.NoMemory };
-
-    fn from(_: OutOfMemory) -> Refusal {
-        Refusal::NoMemory
-    }
 }
 
 impl From<AllocError> for Refusal {

@@ -13,6 +13,3 @@ mod tables;
 
 pub use fault::SmallFault;
 pub use loading::load;
-
-#[cfg(test)]
-mod tests;

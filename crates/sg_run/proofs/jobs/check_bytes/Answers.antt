@@ -1,4 +1,4 @@
-use Rattle.std.proofs.Common.{◌≡◌, refl, []}
+use Rattle.std.proofs.Common.{◌≡◌, refl, [], arith}
 use Rattle.sg_load.specs.Verdict.Verdict.{Accepted}
 use Rattle.sg_run.specs.declared.status.Status.TheVariants.{Done}
 use Rattle.sg_run.specs.Output.{checked, judged, text, ok_text}
@@ -9,7 +9,7 @@ use Rattle.sg_run.proofs.jobs.check_bytes.Goals as goal
 
 pub returns-in_err-judge-clause-ended : goal.returns-in_err-judge-clause-ended
 returns-in_err-judge-clause-ended g c = λ v is shelf n.
-    ends_with _ _ _ _ _ _ (c.in_err-judge.ensures.refused v is (λ spec. checked c.args.bytes.now spec []) (λ spec. refl) shelf n) (ended_is c.in_err-judge.field-0.0 _ c.from_residual.ensures.1)
+    ends_with _ _ _ _ _ _ (c.in_err-judge.ensures.refused v is (λ spec. checked c.args.bytes.now spec []) (λ spec. record { taken = refl; asked = omega arith }) shelf n) (ended_is c.in_err-judge.field-0.0 _ c.from_residual.ensures.1)
 
 pub returns-in_err-judge-clause-known : goal.returns-in_err-judge-clause-known
 returns-in_err-judge-clause-known g c = λ n.

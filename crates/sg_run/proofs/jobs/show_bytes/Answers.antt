@@ -1,4 +1,4 @@
-use Rattle.std.proofs.Common.{refl, ◌∙◌, []}
+use Rattle.std.proofs.Common.{refl, ◌∙◌, [], arith}
 use Rattle.sg_eval.specs.Journal.{counted}
 use Rattle.sg_load.specs.Verdict.Verdict.{Accepted}
 use Rattle.sg_small_spec.specs.SpecOf.{spec_of}
@@ -23,7 +23,7 @@ pub returns-in_err-spec-clause-ended : goal.returns-in_err-spec-clause-ended
 returns-in_err-spec-clause-ended g c = λ v is shelf.
     let told = shown_by_verdict c.args.bytes.now v c.in_ok-judge.field-0.spec c.in_ok-judge.ensures.accepted is in
     ends_with _ _ _ _ _ _
-    (ends_as _ _ _ _ _ told (ends_quiet shelf _ _ _ _ _ _ _ c.in_ok-judge.ensures.quiet (c.in_err-spec.ensures.refused (session (spec_of c.args.bytes.now) []) refl shelf (counted c.args.journal.now))))
+    (ends_as _ _ _ _ _ told (ends_quiet shelf _ _ _ _ _ _ _ c.in_ok-judge.ensures.quiet (c.in_err-spec.ensures.refused (session (spec_of c.args.bytes.now) []) (record { taken = refl; asked = omega arith }) shelf (counted c.args.journal.now))))
     (ended_is c.in_err-spec.field-0.0 _ c.from_residual-in_err-spec.ensures.1)
 
 pub returns-clause-known : goal.returns-clause-known

@@ -20,19 +20,18 @@ loop-value-preserved c = record {
       (below_grown c.loop-value.pool c.clip.new.pool c.loop-value.numbers.items c.in_ok-clip.field-0 (clipped c.value-item.result) c.in_ok-clip.ensures.grown c.loop-value.invariant.below c.in_ok-clip.ensures.stands);
 }
 
-pub evaluate-requires : goal.evaluate-requires
-evaluate-requires c = subst (All (λ k. k < length c.loop-value.pool)) (sym c.deref.ensures.value) (all_below (length c.loop-value.pool) c.loop-value.numbers.items c.loop-value.invariant.below)
+pub apply_in-requires-clause-bound : goal.apply_in-requires-clause-bound
+apply_in-requires-clause-bound c = subst (All (λ k. k < length c.loop-value.pool)) (sym c.deref.ensures.value) (all_below (length c.loop-value.pool) c.loop-value.numbers.items c.loop-value.invariant.below)
 
 pub value-requires : goal.value-requires
-value-requires c = slice_get_within c.evaluate.new.pool c.in_ok-id.id _ c.in_ok-id.ensures.outcome
+value-requires c = slice_get_within c.apply_in.new.pool c.in_ok-id.id _ c.in_ok-id.ensures.outcome
 
 pub returns : goal.returns
 returns c =
-    let spec = c.self.inside.spec in
+    let spec = c.args.self.now in
     let bound = map (value_at c.loop-value.pool) c.deref.result.now in
-    let found : Stands c.evaluate.new.pool c.in_ok-id.id c.in_ok-value.field-0 = c.in_ok-value.ensures in
-    let wanted : Stands c.evaluate.new.pool c.in_ok-id.id (outcome_of spec c.args.e bound) = c.in_ok-id.ensures.outcome in
-    same_there c.evaluate.new.pool c.in_ok-id.id c.in_ok-value.field-0 (outcome_of spec c.args.e bound) found wanted
+    let found : Stands c.apply_in.new.pool c.in_ok-id.id c.in_ok-value.field-0 = c.in_ok-value.ensures in
+    let wanted : Stands c.apply_in.new.pool c.in_ok-id.id (outcome_of spec c.args.e bound) = c.in_ok-id.ensures.outcome in
+    same_there c.apply_in.new.pool c.in_ok-id.id c.in_ok-value.field-0 (outcome_of spec c.args.e bound) found wanted
     ∙ ap (outcome_of spec c.args.e) (ap (map (value_at c.loop-value.pool)) c.deref.ensures.value ∙ c.loop-value.invariant.values ∙ ap (map clipped) (take_all c.loop-value.value-index c.args.bound.now c.loop-value-test.false))
     ∙ outcome_clipped spec c.args.e c.args.bound.now
-    ∙ ap (λ s. outcome_of s c.args.e c.args.bound.now) c.self.view_is
