@@ -1,0 +1,16 @@
+//! Trials over accepted specifications: what their records hold, their plans and tables, typed-in texts, the outcomes of
+//! expressions, and calls that may answer want of memory where memory is ample.
+#![tactic(auto)]
+
+#[cfg(test)]
+mod entering;
+#[cfg(test)]
+mod language;
+#[cfg(test)]
+mod outcomes;
+#[cfg(test)]
+mod plans;
+#[cfg(test)]
+mod records;
+#[cfg(test)]
+mod terms;
