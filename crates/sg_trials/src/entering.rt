@@ -1,16 +1,17 @@
 //! Typed-in texts: their tokens, and what the tables do along them.
 ghost use Rattle.std.specs.Prelude.{◌≡◌};
 
+use crate::loading::loaded;
 use sg_grammar::{Grammar, make};
 use sg_lalr::{Action, Tables};
-use sg_load::load;
 use sg_patterns::{InToken, Lexemes, ScanFault, scan};
 use std::fmt::Write;
 use std::process::Abort;
 
 /// Formulas, terms of them and names in them. The terminals are the end 0, the markers 1 and 2, the literals `or` 3, `and` 4,
 /// `not` 5, `(` 6, `)` 7 and `=` 8, and the lexemes NAME 9, WHITESPACE 10 and NUMBER 11. The productions are 0 to 8.
-const FORMULAS: &[u8] = br#"root page;
+fn formulas() -> &'static [u8] {
+    br#"root page;
 page : Page(f);
 f : Hole() | Is(NAME) | Not(f) | And(f f) | Or(f f) | Let(NAME f);
 page : Page [ @ : @ ];
@@ -33,7 +34,8 @@ Not_ ::= ('not' Not_) { Not(Not_$2.t) } | (NAME) { Is(NAME.value) } | ('(' Or_ '
 Name_ ::= (NAME) { NAME.value };
 f ~ Or_.t;
 NAME ~ Name_.t;
-"#;
+"#
+}
 
 /// Which entry a text is typed in at, the text, its tokens with their terminals and places or the place without one, and what
 /// is done with each: `s` takes it, a number reduces by that production, `a` accepts, and `x` stops.
@@ -166,7 +168,7 @@ fn enter(rt: &(impl Abort + AllocGlobal), lexemes: &Lexemes, grammar: &Grammar, 
 
 #[test]
 fn texts_are_typed_in(rt: HostRuntime) {
-    let loaded = load(rt.alloc(), FORMULAS).ok().expect(&rt, "a language");
+    let loaded = loaded(&rt, formulas());
     let made = make(rt.alloc(), &loaded.spec).expect(&rt, "a grammar");
     let grammar = made.copy(rt.alloc()).expect(&rt, "a copy");
     assert_eq!(rt;

@@ -2,7 +2,8 @@
 
 /// Its numbers: of the phyla after the three that are always there, `r` is 3, `p` 4, `xs` 5, `ID` 6 and `WHITESPACE` 7; of the
 /// operators R is 0, P 1, Nil 2 and Pair 3; the equations are numbered as they stand.
-pub const LANGUAGE: &[u8] = br#"root r;
+pub fn language() -> &'static [u8] {
+    br#"root r;
 r : R(p xs ID);
 p : P();
 list xs;
@@ -26,4 +27,5 @@ E ::= (ID '+' E) { [xs] } | () { Nil() };
 F ::= ('(' F ')') { F$2.n } | (ID) { STRlen(ID.value) };
 xs ~ E.e;
 INT ~ F.n;
-"#;
+"#
+}

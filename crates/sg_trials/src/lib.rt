@@ -7,6 +7,10 @@ mod entering;
 #[cfg(test)]
 mod language;
 #[cfg(test)]
+mod loading;
+#[cfg(test)]
+mod outcome_rows;
+#[cfg(test)]
 mod outcomes;
 #[cfg(test)]
 mod plans;

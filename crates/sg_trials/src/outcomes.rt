@@ -1,5 +1,7 @@
 //! Outcomes of expressions over every operator, form and fault, and what an evaluation notes.
-use crate::language::LANGUAGE;
+use crate::language::language;
+use crate::loading::loaded;
+use crate::outcome_rows::parts;
 use sg_eval::{Evaluator, Instance, Journal};
 use sg_forest::NodeId;
 use sg_kinds::ids::RuleId;
@@ -7,147 +9,7 @@ use sg_kinds::marks::FaultKind;
 use sg_kinds::pool::Pool;
 use sg_kinds::text::Text;
 use sg_kinds::value::{Value, ValueNode};
-use sg_load::load;
 use std::process::Abort;
-
-/// Each transformation has the outcome of its expression as its name: a number, a truth value, the bytes of a text, the
-/// word of a fault, or `tree`.
-const OUTCOMES: &[u8] = br#"root r;
-r : R(d xs o);
-d : Leaf() | Deep(d) | Long(STR);
-list xs;
-xs : Nil() | Pair(INT xs);
-optional o;
-o : None() | Some(INT);
-r : R [ @ : @ @ @ ];
-d : Leaf [ @ : ];
-d : Deep [ @ : @ ];
-d : Long [ @ : @ ];
-xs : Nil [ @ : ];
-xs : Pair [ @ : @ @ ];
-o : None [ @ : ];
-o : Some [ @ : @ ];
-INT f(INT n) { f(n) };
-INT g(INT n) { n == 0 ? 1 : g(n - 1) + g(n - 1) };
-INT h(INT n) { n == 0 ? 0 : 1 + h(n - 1) };
-STR a(INT n) { n == 0 ? "" : let s = a(n / 2) in (n % 2 == 0 ? s # s : s # s # "a") };
-d deep(INT n, d t) { n == 0 ? t : deep(n - 1, Deep(Deep(t))) };
-transform INT on "42" * : 20 + 22;
-transform INT on "overflow" * : 9223372036854775807 + 1;
-transform INT on "overflow" * : (-9223372036854775807 - 1) + -1;
-transform INT on "-1" * : 9223372036854775807 + (-9223372036854775807 - 1);
-transform INT on "-2" * : 20 - 22;
-transform INT on "overflow" * : (-9223372036854775807 - 1) - 1;
-transform INT on "overflow" * : 9223372036854775807 - -1;
-transform INT on "overflow" * : 0 - (-9223372036854775807 - 1);
-transform INT on "-42" * : -6 * 7;
-transform INT on "overflow" * : 9223372036854775807 * 2;
-transform INT on "overflow" * : (-9223372036854775807 - 1) * 2;
-transform INT on "overflow" * : (-9223372036854775807 - 1) * -1;
-transform INT on "overflow" * : 4294967296 * 2147483648;
-transform INT on "-9223372036854775808" * : -4294967296 * 2147483648;
-transform INT on "3" * : 7 / 2;
-transform INT on "-3" * : -7 / 2;
-transform INT on "-3" * : 7 / -2;
-transform INT on "divide" * : 7 / 0;
-transform INT on "overflow" * : (-9223372036854775807 - 1) / -1;
-transform INT on "1" * : 7 % 2;
-transform INT on "-1" * : -7 % 2;
-transform INT on "1" * : 7 % -2;
-transform INT on "divide" * : 7 % 0;
-transform INT on "overflow" * : (-9223372036854775807 - 1) % -1;
-transform BOOL on "true" * : 7 == 7;
-transform BOOL on "false" * : 7 == -7;
-transform BOOL on "false" * : 7 != 7;
-transform BOOL on "true" * : 7 != -7;
-transform BOOL on "true" * : -1 < 0;
-transform BOOL on "false" * : 0 < 0;
-transform BOOL on "true" * : 0 <= 0;
-transform BOOL on "false" * : 1 <= 0;
-transform BOOL on "true" * : 0 > -1;
-transform BOOL on "false" * : 0 > 0;
-transform BOOL on "true" * : 0 >= 0;
-transform BOOL on "false" * : -1 >= 0;
-transform BOOL on "true" * : true == true;
-transform BOOL on "true" * : true != false;
-transform BOOL on "true" * : "ab" == "ab";
-transform BOOL on "false" * : "ab" == "ac";
-transform BOOL on "true" * : "ab" != "ac";
-transform BOOL on "true" * : Some(1) == Some(1);
-transform BOOL on "false" * : Some(1) == Some(2);
-transform STR on "abc" * : "ab" # "c";
-transform STR on "" * : "" # "";
-transform INT on "7" * : (7);
-transform INT on "-7" * : -(7);
-transform INT on "overflow" * : -(-9223372036854775807 - 1);
-transform INT on "-9223372036854775807" * : -9223372036854775807;
-transform BOOL on "false" * : !true;
-transform BOOL on "true" * : !false;
-transform INT on "42" * : STRtoINT("42");
-transform INT on "-7" * : STRtoINT("-007");
-transform INT on "9223372036854775807" * : STRtoINT("9223372036854775807");
-transform INT on "convert" * : STRtoINT("9223372036854775808");
-transform INT on "-9223372036854775808" * : STRtoINT("-9223372036854775808");
-transform INT on "convert" * : STRtoINT("-9223372036854775809");
-transform INT on "1" * : STRtoINT("00000000000000000000001");
-transform INT on "convert" * : STRtoINT("");
-transform INT on "convert" * : STRtoINT("-");
-transform INT on "convert" * : STRtoINT("+1");
-transform INT on "convert" * : STRtoINT("1.");
-transform INT on "convert" * : STRtoINT("--1");
-transform INT on "convert" * : STRtoINT("99999999999999999999999x");
-transform STR on "0" * : INTtoSTR(0);
-transform STR on "-7" * : INTtoSTR(-7);
-transform STR on "-9223372036854775808" * : INTtoSTR((-9223372036854775807 - 1));
-transform INT on "0" * : STRlen("");
-transform INT on "3" * : STRlen("abc");
-transform INT on "divide" * : 1 / 0 + STRtoINT("x");
-transform INT on "convert" * : STRtoINT("x") + 1 / 0;
-transform BOOL on "divide" * : 1 / 0 == STRtoINT("x");
-transform xs on "convert" * : STRtoINT("x") :: 1 / 0 :: Nil();
-transform o on "divide" * : Some(1 / 0);
-transform xs on "convert" * : 1 :: STRtoINT("x") :: Nil();
-transform BOOL on "false" * : false && 1 / 0 == 1;
-transform BOOL on "divide" * : true && 1 / 0 == 1;
-transform BOOL on "true" * : true || 1 / 0 == 1;
-transform BOOL on "divide" * : false || 1 / 0 == 1;
-transform BOOL on "divide" * : 1 / 0 == 1 || true;
-transform INT on "1" * : true ? 1 : 1 / 0;
-transform INT on "2" * : false ? 1 / 0 : 2;
-transform INT on "divide" * : 1 / 0 == 1 ? 2 : 3;
-transform INT on "42" * : let x = 7 in (let y = 6 in (x * y));
-transform INT on "size" * : let s = a(65536) in (1);
-transform INT on "2" * : with (1) (2 : 20, x : x + 1, 3 : 30);
-transform INT on "20" * : with (2) (2 : 20, x : x + 1, 3 : 30);
-transform INT on "4" * : with (3) (2 : 20, x : x + 1, 3 : 30);
-transform INT on "nomatch" * : with (3) (2 : 20);
-transform INT on "9" * : with (3) (2 : 20, default : 9);
-transform INT on "divide" * : with (1 / 0) (2 : 20, default : 9);
-transform INT on "8" * : with (8 :: Nil()) (Nil() : 0, Pair(x, *) : x);
-transform INT on "0" * : with (Nil()) (Nil() : 0, Pair(x, *) : x);
-transform INT on "2" * : with ("b") ("a" : 1, "b" : 2);
-transform INT on "2" * : with (false) (true : 1, false : 2);
-transform INT on "2" * : with (-3) (3 : 1, -3 : 2);
-transform BOOL on "true" * : [xs] == 0 :: Nil();
-transform BOOL on "true" * : <xs> == 0 :: Nil();
-transform BOOL on "true" * : [o] == None();
-transform BOOL on "true" * : <o> == Some(0);
-transform INT on "2" * : with (Some(0)) ([o] : 1, <o> : 2);
-transform INT on "1" * : with (None()) ([o] : 1, <o> : 2);
-transform INT on "nomatch" * : with (Some(1)) ([o] : 1, <o> : 2);
-transform INT on "depth" * : f(1);
-transform INT on "4096" * : g(12);
-transform INT on "fuel" * : g(13);
-transform INT on "fuel" * : g(20);
-transform INT on "681" * : h(681);
-transform INT on "depth" * : h(682);
-transform INT on "65535" * : STRlen(a(32767) # a(32768));
-transform INT on "size" * : STRlen(a(32768) # a(32768));
-transform INT on "65534" * : with (Long(a(65534))) (Long(s) : STRlen(s));
-transform d on "size" * : Long(a(65535));
-transform d on "tree" * : deep(511, Deep(Leaf()));
-transform d on "size" * : Deep(deep(511, Deep(Leaf())));
-"#;
 
 /// Whether a value is printed so.
 fn is_told(rt: &(impl Abort + AllocGlobal), value: &Value, told: &Text) -> bool {
@@ -179,6 +41,12 @@ fn word(kind: FaultKind) -> &'static [u8] {
     }
 }
 
+/// The evaluator of the language of a text.
+fn evaluator(rt: &(impl Abort + AllocGlobal), text: &[u8]) -> Evaluator {
+    let loaded = loaded(rt, text);
+    Evaluator::new(rt.alloc(), &loaded.spec).expect(rt, "an evaluator")
+}
+
 /// The outcome of a transformation's expression on these bindings.
 #[tactic(auto, using(sg_eval::proofs::AppliedBy::transform_applied))]
 fn applied(rt: &impl Abort, evaluator: &Evaluator, n: usize, bound: &[Value]) -> Value {
@@ -189,70 +57,104 @@ fn applied(rt: &impl Abort, evaluator: &Evaluator, n: usize, bound: &[Value]) ->
         .expect(rt, "an outcome")
 }
 
+/// Whether the outcome of a transformation's expression is the one that its name tells.
+fn is_as_named(rt: &(impl Abort + AllocGlobal), evaluator: &Evaluator, n: usize) -> bool {
+    let outcome = applied(rt, evaluator, n, &[]);
+    let transform = evaluator.spec().transforms.as_slice().get(n);
+    is_told(rt, &outcome, &transform.expect(rt, "a transformation").name)
+}
+
+/// The whole language of the outcomes.
+fn language_of_outcomes(rt: &(impl Abort + AllocGlobal)) -> Vec<u8> {
+    let mut text = Vec::new(rt.alloc());
+    for part in &parts() {
+        text.extend_from_slice(part).expect(rt, "memory");
+    }
+    text
+}
+
 #[test]
 fn outcomes_of_expressions(rt: HostRuntime) {
-    let loaded = load(rt.alloc(), OUTCOMES).ok().expect(&rt, "a language");
-    let evaluator = Evaluator::new(rt.alloc(), &loaded.spec).expect(&rt, "an evaluator");
-    assert_eq!(rt; loaded.spec.transforms.len(), 115);
-    for (row, transform) in loaded.spec.transforms.as_slice().iter().enumerate() {
-        let outcome = applied(&rt, &evaluator, row, &[]);
-        assert!(rt; is_told(&rt, &outcome, &transform.name), "{row}");
+    let evaluator = evaluator(&rt, &language_of_outcomes(&rt));
+    let count = evaluator.spec().transforms.len();
+    assert_eq!(rt; count, 115);
+    for row in 0..count {
+        assert!(rt; is_as_named(&rt, &evaluator, row), "{row}");
     }
 }
 
 /// The first transformation gives back its one binding, and the second writes its two one behind the other.
-const BINDINGS: &[u8] = br#"root r;
+fn bindings() -> &'static [u8] {
+    br#"root r;
 r : R() | Pair(r r) | Long(STR);
 r : R [ @ : ];
 r : Pair [ @ : @ @ ];
 r : Long [ @ : @ ];
 transform STR on "same" s : s;
 transform r on "both" Pair(Long(s), Long(t)) : Long(s # t);
-"#;
+"#
+}
 
 /// A text of so many bytes.
 fn long(rt: &(impl Abort + AllocGlobal), count: usize) -> Value {
     Value::text(Text::new(vec![in rt.alloc(); b'a'; count].expect(rt, "a text")))
 }
 
+/// Whether the first transformation gives back a text of so many bytes.
+fn is_given_back(rt: &(impl Abort + AllocGlobal), evaluator: &Evaluator, count: usize) -> bool {
+    applied(rt, evaluator, 0, &[long(rt, count)]).same(&long(rt, count))
+}
+
+/// Whether texts of so many bytes are put together.
+fn is_put_together(
+    rt: &(impl Abort + AllocGlobal),
+    evaluator: &Evaluator,
+    left: usize,
+    right: usize,
+) -> bool {
+    let found = applied(rt, evaluator, 1, &[long(rt, left), long(rt, right)]);
+    !found.same(&Value::fault(FaultKind::Size))
+}
+
 #[test]
 fn bindings_up_to_the_limits(rt: HostRuntime) {
-    let loaded = load(rt.alloc(), BINDINGS).ok().expect(&rt, "a language");
-    let evaluator = Evaluator::new(rt.alloc(), &loaded.spec).expect(&rt, "an evaluator");
-    let size = Value::fault(FaultKind::Size);
-    let most = long(&rt, 65_535);
-    let found = applied(&rt, &evaluator, 0, &[long(&rt, 65_535)]);
-    assert!(rt; found.same(&most));
-    let found = applied(&rt, &evaluator, 0, &[long(&rt, 65_536)]);
-    assert!(rt; found.same(&size));
-    for (left, right, is_within) in [(32_767usize, 32_767usize, true), (32_767, 32_768, false)] {
-        let bound = [long(&rt, left), long(&rt, right)];
-        let found = applied(&rt, &evaluator, 1, &bound);
-        assert_eq!(rt; !found.same(&size), is_within);
-    }
+    let evaluator = evaluator(&rt, bindings());
+    assert!(rt; is_given_back(&rt, &evaluator, 65_535));
+    assert!(rt; !is_given_back(&rt, &evaluator, 65_536));
+    assert!(rt; is_put_together(&rt, &evaluator, 32_767, 32_767));
+    assert!(rt; !is_put_together(&rt, &evaluator, 32_767, 32_768));
+}
+
+/// The value of the equation of that number on two numbers, and what it notes.
+fn ran(
+    rt: &(impl Abort + AllocGlobal),
+    evaluator: &Evaluator,
+    who: Instance,
+    journal: &mut Journal,
+) -> Value {
+    let mut pool = Pool::new(rt.alloc()).expect(rt, "a pool");
+    let left = pool.put_number(20).expect(rt, "a number");
+    let right = pool.put_number(1).expect(rt, "a number");
+    assert!(rt; (who.rule.number as usize) < evaluator.spec().rules.len());
+    assert!(rt; left.number < pool.len() && right.number < pool.len());
+    let id = evaluator
+        .run(who.rule, &[left, right], who, &mut pool, journal)
+        .expect(rt, "an outcome");
+    assert!(rt; id.number < pool.len());
+    pool.value(rt.alloc(), id).expect(rt, "a value")
 }
 
 #[test]
 fn an_equation_is_noted(rt: HostRuntime) {
-    let loaded = load(rt.alloc(), LANGUAGE).ok().expect(&rt, "a language");
-    let evaluator = Evaluator::new(rt.alloc(), &loaded.spec).expect(&rt, "an evaluator");
-    let mut pool = Pool::new(rt.alloc()).expect(&rt, "a pool");
+    let evaluator = evaluator(&rt, language());
     let mut journal = Journal::new(&rt);
-    let left = pool.put_number(20).expect(&rt, "a number");
-    let right = pool.put_number(1).expect(&rt, "a number");
-    assert!(rt; loaded.spec.rules.len() == 7);
-    assert!(rt; left.number < pool.len() && right.number < pool.len());
     let who = Instance {
         node: NodeId { key: 7 },
         slot: 0,
         rule: RuleId { number: 1 },
     };
-    let id = evaluator
-        .run(who.rule, &[left, right], who, &mut pool, &mut journal)
-        .expect(&rt, "an outcome");
-    assert!(rt; id.number < pool.len());
-    let value = pool.value(rt.alloc(), id).expect(&rt, "a value");
     // twice(20) + twice(1 + 20)
+    let value = ran(&rt, &evaluator, who, &mut journal);
     assert!(rt; value.same(&Value::number(82)));
     assert!(rt; journal.now() == [who].as_slice() && journal.total() == 0);
     journal.begin();

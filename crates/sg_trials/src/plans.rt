@@ -1,9 +1,9 @@
 //! Plans of evaluation: the visit of each attribute, what each visit of an operator does, and which equations name each of
 //! its vertices.
-use crate::language::LANGUAGE;
+use crate::language::language;
+use crate::loading::loaded;
 use sg_kinds::plans::{PlanStep, Plans};
 use sg_kinds::spec::Rules;
-use sg_load::load;
 use sg_orders::{is_in_range, is_proper, order};
 use std::fmt::Write;
 use std::process::Abort;
@@ -78,7 +78,7 @@ fn tell_readers(rt: &impl Abort, plans: &Plans, out: &mut String) {
 
 #[test]
 fn plans_of_a_language_of_two_visits(rt: HostRuntime) {
-    let loaded = load(rt.alloc(), LANGUAGE).ok().expect(&rt, "a language");
+    let loaded = loaded(&rt, language());
     let plans = loaded.plans.copy(rt.alloc()).expect(&rt, "a copy");
     let mut out = String::new(rt.alloc());
     tell_visits(&rt, &plans, &mut out);
@@ -93,7 +93,7 @@ fn plans_of_a_language_of_two_visits(rt: HostRuntime) {
 
 #[test]
 fn the_order_of_a_record_alone(rt: HostRuntime) {
-    let loaded = load(rt.alloc(), LANGUAGE).ok().expect(&rt, "a language");
+    let loaded = loaded(&rt, language());
     let spec = loaded.spec.copy(rt.alloc()).expect(&rt, "a copy");
     let rules = Rules {
         phyla: spec.phyla,

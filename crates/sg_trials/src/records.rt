@@ -1,9 +1,9 @@
 //! What the record of a language holds.
-use crate::language::LANGUAGE;
+use crate::language::language;
+use crate::loading::loaded;
 use sg_kinds::marks::Way;
 use sg_kinds::spec::{Spec, Symbol};
 use sg_kinds::text::Text;
-use sg_load::load;
 use std::fmt::Write;
 use std::process::Abort;
 use std::str;
@@ -106,7 +106,7 @@ fn tell_grammar(rt: &impl Abort, spec: &Spec, out: &mut String) {
 
 #[test]
 fn the_record_of_a_language(rt: HostRuntime) {
-    let loaded = load(rt.alloc(), LANGUAGE).ok().expect(&rt, "a language");
+    let loaded = loaded(&rt, language());
     let spec = loaded.spec.copy(rt.alloc()).expect(&rt, "a copy");
     let mut out = String::new(rt.alloc());
     tell_phyla(&rt, &spec, &mut out);

@@ -1,12 +1,13 @@
 //! The terms that are made of phyla and of values.
+use crate::loading::loaded;
 use sg_kinds::ids::{OpId, PhylumId};
 use sg_kinds::term::{Term, TermNode};
 use sg_kinds::value::Value;
-use sg_load::load;
 use std::process::Abort;
 
 /// Of the phyla `xs` is 4 and `o` is 5; of the operators Nil is 1, Pair 2, None 3 and Some 4.
-const LISTS: &[u8] = br#"root r;
+fn lists() -> &'static [u8] {
+    br#"root r;
 r : R(xs o);
 list xs;
 xs : Nil() | Pair(INT xs);
@@ -17,7 +18,8 @@ xs : Nil [ @ : ];
 xs : Pair [ @ : @ @ ];
 o : None [ @ : ];
 o : Some [ @ : @ ];
-"#;
+"#
+}
 
 /// Whether a term is a node of this operator, with scheme number 0 and no mark, over so many children.
 fn is_plain(term: &Term, number: u32, count: usize) -> bool {
@@ -32,7 +34,7 @@ fn is_plain(term: &Term, number: u32, count: usize) -> bool {
 
 #[test]
 fn terms_are_made(rt: HostRuntime) {
-    let loaded = load(rt.alloc(), LISTS).ok().expect(&rt, "a language");
+    let loaded = loaded(&rt, lists());
     let spec = &loaded.spec;
     for (phylum, completing, completed, placeholder, held) in [
         (4u32, 2u32, 2usize, 2u32, 2usize),
