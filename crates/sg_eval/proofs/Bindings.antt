@@ -4,8 +4,8 @@ use Rattle.std.proofs.Common.{sym, ◌∙◌, ap, subst, arith, append_assoc, ge
 use Rattle.std.proofs.lemmas.List.{map-append}
 use Rattle.std.proofs.lemmas.Option.{slice_get-map, slice_get_within}
 use Rattle.sg_kinds.specs.Values.{Value}
-use Rattle.sg_kinds.specs.Pools.{value_at, Stands, IsGrown}
-use Rattle.sg_kinds.proofs.Grown.{grown_longer, map_stays, stands_at}
+use Rattle.sg_pool.specs.Pools.{value_at, Stands, IsGrown}
+use Rattle.sg_pool.proofs.Grown.{grown_longer, map_stays, stands_at}
 use Rattle.sg_eval.specs.Lives.{value_in, IsKnown, AreKnown, bindings, bound_in, is_settled, IsUsable, AreUsable}
 use Rattle.sg_eval.specs.declared.live.Live.{Live}
 use Rattle.sg_eval.specs.declared.live.Live.TheVariants as live

@@ -3,7 +3,7 @@ use Rattle.std.specs.Prelude.{◌≡◌, refl, ℕ, ℤ, Bool, true, false, List
 use Rattle.std.proofs.Common.{ap, sym, ◌∙◌}
 use Rattle.sg_kinds.specs.Values.{Value, Truth, Number, Chars, Tree, Fault, same_value}
 use Rattle.sg_kinds.specs.SameValue.{value_is, value_same, nat_is, nat_same}
-use Rattle.sg_kinds.specs.Pools.{value_at}
+use Rattle.sg_pool.specs.Pools.{value_at}
 use Rattle.sg_kinds.specs.Evaluation.{untyped, applied, arithmetic, combined}
 use Rattle.sg_kinds.specs.declared.marks.Unary.{Unary}
 use Rattle.sg_kinds.specs.declared.marks.Unary.TheVariants.{Negative, Not, NumberToText}

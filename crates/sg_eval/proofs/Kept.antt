@@ -5,10 +5,10 @@ use Rattle.sg_kinds.specs.Values.{Value, Truth, Number, Chars, Tree, Fault, row_
 use Rattle.sg_kinds.specs.declared.marks.FaultKind.TheVariants.{Size}
 use Rattle.sg_kinds.specs.Terms.{Term, height_of, height_of_all, kids_of}
 use Rattle.sg_kinds.specs.ValueOf as term
-use Rattle.sg_kinds.specs.Pools.{value_at, tree_over, IsGrown}
+use Rattle.sg_pool.specs.Pools.{value_at, tree_over, IsGrown}
 use Rattle.sg_kinds.specs.Evaluation.{Gives, limited}
-use Rattle.sg_kinds.proofs.Grown.{map_stays}
-use Rattle.sg_kinds.proofs.Pooled.{below_all}
+use Rattle.sg_pool.proofs.Grown.{map_stays}
+use Rattle.sg_pool.proofs.Pooled.{below_all}
 use Rattle.sg_eval.specs.Lives.{value_in, is_settled, IsUsable, AreUsable, IsReached}
 use Rattle.sg_eval.specs.declared.live.Live.{Live}
 use Rattle.sg_eval.specs.declared.live.Live.TheVariants as live

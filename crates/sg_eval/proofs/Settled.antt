@@ -5,13 +5,13 @@ use Rattle.std.proofs.lemmas.List.{map-append}
 use Rattle.sg_kinds.specs.Values.{Value}
 use Rattle.sg_kinds.specs.Expressions.{Expr}
 use Rattle.sg_kinds.specs.declared.spec.Spec.{Spec}
-use Rattle.sg_kinds.specs.Pools.{value_at, Stands, IsGrown}
+use Rattle.sg_pool.specs.Pools.{value_at, Stands, IsGrown}
 use Rattle.sg_kinds.specs.Evaluation.{untyped, outcome_in, value_within}
 use Rattle.sg_kinds.specs.Outcome.{outcome_of}
-use Rattle.sg_kinds.specs.PoolView.{AreBelow}
+use Rattle.sg_pool.specs.PoolView.{AreBelow}
 use Rattle.sg_kinds.proofs.Kids.{take_more}
-use Rattle.sg_kinds.proofs.Grown.{map_stays}
-use Rattle.sg_kinds.proofs.Pooled.{below_all}
+use Rattle.sg_pool.proofs.Grown.{map_stays}
+use Rattle.sg_pool.proofs.Pooled.{below_all}
 use Rattle.sg_eval.specs.Lives.{is_settled, bound_in, clipped}
 
 -- a text or a tree of a pool stands at its number

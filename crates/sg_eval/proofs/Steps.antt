@@ -7,7 +7,7 @@ use Rattle.sg_kinds.specs.declared.spec.Spec.{Spec}
 use Rattle.sg_kinds.specs.declared.spec.Function.{Function}
 use Rattle.sg_kinds.specs.declared.marks.FaultKind.TheVariants.{NoMatch}
 use Rattle.sg_kinds.specs.Expressions.{Expr, Exprs, Cases, Pattern, AndExpr, Case}
-use Rattle.sg_kinds.specs.Pools.{value_at, IsGrown}
+use Rattle.sg_pool.specs.Pools.{value_at, IsGrown}
 use Rattle.sg_kinds.specs.Evaluation.{Inside, Reached, Operands, Gives, untyped, then_with, row_with, row_reached, with_row, first_case, if_bound, bound_by, body_of, body_reached, limited, choose, connected, step, value_within}
 use Rattle.sg_eval.specs.Lives.{value_in, is_settled, IsKnown, IsUsable, AreUsable, IsReached, AreReached, IsHalted, IsMatched, bound_in, needs_second}
 use Rattle.sg_eval.proofs.Bindings.{live_stays, lives_stay, bound_more}

@@ -1,7 +1,7 @@
 -- What stands for values while an expression is evaluated.
 use Rattle.std.specs.Prelude.{◌≡◌, ℕ, ◌<◌, Bool, true, false, not, cond, List, [], ◌∷◌, ◌++◌, map, Option, Some, None, Result, Ok, Err, IsTrue, ⊤, nat_eq, length, ℤ}
 use Rattle.sg_kinds.specs.Values.{Value, Truth, Number, Chars, Tree, Fault, is_within}
-use Rattle.sg_kinds.specs.Pools.{value_at}
+use Rattle.sg_pool.specs.Pools.{value_at}
 use Rattle.sg_kinds.specs.Evaluation.{Reached, Operands, Gives, Every, Halted}
 use Rattle.sg_kinds.specs.declared.marks.FaultKind.TheVariants.{Overflow, Size}
 use Rattle.sg_kinds.specs.declared.marks.Connective.{Connective}

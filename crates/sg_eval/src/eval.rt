@@ -1,7 +1,7 @@
 // The evaluation of an expression.
 ghost use Rattle.std.specs.Prelude.{◌≡◌, ℕ, [], List, length, slice_get, unwrap_or, OnOk, MatchResult};
 ghost use Rattle.sg_kinds.specs.Values.{Value};
-ghost use Rattle.sg_kinds.specs.Pools.{IsGrown};
+ghost use Rattle.sg_pool.specs.Pools.{IsGrown};
 ghost use Rattle.sg_kinds.specs.PatternView.{literal_of};
 ghost use Rattle.sg_kinds.specs.ExprView.{expr_of, exprs_of, cases_of};
 ghost use Rattle.sg_kinds.specs.Expressions.{Single, Binary, Logical, Cons, Choice, Apply, Call, Let, With};
@@ -17,7 +17,7 @@ use sg_kinds::expr::{CaseList, ExprList, ExprTree};
 use sg_kinds::ids::{OpId, PhylumId, ValueId};
 use sg_kinds::marks::{Connective, FaultKind, Made, Sign, Unary};
 use sg_kinds::pattern::Literal;
-use sg_kinds::pool::Pool;
+use sg_pool::pool::Pool;
 use sg_kinds::spec::Spec;
 use std::alloc::Global;
 

@@ -1,7 +1,7 @@
 // The evaluator of a specification.
 ghost use Rattle.std.specs.Prelude.{◌≡◌, ℕ, ◌<◌, ◌⊎◌, List, [], ◌∷◌, ◌++◌, map, length, All, slice_get, Some, IfOk, OnOk, OnErr};
 ghost use Rattle.sg_kinds.specs.declared.spec.Rule.{Rule};
-ghost use Rattle.sg_kinds.specs.Pools.{value_at, Stands, IsGrown};
+ghost use Rattle.sg_pool.specs.Pools.{value_at, Stands, IsGrown};
 ghost use Rattle.sg_kinds.specs.Evaluation.{Reached, outcome_in};
 ghost use Rattle.sg_kinds.specs.Outcome.{outcome, outcome_of};
 ghost use Rattle.sg_eval.specs.Journal.{now_of, total_of};
@@ -14,7 +14,7 @@ use crate::live::{Live, Stop};
 use sg_kinds::ids::{ExprId, RuleId, ValueId};
 use sg_kinds::marks::FaultKind;
 use sg_kinds::memory::NoMemory;
-use sg_kinds::pool::Pool;
+use sg_pool::pool::Pool;
 use sg_kinds::row::item;
 use sg_kinds::spec::Spec;
 use sg_kinds::value::Value;

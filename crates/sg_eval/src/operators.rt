@@ -1,7 +1,7 @@
 // Operators on the values of their operands.
 ghost use Rattle.std.specs.Prelude.{◌≡◌, ℕ, List, length};
 ghost use Rattle.sg_kinds.specs.Values.{Value, same_value};
-ghost use Rattle.sg_kinds.specs.Pools.{IsGrown};
+ghost use Rattle.sg_pool.specs.Pools.{IsGrown};
 ghost use Rattle.sg_kinds.specs.Evaluation.{Gives, limited, applied as applied_of, combined as combined_of};
 ghost use Rattle.sg_eval.specs.Lives.{value_in, IsUsable, IsReached};
 
@@ -9,7 +9,7 @@ use crate::live::{Live, Stop};
 use crate::numbers::{arithmetic, negated};
 use crate::texts;
 use sg_kinds::marks::{FaultKind, Sign, Unary};
-use sg_kinds::pool::Pool;
+use sg_pool::pool::Pool;
 use std::alloc::Global;
 
 /// A form with one operand, on its value.

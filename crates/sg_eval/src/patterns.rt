@@ -1,18 +1,18 @@
 // Patterns over values.
 ghost use Rattle.std.specs.Prelude.{◌≡◌, ◌<◌, All, map, length, IfOk, MatchOption, IfSome, false};
 ghost use Rattle.sg_kinds.specs.Values.{row_of, same_value, same_values};
-ghost use Rattle.sg_kinds.specs.Pools.{value_at, tree_over};
+ghost use Rattle.sg_pool.specs.Pools.{value_at, tree_over};
 ghost use Rattle.sg_kinds.specs.PatternView.{literal_of, pattern_of, patterns_of};
 ghost use Rattle.sg_kinds.specs.Evaluation.{bound_by, bound_by_all};
 ghost use Rattle.sg_eval.specs.Lives.{value_in, IsKnown, is_tree_of, IsMatched};
 
 use crate::live::Live;
 use crate::trees::made;
-use sg_kinds::entry::Entry;
+use sg_pool::entry::Entry;
 use sg_kinds::ids::{OpId, ValueId};
 use sg_kinds::memory::NoMemory;
 use sg_kinds::pattern::{Literal, PatternList, PatternTree};
-use sg_kinds::pool::Pool;
+use sg_pool::pool::Pool;
 use sg_kinds::spec::Spec;
 use sg_kinds::value::{Value, ValueNode};
 use std::alloc::Global;

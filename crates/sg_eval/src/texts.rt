@@ -2,7 +2,7 @@
 ghost use Rattle.std.specs.Prelude.{◌≡◌, ℕ, ◌++◌, List, pos, length, MatchOption, IsTrue, false};
 ghost use Rattle.std.specs.Fmt.{signed_decimal};
 ghost use Rattle.sg_kinds.specs.Values.{Value, Chars, Number};
-ghost use Rattle.sg_kinds.specs.Pools.{value_at, IsGrown};
+ghost use Rattle.sg_pool.specs.Pools.{value_at, IsGrown};
 ghost use Rattle.sg_kinds.specs.Evaluation.{Gives, limited, applied, combined};
 ghost use Rattle.sg_kinds.specs.declared.marks.Unary.TheVariants.{TextToNumber, TextLength};
 ghost use Rattle.sg_kinds.specs.declared.marks.Sign.TheVariants.{Join};
@@ -10,10 +10,10 @@ ghost use Rattle.sg_eval.specs.Lives.{IsReached, is_settled, is_chars};
 
 use crate::live::{Live, Stop};
 use crate::numbers::converted;
-use sg_kinds::entry::Entry;
+use sg_pool::entry::Entry;
 use sg_kinds::ids::ValueId;
 use sg_kinds::marks::FaultKind;
-use sg_kinds::pool::Pool;
+use sg_pool::pool::Pool;
 use sg_kinds::text::Text;
 use sg_kinds::value::SIZE_LIMIT;
 use std::alloc::Global;

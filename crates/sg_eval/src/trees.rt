@@ -3,16 +3,16 @@ ghost use Rattle.std.specs.Prelude.{◌≡◌, ℕ, ◌<◌, List, length, map, 
 ghost use Rattle.sg_kinds.specs.Values.{Value, Tree, row_of};
 ghost use Rattle.sg_kinds.specs.Terms.{kids_of};
 ghost use Rattle.sg_kinds.specs.ValueOf.{value_of as value_of_term, values_of as values_of_terms};
-ghost use Rattle.sg_kinds.specs.Pools.{value_at, IsGrown};
+ghost use Rattle.sg_pool.specs.Pools.{value_at, IsGrown};
 ghost use Rattle.sg_kinds.specs.Evaluation.{Gives, limited, made_value};
 ghost use Rattle.sg_eval.specs.Lives.{value_in, IsUsable, AreUsable, IsReached};
 
 use crate::live::{Live, Stop};
-use sg_kinds::entry::Entry;
+use sg_pool::entry::Entry;
 use sg_kinds::ids::{OpId, PhylumId, ValueId};
 use sg_kinds::marks::{FaultKind, Made};
 use sg_kinds::memory::NoMemory;
-use sg_kinds::pool::{Pool, PoolFault};
+use sg_pool::pool::{Pool, PoolFault};
 use sg_kinds::spec::Spec;
 use sg_kinds::term::{Term, TermNode};
 use sg_kinds::value::{DEPTH_LIMIT, Kids, SIZE_LIMIT, Value};

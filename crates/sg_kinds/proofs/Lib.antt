@@ -1,8 +1,6 @@
+pub mod Elementary
 pub mod Arms
 pub mod Kids
-pub mod Pooled
-pub mod Inserted
-pub mod Grown
 pub mod Completed
 pub mod Planned
 pub mod TermLaws

@@ -26,11 +26,7 @@ pub mod Derivation
 pub mod Pieces
 pub mod Typing
 pub mod Sound
-pub mod Pools
-pub mod PoolEntries
-pub mod PoolView
 pub mod SameValue
-pub mod SameEntry
 pub mod ValueCode
 pub mod Measured
 pub mod ValueView

@@ -1,8 +1,7 @@
-// The records of a specification, its values and its terms, and the pool of shared values.
+// The records of a specification, its values and its terms.
 #![tactic(auto)]
 
 pub mod copy;
-pub mod entry;
 pub mod expr;
 pub mod fault;
 pub mod ids;
@@ -13,7 +12,6 @@ pub mod marks;
 pub mod memory;
 pub mod pattern;
 pub mod plans;
-pub mod pool;
 pub mod row;
 pub mod spec;
 pub mod term;

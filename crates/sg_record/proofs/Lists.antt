@@ -8,7 +8,7 @@ use Rattle.std.proofs.lemmas.List.Quantifiers.{position-Some}
 use Rattle.std.proofs.lemmas.List.Sums.{sum_by-cons}
 use Rattle.std.proofs.lemmas.Option.{slice_get_within, slice_get-get_or}
 use Rattle.std.proofs.lemmas.Slice.Eq.{bytes_eq-Decides}
-use Rattle.sg_kinds.proofs.Pooled.{slice_get-left}
+use Rattle.sg_kinds.proofs.Elementary.{slice_get-front}
 use Rattle.sg_names.specs.Names.{map_from}
 
 -- facts of each element
@@ -43,7 +43,7 @@ each_at P (y ∷ ys) (suc k) x h e = each_at P ys k x h.1 e
 
 -- places in lists that are joined
 pub left : {A : Type 0} (xs ys : List A) (k : ℕ) (x : A) → slice_get xs k ≡ Some x → slice_get (xs ++ ys) k ≡ Some x
-left xs ys k x h = slice_get-left xs ys k (slice_get_within xs k x h) ∙ h
+left xs ys k x h = slice_get-front xs ys k (slice_get_within xs k x h) ∙ h
 
 pub right : {A : Type 0} (xs ys : List A) (k : ℕ) → slice_get (xs ++ ys) (length xs + k) ≡ slice_get ys k
 right [] ys k = rw (zero-add k) refl

@@ -20,7 +20,7 @@ use Rattle.sg_kinds.specs.declared.spec.Entry.{Entry}
 use Rattle.sg_kinds.specs.declared.spec.Spec.{Spec}
 use Rattle.sg_kinds.specs.declared.fault.PrintedSymbol.{PrintedSymbol}
 use Rattle.sg_kinds.specs.declared.fault.PrintedSymbol.TheVariants.{End, Marker, Literal, Name}
-use Rattle.sg_kinds.proofs.Pooled.{slice_get-seam}
+use Rattle.sg_kinds.proofs.Elementary.{slice_get-seam}
 use Rattle.sg_patterns.specs.Lexemes.{literals_of}
 use Rattle.sg_grammar.specs.Numbered.{first_literal, first_lexeme, first_nonterminal, lexeme_number, symbol_number}
 use Rattle.sg_orders.proofs.Below.{length-below, get_or-below}

@@ -8,14 +8,14 @@ use Rattle.sg_kinds.specs.Values.{Bytes, Value, Fault}
 use Rattle.sg_kinds.specs.Terms.{Term, Terms, Node, kids_of, height_of, height_of_all}
 use Rattle.sg_kinds.specs.Instances.{below}
 use Rattle.sg_kinds.specs.Outcome.{outcome}
-use Rattle.sg_kinds.specs.Pools.{value_at, Stands, IsGrown}
+use Rattle.sg_pool.specs.Pools.{value_at, Stands, IsGrown}
 use Rattle.sg_kinds.specs.declared.spec.Spec.{Spec}
 use Rattle.sg_kinds.specs.declared.spec.Rule.{Rule}
 use Rattle.sg_kinds.specs.declared.spec.Occurrence.{Occurrence}
 use Rattle.sg_kinds.specs.declared.spec.Item.{Item}
 use Rattle.sg_kinds.specs.declared.marks.FaultKind.TheVariants.{Fuel}
 use Rattle.sg_kinds.proofs.Kids.{take_more, drop_more}
-use Rattle.sg_kinds.proofs.Grown.{stands_at, grown_longer}
+use Rattle.sg_pool.proofs.Grown.{stands_at, grown_longer}
 use Rattle.sg_small_screen.specs.Cells.{items_text, goes_on}
 use Rattle.sg_small_screen.specs.Upward.{own_rule, occurrence_in, no_slot, rule_value, own_slots, equations_below, slot_count, slots_up, all_slots_up, node_text, text_up, all_texts_up, evs_up, all_evs_up}
 use Rattle.sg_small_screen.specs.Found.{number_of, slots_in, all_slots_in, texts_of, IsKnown, AreKnown, IsOwnRule, equations_of}

@@ -1,7 +1,7 @@
 -- What the code finds of a term, with values by their numbers in a pool.
 use Rattle.std.specs.Prelude.{◌≡◌, ℕ, ◌<◌, List, [], ◌∷◌, map, All, Option, Some, None, slice_get, unwrap_or, ⊤}
 use Rattle.sg_kinds.specs.Values.{Bytes, Value}
-use Rattle.sg_kinds.specs.Pools.{value_at}
+use Rattle.sg_pool.specs.Pools.{value_at}
 use Rattle.sg_kinds.specs.declared.spec.Spec.{Spec}
 use Rattle.sg_kinds.specs.declared.spec.Rule.{Rule}
 use Rattle.sg_small_screen.specs.Upward.{own_rule}

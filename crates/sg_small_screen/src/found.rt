@@ -1,7 +1,7 @@
 // What is found of a node.
 ghost use Rattle.std.specs.Prelude.{◌≡◌, ℕ, ◌<◌, List, MatchOption, Some, None, slice_get};
 ghost use Rattle.sg_kinds.specs.Values.{Value, Fault};
-ghost use Rattle.sg_kinds.specs.Pools.{value_at, Stands};
+ghost use Rattle.sg_pool.specs.Pools.{value_at, Stands};
 ghost use Rattle.sg_kinds.specs.declared.marks.FaultKind.TheVariants.{Fuel};
 ghost use Rattle.sg_small_screen.specs.Upward.{occurrence_in};
 ghost use Rattle.sg_small_screen.specs.Found.{number_of, slots_in, all_slots_in, IsKnown, AreKnown};

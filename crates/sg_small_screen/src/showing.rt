@@ -9,7 +9,7 @@ use crate::page::{block, page_of};
 use crate::visit::{Tour, visit};
 use sg_eval::{Evaluator, Journal};
 use sg_kinds::memory::NoMemory;
-use sg_kinds::pool::Pool;
+use sg_pool::pool::Pool;
 use sg_kinds::spec::Spec;
 use sg_kinds::term::Term;
 use sg_kinds::text::Text;

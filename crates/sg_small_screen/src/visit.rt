@@ -2,7 +2,7 @@
 ghost use Rattle.std.specs.Prelude.{◌≡◌, ℕ, ◌+◌, ◌<◌, ◌≤◌, Bool, List, map, length, All, cond, codes, IfOk, OnOk, MatchOption, None};
 ghost use Rattle.sg_kinds.specs.Values.{Value, Fault};
 ghost use Rattle.sg_kinds.specs.Terms.{kids_of};
-ghost use Rattle.sg_kinds.specs.Pools.{value_at, Stands, IsGrown};
+ghost use Rattle.sg_pool.specs.Pools.{value_at, Stands, IsGrown};
 ghost use Rattle.sg_kinds.specs.Specification.{attrs_of};
 ghost use Rattle.sg_kinds.specs.Instances.{below};
 ghost use Rattle.sg_kinds.specs.declared.marks.FaultKind.TheVariants.{Fuel};
@@ -19,7 +19,7 @@ use sg_forest::NodeId;
 use sg_kinds::ids::{OpId, PhylumId, RuleId, ValueId};
 use sg_kinds::marks::FaultKind;
 use sg_kinds::memory::NoMemory;
-use sg_kinds::pool::Pool;
+use sg_pool::pool::Pool;
 use sg_kinds::row::{Row, item};
 use sg_kinds::spec::{Occurrence, Spec};
 use sg_kinds::term::{Term, TermNode};

@@ -6,7 +6,7 @@ use sg_eval::{Evaluator, Instance, Journal};
 use sg_forest::NodeId;
 use sg_kinds::ids::RuleId;
 use sg_kinds::marks::FaultKind;
-use sg_kinds::pool::Pool;
+use sg_pool::pool::Pool;
 use sg_kinds::text::Text;
 use sg_kinds::value::{Value, ValueNode};
 use std::process::Abort;

@@ -1,7 +1,7 @@
 //! Values with their sameness, their copies and their limits, and the numbers that a pool gives them.
 use sg_kinds::ids::OpId;
 use sg_kinds::marks::FaultKind;
-use sg_kinds::pool::{Pool, PoolFault};
+use sg_pool::pool::{Pool, PoolFault};
 use sg_kinds::text::Text;
 use sg_kinds::value::Value;
 use std::process::Abort;

@@ -4,7 +4,7 @@ use Rattle.std.specs.Prelude.{◌^◌, ◌&&◌, option_map, option_and_then, un
 use Rattle.std.proofs.Math.Nat.{suc-add, zero-add}
 use Rattle.std.proofs.lemmas.Option.{slice_get_within}
 use Rattle.std.proofs.lemmas.Bool.{and_parts}
-use Rattle.sg_kinds.proofs.Pooled.{slice_get-left}
+use Rattle.sg_kinds.proofs.Elementary.{slice_get-front}
 use Rattle.sg_kinds.specs.Values.{Bytes}
 use Rattle.sg_kinds.specs.Specification.{truths, numbers, texts, has_shape, is_list_shape}
 use Rattle.sg_kinds.specs.Typing as typing
@@ -41,7 +41,7 @@ use Rattle.sg_typing.proofs.RecordTyped.{neither, unless_is, untyped_is, below_i
 
 -- places in lists that are joined
 pub left : {A : Type 0} (xs ys : List A) (k : ℕ) (x : A) → slice_get xs k ≡ Some x → slice_get (xs ++ ys) k ≡ Some x
-left xs ys k x h = slice_get-left xs ys k (slice_get_within xs k x h) ∙ h
+left xs ys k x h = slice_get-front xs ys k (slice_get_within xs k x h) ∙ h
 
 pub right : {A : Type 0} (xs ys : List A) (k : ℕ) → slice_get (xs ++ ys) (length xs + k) ≡ slice_get ys k
 right [] ys k = rw (zero-add k) refl

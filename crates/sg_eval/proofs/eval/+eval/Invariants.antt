@@ -1,6 +1,6 @@
 use Rattle.std.proofs.Common.{◌≡◌, ◌*◌, ◌+◌, List, [], map}
 use Rattle.sg_kinds.specs.Values.{Value}
-use Rattle.sg_kinds.specs.Pools.{IsGrown}
+use Rattle.sg_pool.specs.Pools.{IsGrown}
 use Rattle.sg_kinds.specs.ExprView.{exprs_of, cases_of}
 use Rattle.sg_kinds.specs.Evaluation.{value_within, row_reached, first_case}
 use Rattle.sg_eval.specs.Lives.{value_in, bound_in, AreUsable}

@@ -1,8 +1,8 @@
 use Rattle.std.specs.Prelude.{◌≡◌, Some, None, slice_get, IfOk, map, length}
 use Rattle.std.proofs.Common.{sym, ◌∙◌, ap, subst}
-use Rattle.sg_kinds.specs.Pools.{value_at, Stands}
+use Rattle.sg_pool.specs.Pools.{value_at, Stands}
 use Rattle.sg_kinds.specs.Evaluation.{outcome_in, value_within}
-use Rattle.sg_kinds.proofs.Grown.{grown_itself}
+use Rattle.sg_pool.proofs.Grown.{grown_itself}
 use Rattle.sg_eval.specs.Lives.{AreKnown, bindings, bound_in}
 use Rattle.sg_eval.proofs.Bindings.{known_args}
 use Rattle.sg_eval.proofs.Settled.{bound_later, outcome_there, outcome_nowhere}

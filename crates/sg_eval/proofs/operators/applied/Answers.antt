@@ -1,6 +1,6 @@
 use Rattle.std.proofs.Common.{ap, subst}
 use Rattle.sg_kinds.specs.Evaluation.{Gives, limited}
-use Rattle.sg_kinds.proofs.Grown.{grown_itself}
+use Rattle.sg_pool.proofs.Grown.{grown_itself}
 use Rattle.sg_eval.specs.Lives.{IsUsable}
 use Rattle.sg_eval.proofs.Bindings.{kept_known, value_stays, usable_later}
 use Rattle.sg_eval.proofs.Forms.{negative_untyped, not_untyped, digits_untyped}

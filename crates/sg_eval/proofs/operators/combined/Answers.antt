@@ -1,7 +1,7 @@
 use Rattle.std.proofs.Common.{ap, subst, sym, w64, FitsSigned, rules}
 use Rattle.std.proofs.lemmas.Int.{to_z-of_z}
 use Rattle.sg_kinds.specs.Evaluation.{Gives, limited}
-use Rattle.sg_kinds.proofs.Grown.{grown_itself}
+use Rattle.sg_pool.proofs.Grown.{grown_itself}
 use Rattle.sg_eval.specs.Lives.{IsReached}
 use Rattle.sg_eval.proofs.Bindings.{usable_later}
 use Rattle.sg_eval.proofs.Forms.{left_not_number, right_not_number, both_numbers}

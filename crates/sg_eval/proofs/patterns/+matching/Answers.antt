@@ -1,7 +1,7 @@
 use Rattle.std.proofs.Common.{rules, arith, ◌<◌, ◌≡◌, length, ap, sym, ◌∙◌, subst, true, map, ◌∷◌}
 use Rattle.sg_kinds.specs.Values.{row_of, same_value}
 use Rattle.sg_kinds.specs.Evaluation.{bound_by, bound_by_all, nothing_if}
-use Rattle.sg_kinds.specs.Pools.{value_at}
+use Rattle.sg_pool.specs.Pools.{value_at}
 use Rattle.sg_kinds.specs.PatternView.{pattern_of, patterns_of}
 use Rattle.sg_eval.specs.Lives.{value_in, IsMatched}
 use Rattle.sg_eval.proofs.Matched.{weights_of, all_rest, matched_if, matched_both, if_ok_more}

@@ -1,8 +1,8 @@
 use Rattle.std.proofs.Common.{◌≡◌, Err, ◌∙◌, ap, subst, map, true, false}
 use Rattle.std.proofs.lemmas.List.{take_all}
 use Rattle.sg_kinds.specs.Values.{Tree, row_of, is_within}
-use Rattle.sg_kinds.specs.Pools.{value_at, tree_over}
-use Rattle.sg_kinds.proofs.Grown.{grown_twice}
+use Rattle.sg_pool.specs.Pools.{value_at, tree_over}
+use Rattle.sg_pool.proofs.Grown.{grown_twice}
 use Rattle.sg_eval.specs.Lives.{value_in}
 use Rattle.sg_eval.proofs.Bindings.{usable_later, stands_later}
 use Rattle.sg_eval.proofs.Kept.{usable_at, tree_is, kept_reached, over_limit, not_false}

@@ -1,7 +1,7 @@
 use Rattle.std.proofs.Common.{◌≡◌, ◌<◌, List, length, map, take}
 use Rattle.std.specs.Prelude.{All}
 use Rattle.sg_kinds.specs.Values.{Value}
-use Rattle.sg_kinds.specs.Pools.{value_at, IsGrown}
+use Rattle.sg_pool.specs.Pools.{value_at, IsGrown}
 use Rattle.sg_eval.specs.Lives.{value_in}
 use Rattle.sg_eval.proofs.trees.tree.Given as goal
 

@@ -1,6 +1,6 @@
 use Rattle.std.proofs.Common.{sym, ◌∙◌, ap, arith, ◌≢◌, ◌-◌}
-use Rattle.sg_kinds.specs.Pools.{value_at}
-use Rattle.sg_kinds.proofs.Grown.{stands_at}
+use Rattle.sg_pool.specs.Pools.{value_at}
+use Rattle.sg_pool.proofs.Grown.{stands_at}
 use Rattle.sg_small_screen.specs.Found.{slots_in}
 use Rattle.sg_small_screen.proofs.Finds.{kid_occurrence, no_occurrence, number_known, kid_known}
 use Rattle.sg_small_screen.proofs.found.occurrence.Goals as goal

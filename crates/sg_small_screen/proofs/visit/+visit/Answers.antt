@@ -1,7 +1,7 @@
 use Rattle.std.proofs.Common.{◌≡◌, ◌∙◌, ap, sym, subst, IfOk, arith, List}
 use Rattle.sg_kinds.specs.Terms.{Term, Node, kids_of}
 use Rattle.sg_kinds.specs.TermView.{term_of_node}
-use Rattle.sg_kinds.proofs.Grown.{grown_twice}
+use Rattle.sg_pool.proofs.Grown.{grown_twice}
 use Rattle.sg_small_screen.specs.Cells.{goes_on}
 use Rattle.sg_small_screen.specs.Upward.{all_slots_up, all_texts_up}
 use Rattle.sg_small_screen.specs.Found.{slots_in, all_slots_in, texts_of}

@@ -1,6 +1,6 @@
 use Rattle.std.proofs.Common.{◌≡◌, ◌+◌, ◌*◌, length, drop}
 use Rattle.sg_kinds.specs.Terms.{height_of, height_of_all, kids_of}
-use Rattle.sg_kinds.specs.Pools.{IsGrown}
+use Rattle.sg_pool.specs.Pools.{IsGrown}
 use Rattle.sg_eval.specs.Journal.{now_of, total_of}
 use Rattle.sg_small_screen.specs.Upward.{all_evs_up}
 use Rattle.sg_small_screen.proofs.Visits.{IsVisited}

@@ -1,7 +1,7 @@
 use Rattle.std.proofs.Common.{◌≡◌, ℕ, ◌<◌, List, map, take}
 use Rattle.std.specs.List.{All}
 use Rattle.sg_kinds.specs.Values.{Value, Fault}
-use Rattle.sg_kinds.specs.Pools.{value_at, Stands}
+use Rattle.sg_pool.specs.Pools.{value_at, Stands}
 use Rattle.sg_kinds.specs.declared.marks.FaultKind.TheVariants.{Fuel}
 use Rattle.sg_small_screen.specs.Upward.{occurrence_in, no_slot}
 use Rattle.sg_small_screen.specs.Found.{all_slots_in, AreKnown}

@@ -1,6 +1,6 @@
 use Rattle.std.proofs.Common.{◌+◌, ◌≤◌, ◌∙◌, ap, subst, map, length, arith, refl}
-use Rattle.sg_kinds.specs.Pools.{value_at}
-use Rattle.sg_kinds.proofs.Grown.{grown_longer, grown_itself, grown_twice}
+use Rattle.sg_pool.specs.Pools.{value_at}
+use Rattle.sg_pool.proofs.Grown.{grown_longer, grown_itself, grown_twice}
 use Rattle.sg_small_screen.specs.Upward.{own_rule, own_slots, equations_below, slot_count}
 use Rattle.sg_small_screen.specs.Found.{equations_of, all_slots_in}
 use Rattle.sg_small_screen.proofs.Visits.{known_later, all_none, equations_none, equations_more, equations_within, slot_more, more_known}

@@ -1,6 +1,6 @@
 use Rattle.std.proofs.Common.{◌≡◌, ◌+◌, ◌<◌, map, length}
 use Rattle.std.specs.List.{All}
-use Rattle.sg_kinds.specs.Pools.{value_at, IsGrown}
+use Rattle.sg_pool.specs.Pools.{value_at, IsGrown}
 use Rattle.sg_kinds.specs.Instances.{below}
 use Rattle.sg_eval.specs.Journal.{now_of, total_of}
 use Rattle.sg_small_screen.specs.Upward.{own_slots, equations_below}

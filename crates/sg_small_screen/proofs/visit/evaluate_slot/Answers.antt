@@ -2,10 +2,10 @@ use Rattle.std.proofs.Common.{◌≡◌, sym, ◌∙◌, ap, subst, map, length,
 use Rattle.std.specs.List.{slice_get, All}
 use Rattle.std.proofs.lemmas.Option.{MatchOption-at_some, slice_get_within}
 use Rattle.sg_kinds.specs.Values.{Fault}
-use Rattle.sg_kinds.specs.Pools.{value_at, Stands}
+use Rattle.sg_pool.specs.Pools.{value_at, Stands}
 use Rattle.sg_kinds.specs.declared.marks.FaultKind.TheVariants.{Fuel}
 use Rattle.sg_kinds.specs.declared.spec.Spec.{Spec}
-use Rattle.sg_kinds.proofs.Grown.{grown_longer}
+use Rattle.sg_pool.proofs.Grown.{grown_longer}
 use Rattle.sg_small_screen.specs.Upward.{occurrence_in, no_slot}
 use Rattle.sg_small_screen.specs.Found.{IsOwnRule, all_slots_in}
 use Rattle.sg_small_screen.proofs.Visits.{known_later, all_slots_later, slot_value}

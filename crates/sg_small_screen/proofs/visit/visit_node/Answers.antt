@@ -2,7 +2,7 @@ use Rattle.std.proofs.Common.{◌<◌, length, subst, sym}
 use Rattle.sg_kinds.specs.Values.{Fault}
 use Rattle.sg_kinds.specs.declared.marks.FaultKind.TheVariants.{Fuel}
 use Rattle.std.proofs.lemmas.Option.{slice_get_within}
-use Rattle.sg_kinds.proofs.Grown.{grown_longer, grown_twice}
+use Rattle.sg_pool.proofs.Grown.{grown_longer, grown_twice}
 use Rattle.sg_small_screen.specs.Cells.{items_of}
 use Rattle.sg_small_screen.specs.Upward.{own_slots}
 use Rattle.sg_small_screen.specs.declared.found.Slots.{Slots}

@@ -2,10 +2,10 @@ use Rattle.std.proofs.Common.{sym, ◌∙◌, ap, subst, map, length}
 use Rattle.std.proofs.lemmas.List.{take_all}
 use Rattle.std.proofs.lemmas.Option.{slice_get_within}
 use Rattle.std.specs.Prelude.{All, ◌<◌}
-use Rattle.sg_kinds.specs.Pools.{value_at, Stands}
-use Rattle.sg_kinds.specs.PoolView.{AreBelow}
+use Rattle.sg_pool.specs.Pools.{value_at, Stands}
+use Rattle.sg_pool.specs.PoolView.{AreBelow}
 use Rattle.sg_kinds.specs.Outcome.{outcome_of}
-use Rattle.sg_kinds.proofs.Grown.{numbers_push, below_grown}
+use Rattle.sg_pool.proofs.Grown.{numbers_push, below_grown}
 use Rattle.sg_eval.specs.Lives.{clipped}
 use Rattle.sg_eval.proofs.Settled.{all_below, clipped_more, same_there}
 use Rattle.sg_eval.proofs.Clipped.{outcome_clipped}

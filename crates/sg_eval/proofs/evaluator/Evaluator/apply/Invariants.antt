@@ -1,6 +1,6 @@
 use Rattle.std.proofs.Common.{◌≡◌, map, take, length}
-use Rattle.sg_kinds.specs.Pools.{value_at}
-use Rattle.sg_kinds.specs.PoolView.{AreBelow}
+use Rattle.sg_pool.specs.Pools.{value_at}
+use Rattle.sg_pool.specs.PoolView.{AreBelow}
 use Rattle.sg_eval.specs.Lives.{clipped}
 use Rattle.sg_eval.proofs.evaluator.Evaluator.apply.Given as goal
 

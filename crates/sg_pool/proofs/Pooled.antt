@@ -10,24 +10,15 @@ use Rattle.std.proofs.lemmas.Option.{slice_get-get_or, get_or_from_slice_get, un
 use Rattle.std.proofs.lemmas.Bool.{cases_order}
 use Rattle.sg_kinds.specs.Evaluation.{untyped}
 use Rattle.sg_kinds.specs.Values.{Value, Tree, row_of, same_value}
-use Rattle.sg_kinds.specs.Pools.{value_at, has_value, AreDifferent}
-use Rattle.sg_kinds.specs.PoolEntries.{Entry, entry_value, kids_of, same_entry}
-use Rattle.sg_kinds.specs.declared.entry.Entry.TheVariants as entry
-use Rattle.sg_kinds.specs.declared.pool.Measure.{Measure}
-use Rattle.sg_kinds.specs.PoolView.{values_from, values_of, AreBelow, AreOrdered, measure_of, IsPooled}
+use Rattle.sg_pool.specs.Pools.{value_at, has_value, AreDifferent}
+use Rattle.sg_pool.specs.PoolEntries.{Entry, entry_value, kids_of, same_entry}
+use Rattle.sg_pool.specs.declared.entry.Entry.TheVariants as entry
+use Rattle.sg_pool.specs.declared.pool.Measure.{Measure}
+use Rattle.sg_pool.specs.PoolView.{values_from, values_of, AreBelow, AreOrdered, measure_of, IsPooled}
 use Rattle.sg_kinds.specs.SameValue.{value_is, value_same}
-use Rattle.sg_kinds.specs.SameEntry.{entry_is, entry_equal}
+use Rattle.sg_pool.specs.SameEntry.{entry_is, entry_equal}
 use Rattle.sg_kinds.proofs.Kids.{row_injective}
-
--- a place of the first list
-pub slice_get-left : {A : Type 0} → (xs ys : List A) (i : ℕ) → i < length xs → slice_get (xs ++ ys) i ≡ slice_get xs i
-slice_get-left [] ys i h = absurd (omega arith)
-slice_get-left (x ∷ xs) ys zero h = refl
-slice_get-left (x ∷ xs) ys (suc i) h = slice_get-left xs ys i (omega arith)
-
-pub slice_get-seam : {A : Type 0} → (xs : List A) (y : A) (ys : List A) → slice_get (xs ++ y ∷ ys) (length xs) ≡ Some y
-slice_get-seam [] y ys = refl
-slice_get-seam (x ∷ xs) y ys = slice_get-seam xs y ys
+use Rattle.sg_kinds.proofs.Elementary.{slice_get-front, slice_get-seam, map_at}
 
 pub below_all : (n : ℕ) (ks : List ℕ) → All (λ k. k < n) ks → AreBelow n ks
 below_all n [] h = tt
@@ -40,7 +31,7 @@ below_more m n (k ∷ ks) l h = (omega (arith, h.0), below_more m n ks l h.1)
 -- what a number stands for stays where values are put behind
 pub map-value_at : (vs more : List Value) (ks : List ℕ) → AreBelow (length vs) ks → map (value_at (vs ++ more)) ks ≡ map (value_at vs) ks
 map-value_at vs more [] h = refl
-map-value_at vs more (k ∷ ks) h = rw (slice_get-left vs more k h.0, map-value_at vs more ks h.1) refl
+map-value_at vs more (k ∷ ks) h = rw (slice_get-front vs more k h.0, map-value_at vs more ks h.1) refl
 
 pub entry_value-stays : (vs more : List Value) (e : Entry) → AreBelow (length vs) (kids_of e) → entry_value (vs ++ more) e ≡ entry_value vs e
 entry_value-stays vs more (entry.Bool b) h = refl
@@ -185,11 +176,6 @@ measures_length es ms vs p view = ap length p.measures ∙ length-map (values_of
 
 pub entries_length : (es : List Entry) (vs : List Value) → values_of es ≡ vs → length es ≡ length vs
 entries_length es vs view = sym (length-values_of es) ∙ ap length view
-
-pub map_at : {A B : Type 0} (f : A → B) (xs : List A) (i : ℕ) (d : B) (e : A) → i < length xs → get_or (map f xs) i d ≡ f (get_or xs i e)
-map_at f [] i d e l = absurd (omega arith)
-map_at f (x ∷ xs) zero d e l = refl
-map_at f (x ∷ xs) (suc i) d e l = map_at f xs i d e (omega arith)
 
 pub measure_told : (es : List Entry) (ms : List Measure) (vs : List Value) (i : ℕ) (d : Measure) → IsPooled es ms → values_of es ≡ vs → i < length vs → get_or ms i d ≡ measure_of (value_at vs i)
 measure_told es ms vs i d p view l =

@@ -4,10 +4,10 @@ use Rattle.std.proofs.Common.{sym, ◌∙◌, ap, subst, arith, append_assoc, le
 use Rattle.std.proofs.lemmas.List.{map-append}
 use Rattle.std.proofs.lemmas.Option.{slice_get_within}
 use Rattle.sg_kinds.specs.Values.{Value, Truth, Number, Chars, Tree, Fault, row_of, size_of, sizes_of, depth_of, depths_of, is_within, size_limit, depth_limit}
-use Rattle.sg_kinds.specs.Pools.{value_at, tree_over, has_value, with_value, interned, interned_all, is_kept, IsGrown, Stands}
-use Rattle.sg_kinds.specs.PoolView.{AreBelow}
+use Rattle.sg_pool.specs.Pools.{value_at, tree_over, has_value, with_value, interned, interned_all, is_kept, IsGrown, Stands}
+use Rattle.sg_pool.specs.PoolView.{AreBelow}
 use Rattle.sg_kinds.specs.SameValue.{both}
-use Rattle.sg_kinds.proofs.Pooled.{map-value_at, below_more}
+use Rattle.sg_pool.proofs.Pooled.{map-value_at, below_more}
 
 pub grown_itself : (vs : List Value) → IsGrown vs vs
 grown_itself vs = record { more = []; is = sym (search rules) }

@@ -1,13 +1,13 @@
 // The entries of a pool.
 ghost use Rattle.std.specs.Prelude.{◌≡◌, ◌↔◌, IsTrue};
 ghost use Rattle.sg_kinds.specs.Values.{fault_number};
-ghost use Rattle.sg_kinds.specs.PoolEntries.{same_entry, entry_writes};
-ghost use Rattle.sg_kinds.specs.SameEntry.{entry_partial, entry_equal, entry_alike};
+ghost use Rattle.sg_pool.specs.PoolEntries.{same_entry, entry_writes};
+ghost use Rattle.sg_pool.specs.SameEntry.{entry_partial, entry_equal, entry_alike};
 
-use crate::ids::{OpId, ValueId};
-use crate::marks::FaultKind;
-use crate::row::Row;
-use crate::text::Text;
+use sg_kinds::ids::{OpId, ValueId};
+use sg_kinds::marks::FaultKind;
+use sg_kinds::row::Row;
+use sg_kinds::text::Text;
 use std::hash::{Hash, Hasher};
 
 /// An entry of a pool: a value that has no children, or an operator with the numbers of its children.
@@ -20,20 +20,18 @@ pub enum Entry {
     Fault(FaultKind),
 }
 
-impl FaultKind {
-    /// The place of the kind in its declaration, counted from 0.
-    fn number(self) -> u8
-        ensures { result ≡ fault_number self }
-    {
-        match self {
-            FaultKind::Fuel => 0,
-            FaultKind::Depth => 1,
-            FaultKind::Size => 2,
-            FaultKind::Divide => 3,
-            FaultKind::Overflow => 4,
-            FaultKind::NoMatch => 5,
-            FaultKind::Convert => 6,
-        }
+// the place of a kind of fault in its declaration, counted from 0
+fn place_of(kind: FaultKind) -> u8
+    ensures { result ≡ fault_number kind }
+{
+    match kind {
+        FaultKind::Fuel => 0,
+        FaultKind::Depth => 1,
+        FaultKind::Size => 2,
+        FaultKind::Divide => 3,
+        FaultKind::Overflow => 4,
+        FaultKind::NoMatch => 5,
+        FaultKind::Convert => 6,
     }
 }
 
@@ -84,7 +82,7 @@ impl Hash for Entry {
             }
             Entry::Fault(kind) => {
                 4u8.hash(state);
-                kind.number().hash(state);
+                place_of(*kind).hash(state);
             }
         }
     }

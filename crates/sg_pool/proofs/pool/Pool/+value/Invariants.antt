@@ -1,5 +1,5 @@
 use Rattle.std.proofs.Common.{◌≡◌, ◌*◌, ◌+◌, take, map}
-use Rattle.sg_kinds.specs.Pools.{value_at}
+use Rattle.sg_pool.specs.Pools.{value_at}
 use Rattle.sg_kinds.proofs.pool.Pool.+value.Given as goal
 
 abbrev pub decreases-value : goal.decreases-value

@@ -1,5 +1,5 @@
 use Rattle.std.proofs.Common.{sym, ◌∙◌, ap, length}
-use Rattle.sg_kinds.proofs.Pooled.{length-values_of}
+use Rattle.sg_pool.proofs.Pooled.{length-values_of}
 use Rattle.sg_kinds.proofs.pool.Pool.len.Goals as goal
 
 pub returns : goal.returns

@@ -5,8 +5,8 @@ use Rattle.std.specs.Cmp.{IsPartialEquivalence, IsEquivalence, partial_equiv_fro
 use Rattle.std.specs.Hash.{Alike, same_Alike}
 use Rattle.std.proofs.lemmas.Slice.Eq.{bytes_eq-Decides}
 use mathlib.Core.Path.{ap, subst}
-use Rattle.sg_kinds.specs.PoolEntries.{Entry, same_entry, entry_writes}
-use Rattle.sg_kinds.specs.declared.entry.Entry.TheVariants as entry
+use Rattle.sg_pool.specs.PoolEntries.{Entry, same_entry, entry_writes}
+use Rattle.sg_pool.specs.declared.entry.Entry.TheVariants as entry
 use Rattle.sg_kinds.specs.Values.{fault_number}
 use Rattle.sg_kinds.specs.SameValue.{both, nat_is, nat_same, number_is, number_same, truth_is, truth_same, fault_is}
 

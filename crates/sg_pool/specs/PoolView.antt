@@ -1,9 +1,9 @@
 -- A pool of the code as the list of its values.
 use Rattle.std.specs.Prelude.{◌≡◌, ℕ, suc, ◌<◌, List, [], ◌∷◌, ◌++◌, map, ⊤}
 use Rattle.sg_kinds.specs.Values.{Value, size_of, depth_of}
-use Rattle.sg_kinds.specs.Pools.{AreDifferent}
-use Rattle.sg_kinds.specs.PoolEntries.{Entry, entry_value, kids_of}
-use Rattle.sg_kinds.specs.declared.pool.Measure.{Measure}
+use Rattle.sg_pool.specs.Pools.{AreDifferent}
+use Rattle.sg_pool.specs.PoolEntries.{Entry, entry_value, kids_of}
+use Rattle.sg_pool.specs.declared.pool.Measure.{Measure}
 
 -- the values of entries, one after another, behind those that are there
 abbrev pub values_from : List Value → List Entry → List Value

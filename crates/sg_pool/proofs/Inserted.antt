@@ -8,12 +8,12 @@ use Rattle.std.proofs.lemmas.Map.Views.{list_any-from_Contains}
 use Rattle.std.proofs.lemmas.List.Quantifiers.{all_pairs_push}
 use Rattle.indexmap.specs.IndexSet.{insert_key}
 use Rattle.sg_kinds.specs.Values.{Value}
-use Rattle.sg_kinds.specs.Pools.{has_value, with_value, AreDifferent}
-use Rattle.sg_kinds.specs.PoolEntries.{Entry, entry_value, kids_of, same_entry}
-use Rattle.sg_kinds.specs.declared.pool.Measure.{Measure}
-use Rattle.sg_kinds.specs.PoolView.{values_of, AreBelow, measure_of, IsPooled}
-use Rattle.sg_kinds.specs.SameEntry.{entry_is}
-use Rattle.sg_kinds.proofs.Pooled.{has_itself, has_same, values_from-push, ordered_push, length-values_of, value_at_place, entry_value-stays}
+use Rattle.sg_pool.specs.Pools.{has_value, with_value, AreDifferent}
+use Rattle.sg_pool.specs.PoolEntries.{Entry, entry_value, kids_of, same_entry}
+use Rattle.sg_pool.specs.declared.pool.Measure.{Measure}
+use Rattle.sg_pool.specs.PoolView.{values_of, AreBelow, measure_of, IsPooled}
+use Rattle.sg_pool.specs.SameEntry.{entry_is}
+use Rattle.sg_pool.proofs.Pooled.{has_itself, has_same, values_from-push, ordered_push, length-values_of, value_at_place, entry_value-stays}
 
 module _ (es : List Entry) (ms : List Measure) (e : Entry) (old : IsPooled es ms) (below : AreBelow (length (values_of es)) (kids_of e)) where
   abbrev here : Value

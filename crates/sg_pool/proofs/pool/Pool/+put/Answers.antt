@@ -1,10 +1,10 @@
 use Rattle.std.proofs.Common.{◌≡◌, ◌+◌, drop, map, sym, ◌∙◌, ap, subst, rules, IsTrue, OnOk, length, ◌≤◌}
 use Rattle.sg_kinds.specs.Values.{Tree, row_of, depth_of, depths_of}
 use Rattle.sg_kinds.specs.ValueView.{value_of_node}
-use Rattle.sg_kinds.specs.Pools.{is_kept, value_at, interned_all}
-use Rattle.sg_kinds.specs.PoolView.{AreBelow}
+use Rattle.sg_pool.specs.Pools.{is_kept, value_at, interned_all}
+use Rattle.sg_pool.specs.PoolView.{AreBelow}
 use Rattle.sg_kinds.proofs.Kids.{take_more, drop_more, depth_item}
-use Rattle.sg_kinds.proofs.Grown.{kids_kept, interned_tree, grown_twice, numbers_push, below_grown}
+use Rattle.sg_pool.proofs.Grown.{kids_kept, interned_tree, grown_twice, numbers_push, below_grown}
 use Rattle.sg_kinds.proofs.pool.Pool.+put.Goals as goal
 
 pub put-put_all-requires : goal.put-put_all-requires

@@ -2,9 +2,9 @@
 use Rattle.std.specs.Prelude.{ℕ, Bool, false, ◌&&◌, List, [], ◌++◌, nat_eq, bytes_eq}
 use Rattle.std.specs.Hash as fed
 use Rattle.sg_kinds.specs.Values.{Value, Truth, Number, Chars, Fault, same_truth, same_number, fault_number}
-use Rattle.sg_kinds.specs.Pools.{tree_over}
-pub use Rattle.sg_kinds.specs.declared.entry.Entry.{Entry}
-use Rattle.sg_kinds.specs.declared.entry.Entry.TheVariants as entry
+use Rattle.sg_pool.specs.Pools.{tree_over}
+pub use Rattle.sg_pool.specs.declared.entry.Entry.{Entry}
+use Rattle.sg_pool.specs.declared.entry.Entry.TheVariants as entry
 
 -- the value of an entry, by the values that the pool has
 abbrev pub entry_value : List Value → Entry → Value

@@ -1,19 +1,19 @@
 // The pool of shared values.
 ghost use Rattle.std.specs.Prelude.{◌≡◌, ℕ, ◌<◌, ◌↔◌, [], length, map, All, IsTrue, IsErrOf, MatchOption, IfOk, OnOk, OnErr, IfErr, MatchResult, true, false, slice_get, Some};
 ghost use Rattle.sg_kinds.specs.Values.{row_of, Truth, Number, Chars, Tree, Fault, size_of, depth_of, is_within};
-ghost use Rattle.sg_kinds.specs.Pools.{value_at, Stands, tree_over, with_value, interned, interned_all, is_kept, IsGrown, AreDifferent};
-ghost use Rattle.sg_kinds.specs.PoolEntries.{entry_value, kids_of};
-ghost use Rattle.sg_kinds.specs.PoolView.{AreBelow, measure_of};
-ghost use Rattle.sg_kinds.specs.declared.pool.PoolFault.TheVariants.{NoMemory as PoolNoMemory};
+ghost use Rattle.sg_pool.specs.Pools.{value_at, Stands, tree_over, with_value, interned, interned_all, is_kept, IsGrown, AreDifferent};
+ghost use Rattle.sg_pool.specs.PoolEntries.{entry_value, kids_of};
+ghost use Rattle.sg_pool.specs.PoolView.{AreBelow, measure_of};
+ghost use Rattle.sg_pool.specs.declared.pool.PoolFault.TheVariants.{NoMemory as PoolNoMemory};
 
 use crate::entry::Entry;
-use crate::ids::{OpId, ValueId};
-use crate::marks::FaultKind;
-use crate::memory::NoMemory;
-use crate::row::{Row, item};
-use crate::text::Text;
-use crate::value::{DEPTH_LIMIT, Kids, SIZE_LIMIT, Value, ValueNode};
 use indexmap::IndexSet;
+use sg_kinds::ids::{OpId, ValueId};
+use sg_kinds::marks::FaultKind;
+use sg_kinds::memory::NoMemory;
+use sg_kinds::row::{Row, item};
+use sg_kinds::text::Text;
+use sg_kinds::value::{DEPTH_LIMIT, Kids, SIZE_LIMIT, Value, ValueNode};
 use std::alloc::Global;
 use std::marker::Model;
 
@@ -62,7 +62,7 @@ impl Model for Pool {
 
     ghost coded = { coded_list value_code };
 
-    ghost use Rattle.sg_kinds.specs.PoolView.{values_of, IsPooled};
+    ghost use Rattle.sg_pool.specs.PoolView.{values_of, IsPooled};
 
     ghost view = { λ p. values_of p.entries.keys };
 

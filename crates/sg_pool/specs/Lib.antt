@@ -1,0 +1,4 @@
+pub mod Pools
+pub mod PoolEntries
+pub mod PoolView
+pub mod SameEntry
