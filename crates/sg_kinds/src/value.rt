@@ -163,8 +163,8 @@ impl Value {
         }
     }
 
-    // the size and the depth, as far as one past their limits
-    pub(crate) fn measure(&self) -> (u32, u32)
+    /// The size and the depth of the value, each as far as one past its limit.
+    pub fn measure(&self) -> (u32, u32)
         ensures size { result.0 ≡ min (size_of self.now) 65537 }
         ensures depth { result.1 ≡ min (depth_of self.now) 1025 }
     {
