@@ -5,7 +5,7 @@ use Rattle.sg_pool.specs.Pools.{is_kept, value_at, interned_all}
 use Rattle.sg_pool.specs.PoolView.{AreBelow}
 use Rattle.sg_kinds.proofs.Kids.{take_more, drop_more, depth_item}
 use Rattle.sg_pool.proofs.Grown.{kids_kept, interned_tree, grown_twice, numbers_push, below_grown}
-use Rattle.sg_kinds.proofs.pool.Pool.+put.Goals as goal
+use Rattle.sg_pool.proofs.pool.Pool.+put.Goals as goal
 
 pub put-put_all-requires : goal.put-put_all-requires
 put-put_all-requires t c =

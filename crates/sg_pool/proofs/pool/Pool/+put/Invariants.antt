@@ -2,7 +2,7 @@ use Rattle.std.proofs.Common.{◌≡◌, ◌*◌, ◌+◌, take, drop, map, leng
 use Rattle.sg_kinds.specs.Values.{depth_of, depths_of, row_of}
 use Rattle.sg_pool.specs.Pools.{value_at, interned_all, IsGrown}
 use Rattle.sg_pool.specs.PoolView.{AreBelow}
-use Rattle.sg_kinds.proofs.pool.Pool.+put.Given as goal
+use Rattle.sg_pool.proofs.pool.Pool.+put.Given as goal
 
 abbrev pub decreases-put : goal.decreases-put
 decreases-put l = 2 * depth_of l.v.now

@@ -1,6 +1,6 @@
 use Rattle.std.proofs.Common.{◌≡◌, ◌*◌, ◌+◌, take, map}
 use Rattle.sg_pool.specs.Pools.{value_at}
-use Rattle.sg_kinds.proofs.pool.Pool.+value.Given as goal
+use Rattle.sg_pool.proofs.pool.Pool.+value.Given as goal
 
 abbrev pub decreases-value : goal.decreases-value
 decreases-value l = 2 * l.id + 1

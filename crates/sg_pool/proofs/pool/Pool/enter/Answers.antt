@@ -2,8 +2,8 @@ use Rattle.std.specs.Prelude.{slice_get}
 use Rattle.std.proofs.Common.{◌∙◌, ap, rules}
 use Rattle.sg_pool.proofs.Inserted.{pooled_pushed, with_inserted, stands_kept}
 use Rattle.sg_pool.proofs.Grown.{grown_put}
-use Rattle.sg_kinds.proofs.pool.Pool.enter.Goals as goal
-use Rattle.sg_kinds.proofs.pool.Pool.enter.Goals.{then-added, else-added}
+use Rattle.sg_pool.proofs.pool.Pool.enter.Goals as goal
+use Rattle.sg_pool.proofs.pool.Pool.enter.Goals.{then-added, else-added}
 
 pub invariant_of-self-then-added : goal.invariant_of-self-then-added
 invariant_of-self-then-added c =

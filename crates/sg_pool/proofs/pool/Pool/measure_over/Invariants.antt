@@ -1,7 +1,7 @@
 use Rattle.std.proofs.Common.{◌≡◌, ◌≤◌, ◌+◌, max, drop, map}
 use Rattle.sg_kinds.specs.Values.{depths_of, sizes_of, row_of}
 use Rattle.sg_pool.specs.Pools.{value_at}
-use Rattle.sg_kinds.proofs.pool.Pool.measure_over.Given as goal
+use Rattle.sg_pool.proofs.pool.Pool.measure_over.Given as goal
 
 -- what is left decides
 abbrev pub invariant-loop-kid : goal.invariant-loop-kid
