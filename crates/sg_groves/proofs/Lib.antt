@@ -1,0 +1,4 @@
+pub mod Puts
+pub mod Replacing
+pub mod Held
+pub mod Frames

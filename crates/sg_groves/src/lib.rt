@@ -1,0 +1,8 @@
+//! Terms in a forest: what a node is and keeps, and the definitions and laws of the terms and values that nodes hold.
+#![tactic(auto)]
+
+mod kind;
+mod part;
+
+pub use kind::Kind;
+pub use part::Part;
