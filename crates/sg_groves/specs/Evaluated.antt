@@ -3,7 +3,8 @@ use Rattle.std.specs.Prelude.{◌≡◌, ◌≢◌, ◌⊎◌, ℕ, Bool, false,
 use Rattle.std.specs.List.{list_any}
 use Rattle.sg_kinds.specs.Values.{same_value}
 use Rattle.sg_kinds.specs.Terms.{Term}
-use Rattle.sg_kinds.specs.Specification.{Spec, rules_of}
+use Rattle.sg_kinds.specs.Specification.{rules_of}
+use Rattle.sg_kinds.specs.declared.spec.Spec.{Spec}
 use Rattle.sg_kinds.specs.Places.{Place, put}
 use Rattle.sg_kinds.specs.Nets.{Reference, net_of}
 use Rattle.sg_kinds.specs.Instances.{Site, site_of, args_at, instances}

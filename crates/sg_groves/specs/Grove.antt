@@ -1,12 +1,14 @@
 -- A forest that keeps terms: its specification, its trees, and the pool of their values.
 use Rattle.std.specs.Prelude.{◌≡◌, ℕ, ◌<◌, false, List, [], ◌∷◌, Option, Some, slice_get, length, MatchOption}
 use Rattle.sg_kinds.specs.Values.{Value, Fault}
-use Rattle.sg_kinds.specs.Specification.{Spec, Phylum, args_of, phylum_of}
+use Rattle.sg_kinds.specs.Specification.{args_of, phylum_of}
+use Rattle.sg_kinds.specs.declared.spec.Spec.{Spec}
+use Rattle.sg_kinds.specs.declared.spec.Phylum.{Phylum}
 use Rattle.sg_kinds.specs.Typing.{slots_there}
 use Rattle.sg_kinds.specs.Fits.{MayHold}
 use Rattle.sg_kinds.specs.OfType.{IsOfType}
 use Rattle.sg_kinds.specs.Sound.{IsSound}
-use Rattle.sg_kinds.specs.Pools.{Stands}
+use Rattle.sg_pool.specs.Pools.{Stands}
 use Rattle.sg_kinds.specs.declared.marks.FaultKind.TheVariants.{Fuel}
 use Rattle.sg_forest.specs.declared.node_id.NodeId.{NodeId}
 use Rattle.sg_forest.specs.Node.{Node}

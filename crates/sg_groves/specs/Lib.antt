@@ -5,3 +5,4 @@ pub mod TermAt
 pub mod Unchanged
 pub mod IsRight
 pub mod Evaluated
+pub mod Bare

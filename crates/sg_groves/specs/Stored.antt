@@ -2,7 +2,7 @@
 use Rattle.std.specs.Prelude.{ℕ, List, Option, slice_get, option_map, option_and_then, unwrap_or}
 use Rattle.sg_kinds.specs.Values.{Value}
 use Rattle.sg_kinds.specs.Evaluation.{untyped}
-use Rattle.sg_kinds.specs.Pools.{value_at}
+use Rattle.sg_pool.specs.Pools.{value_at}
 use Rattle.sg_forest.specs.declared.node_id.NodeId.{NodeId}
 use Rattle.sg_groves.specs.declared.part.Part.{Part}
 use Rattle.sg_groves.specs.Grove.{Grove, nodes}

@@ -1,4 +1,0 @@
-pub mod Puts
-pub mod Replacing
-pub mod Held
-pub mod Frames
