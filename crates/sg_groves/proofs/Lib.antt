@@ -3,3 +3,8 @@ pub mod Puts
 pub mod Replacing
 pub mod Held
 pub mod Frames
+pub mod Ways
+pub mod Lists
+pub mod PlacesOnce
+pub mod InstancesOnce
+pub mod EvaluatedOnce

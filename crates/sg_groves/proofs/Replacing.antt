@@ -32,9 +32,9 @@ module _ (pool : List Value) where
       by None got = absurd (none-some x got)
       by (Some op) got = ap (Node op part.scheme part.elided) (row_changed ts k f x s got becomes)
 
-  pub term_of-changed : (u : Place) (f : Tree Kind Part → Tree Kind Part) (t : Tree Kind Part) (x s : Term) → sub (term_of pool t) u ≡ Some x → Becomes f x s → term_of pool (changed u f t) ≡ put (term_of pool t) u s
-  term_of-changed [] f t x s at becomes = becomes t (same_Some (term_of pool t) x at)
-  term_of-changed (k ∷ u) f t x s at becomes = by (sub (term_of pool t) u) refl at (λ g n m. term_of-changed u g t n m)
+  pub tree_changed : (u : Place) (f : Tree Kind Part → Tree Kind Part) (t : Tree Kind Part) (x s : Term) → sub (term_of pool t) u ≡ Some x → Becomes f x s → term_of pool (changed u f t) ≡ put (term_of pool t) u s
+  tree_changed [] f t x s at becomes = becomes t (same_Some (term_of pool t) x at)
+  tree_changed (k ∷ u) f t x s at becomes = by (sub (term_of pool t) u) refl at (λ g n m. tree_changed u g t n m)
     where
       by : (o : Option Term) → sub (term_of pool t) u ≡ o → option_and_then (child k) o ≡ Some x
           → ((g : Tree Kind Part → Tree Kind Part) (n m : Term) → sub (term_of pool t) u ≡ Some n → Becomes g n m → term_of pool (changed u g t) ≡ put (term_of pool t) u m)
@@ -42,5 +42,5 @@ module _ (pool : List Value) where
       by None is got again = absurd (none-some x got)
       by (Some n) is got again = again (with_kid k f) n (with_child n k s) is (kid_changed k f n x s got becomes)
 
-  pub term_of-replaced : (u : Place) (new t : Tree Kind Part) (x : Term) → sub (term_of pool t) u ≡ Some x → term_of pool (replaced u new t) ≡ put (term_of pool t) u (term_of pool new)
-  term_of-replaced u new t x at = term_of-changed u (λ _. new) t x (term_of pool new) at (λ _ _. refl)
+  pub tree_replaced : (u : Place) (new t : Tree Kind Part) (x : Term) → sub (term_of pool t) u ≡ Some x → term_of pool (replaced u new t) ≡ put (term_of pool t) u (term_of pool new)
+  tree_replaced u new t x at = tree_changed u (λ _. new) t x (term_of pool new) at (λ _ _. refl)

@@ -2,6 +2,7 @@
 #![tactic(auto)]
 
 mod kind;
+pub mod laws;
 mod part;
 
 pub use kind::Kind;
