@@ -8,6 +8,11 @@ use Rattle.sg_kinds.specs.Evaluation.{untyped}
 use Rattle.sg_kinds.specs.Terms.{Term, Terms, Leaf, Node, NoTerm, AndTerm}
 use Rattle.sg_kinds.specs.Typing.{slots_there}
 use Rattle.sg_kinds.specs.Places.{Place}
+use Rattle.sg_kinds.specs.Nets.{net_of}
+use Rattle.sg_kinds.specs.Instances.{Site, site_of}
+use Rattle.sg_kinds.specs.FromScratch.{value_in}
+use Rattle.sg_kinds.specs.Specification.{rules_of}
+use Rattle.sg_kinds.specs.declared.spec.Spec.{Spec}
 use Rattle.sg_pool.specs.Pools.{value_at, IsGrown, Stands}
 use Rattle.sg_pool.proofs.Grown.{grown_itself, grown_twice}
 use Rattle.sg_forest.specs.declared.node_id.NodeId.{NodeId}
@@ -15,12 +20,15 @@ use Rattle.sg_forest.specs.Node as forest
 use Rattle.sg_forest.specs.Trees.{IsRoot, Climbs}
 use Rattle.sg_forest.specs.Tree as tree
 use Rattle.sg_forest.proofs.Shape as shapes
+use Rattle.sg_forest.proofs.Standing.{one_tree}
 use Rattle.sg_groves.specs.declared.kind.Kind.{Kind}
 use Rattle.sg_groves.specs.declared.part.Part.{Part}
 use Rattle.sg_groves.specs.Grove.{Grove, nodes, IsLeaf, IsOperation, IsGrove}
 use Rattle.sg_groves.specs.Stored.{kept, number_at, value_there}
 use Rattle.sg_groves.specs.Holds.{term_over, term_of, terms_under, Holds}
 use Rattle.sg_groves.specs.Unchanged.{KeepsPart, OnlyStored}
+use Rattle.sg_groves.specs.IsRight.{IsRight}
+use Rattle.sg_groves.proofs.Held.{one_term, live_holds, stands_node}
 
 abbrev Slots : Type 1
 Slots = NodeId → ℕ → Type 0
@@ -100,6 +108,12 @@ module _ (old new : Grove) (changed : Slots) (only : OnlyStored old new changed)
   pub only_root : (n : NodeId) → IsRoot (nodes old) n → IsRoot (nodes new) n
   only_root = shapes.IsRoot-shape (nodes old) (nodes new) only.shape
 
+  pub only_climbed : (u : Place) (n m : NodeId) → Climbs (nodes new) u n m → Climbs (nodes old) u n m
+  only_climbed = shapes.Climbs-shape (nodes new) (nodes old) (shapes.KeepsShape-back (nodes old) (nodes new) only.shape)
+
+  pub only_was_root : (n : NodeId) → IsRoot (nodes new) n → IsRoot (nodes old) n
+  only_was_root = shapes.IsRoot-shape (nodes new) (nodes old) (shapes.KeepsShape-back (nodes old) (nodes new) only.shape)
+
   -- stored numbers and values
   pub only_number : (n : NodeId) (slot : ℕ) → (changed n slot → ⊥) → number_at new n slot ≡ number_at old n slot
   only_number n slot out = by (nodes old n) refl
@@ -158,3 +172,32 @@ module _ (old new : Grove) (changed : Slots) (only : OnlyStored old new changed)
 
     pub only_holds : (n : NodeId) (t : Term) → Holds old n t → Holds new n t
     only_holds n t holds = let now = tree_kept holds.tree n holds.stands in record { tree = now.0; stands = now.1; term = now.2 ∙ holds.term }
+
+    pub only_held : (n : NodeId) (t : Term) → Holds new n t → Holds old n t
+    only_held n t holds =
+        let there = stands_node new holds.tree n holds.stands in
+        let live = shapes.IsLive-shape (nodes new) (nodes old) (shapes.KeepsShape-back (nodes old) (nodes new) only.shape) n (record { node = there.0; found = there.1 }) in
+        let was = live_holds old is n live in
+        subst (Holds old n) (one_term new n was.0 t (only_holds n was.0 was.1) holds) was.1
+
+    -- a tree that is right stays so where nothing in it changes
+    pub only_right : (n : NodeId) → IsRight old n → ((u : Place) (m : NodeId) (slot : ℕ) → Climbs (nodes old) u m n → changed m slot → ⊥) → IsRight new n
+    only_right n right out = record {
+      term = right.term;
+      holds = only_holds n right.term right.holds;
+      right = λ u m slot i climbs site.
+        let way = only_climbed u m n climbs in
+        let was : site_of (rules_of old.spec) (net_of right.term) (record { node = u; slot = slot }) ≡ Some i = subst (λ (x : Spec). site_of (rules_of x) (net_of right.term) (record { node = u; slot = slot }) ≡ Some i) only.spec site in
+        only_value is m slot (out u m slot way) ∙ right.right u m slot i way was
+        ∙ ap (λ (x : Spec). value_in x right.term (record { node = u; slot = slot })) (sym only.spec);
+    }
+
+-- where only the pool grows each term stays
+module _ (g : Grove) (is : IsGrove g) (pool : List Value) (grown : IsGrown g.pool pool) where
+  pub grown_term : (t : tree.Tree Kind Part) (n : NodeId) → tree.Stands (nodes g) n t → term_of pool t ≡ term_of g.pool t
+  grown_term t n stands =
+      let later : Grove = record { spec = g.spec; trees = g.trees; pool = pool } in
+      let same : OnlyStored g g (λ n slot. ⊥) = only_itself g (λ n slot. ⊥) in
+      let only : OnlyStored g later (λ n slot. ⊥) = record { spec = refl; pool = grown; shape = same.shape; room = same.room; parts = same.parts } in
+      let now = tree_kept g later (λ n slot. ⊥) only is t n stands in
+      ap (term_of pool) (one_tree (nodes g) t now.0 n stands now.1) ∙ now.2

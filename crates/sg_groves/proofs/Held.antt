@@ -28,7 +28,7 @@ pub one_term : (g : Grove) (n : NodeId) (t s : Term) → Holds g n t → Holds g
 one_term g n t s one two = sym one.term ∙ ap (term_of g.pool) (one_tree (nodes g) one.tree two.tree n one.stands two.stands) ∙ two.term
 
 -- a tree stands under a node that is there
-stands_node : (g : Grove) (t : Tree Kind Part) (n : NodeId) → Stands (nodes g) n t → (x : forest.Node Kind Part) × (nodes g n ≡ Some x)
+pub stands_node : (g : Grove) (t : Tree Kind Part) (n : NodeId) → Stands (nodes g) n t → (x : forest.Node Kind Part) × (nodes g n ≡ Some x)
 stands_node g (node kind part ts) n stands = (stands.1.node, stands.1.found)
 
 module _ (g : Grove) (is : IsGrove g) where
@@ -93,7 +93,7 @@ module _ (g : Grove) (is : IsGrove g) where
       (t, subst (λ m. Stands (nodes g) m t) same all.3, refl)
   row_at (beside t ts) ids (suc k) n all listed = row_at ts all.1 k n all.4 (sym (ap (λ l. slice_get l (suc k)) all.2) ∙ listed)
 
-  kid_held : (t : Tree Kind Part) (p n : NodeId) (k : ℕ) → Stands (nodes g) p t → IsChild (nodes g) n p k
+  pub kid_held : (t : Tree Kind Part) (p n : NodeId) (k : ℕ) → Stands (nodes g) p t → IsChild (nodes g) n p k
       → (s : Tree Kind Part) × Stands (nodes g) n s × (child k (term_of g.pool t) ≡ Some (term_of g.pool s))
   kid_held (node kind part ts) p n k stands hangs =
       let shows = stands.1 in
@@ -109,7 +109,7 @@ module _ (g : Grove) (is : IsGrove g) where
       by x s None leaf count low at = let none = leaf.arity in absurd (omega (arith, count, none, low))
       by x s (Some op) operation count low at = at
 
-  place_held : (u : Place) (n root : NodeId) (t : Tree Kind Part) → Climbs (nodes g) u n root → Stands (nodes g) root t
+  pub place_held : (u : Place) (n root : NodeId) (t : Tree Kind Part) → Climbs (nodes g) u n root → Stands (nodes g) root t
       → (s : Tree Kind Part) × Stands (nodes g) n s × (sub (term_of g.pool t) u ≡ Some (term_of g.pool s))
   place_held [] n root t same stands = (t, subst (λ m. Stands (nodes g) m t) (sym same) stands, refl)
   place_held (k ∷ u) n root t climbs stands =

@@ -44,3 +44,7 @@ module _ (pool : List Value) where
 
   pub tree_replaced : (u : Place) (new t : Tree Kind Part) (x : Term) → sub (term_of pool t) u ≡ Some x → term_of pool (replaced u new t) ≡ put (term_of pool t) u (term_of pool new)
   tree_replaced u new t x at = tree_changed u (λ _. new) t x (term_of pool new) at (λ _ _. refl)
+
+  pub tree_changed_by : (u : Place) (f : Tree Kind Part → Tree Kind Part) (h : Term → Term) (t : Tree Kind Part) (x : Term) → ((d : Tree Kind Part) → term_of pool (f d) ≡ h (term_of pool d)) → sub (term_of pool t) u ≡ Some x
+      → term_of pool (changed u f t) ≡ put (term_of pool t) u (h x)
+  tree_changed_by u f h t x same at = tree_changed u f t x (h x) at (λ d is. same d ∙ ap h is)

@@ -18,6 +18,7 @@ ghost use Rattle.sg_groves.specs.Bare.{node_in};
 ghost use Rattle.sg_groves.specs.Evaluated.{IsAtOrBelow, IsEvaluated, evaluated};
 ghost use Rattle.sg_groves.specs.Grove.{Grove, nodes, IsGrove};
 ghost use Rattle.sg_groves.specs.Holds.{term_of, Holds};
+ghost use Rattle.sg_groves.specs.IsRight.{IsRight};
 ghost use Rattle.sg_groves.specs.Stored.{number_at, value_there};
 ghost use Rattle.sg_groves.specs.TermAt.{term_at, way_at};
 ghost use Rattle.sg_groves.specs.Unchanged.{OnlyStored};
@@ -67,8 +68,9 @@ pub fn changes_add_up()
         OnlyStored old new (λ n slot. IsTrue (one n slot) ⊎ IsTrue (two n slot)) }
 {}
 
-/// Where only the stored values that pass a test change, ways, roots, held terms and all other stored values stay.
-#[tactic(auto, using(crate::proofs::Frames::only_climbs, crate::proofs::Frames::only_root, crate::proofs::Frames::only_holds, crate::proofs::Frames::only_number, crate::proofs::Frames::only_value))]
+/// Where only the stored values that pass a test change, ways, roots, held terms and all other stored values stay, and so
+/// does a right tree in which none changes.
+#[tactic(auto, using(crate::proofs::Frames::only_climbs, crate::proofs::Frames::only_root, crate::proofs::Frames::only_holds, crate::proofs::Frames::only_number, crate::proofs::Frames::only_value, crate::proofs::Frames::only_right))]
 pub fn all_else_stays()
     ensures ways { (old new : Grove) (test : NodeId → ℕ → Bool) → OnlyStored old new (λ n slot. IsTrue (test n slot)) →
         (u : Place) (n m : NodeId) → Climbs (nodes old) u n m → Climbs (nodes new) u n m }
@@ -78,6 +80,9 @@ pub fn all_else_stays()
         IsGrove old → (n : NodeId) (t : Term) → Holds old n t → Holds new n t }
     ensures numbers { (old new : Grove) (test : NodeId → ℕ → Bool) → OnlyStored old new (λ n slot. IsTrue (test n slot)) →
         (n : NodeId) (slot : ℕ) → (IsTrue (test n slot) → ⊥) → number_at new n slot ≡ number_at old n slot }
+    ensures right { (old new : Grove) (test : NodeId → ℕ → Bool) → OnlyStored old new (λ n slot. IsTrue (test n slot)) →
+        IsGrove old → (n : NodeId) → IsRight old n →
+        ((u : Place) (m : NodeId) (slot : ℕ) → Climbs (nodes old) u m n → IsTrue (test m slot) → ⊥) → IsRight new n }
     ensures values { (old new : Grove) (test : NodeId → ℕ → Bool) → OnlyStored old new (λ n slot. IsTrue (test n slot)) →
         IsGrove old → (n : NodeId) (slot : ℕ) → (IsTrue (test n slot) → ⊥) → value_there new n slot ≡ value_there old n slot }
 {}

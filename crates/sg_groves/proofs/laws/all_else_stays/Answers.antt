@@ -1,5 +1,5 @@
 use Rattle.std.specs.Prelude.{IsTrue}
-use Rattle.sg_groves.proofs.Frames.{only_climbs, only_holds, only_number, only_value}
+use Rattle.sg_groves.proofs.Frames.{only_climbs, only_holds, only_number, only_value, only_right}
 use Rattle.sg_groves.proofs.laws.all_else_stays.Goals as goal
 
 pub returns-clause-ways : goal.returns-clause-ways
@@ -13,3 +13,6 @@ returns-clause-numbers c = λ old new test only n slot out. only_number old new 
 
 pub returns-clause-values : goal.returns-clause-values
 returns-clause-values c = λ old new test only is n slot out. only_value old new (λ n slot. IsTrue (test n slot)) only is n slot out
+
+pub returns-clause-right : goal.returns-clause-right
+returns-clause-right c = λ old new test only is n right out. only_right old new (λ n slot. IsTrue (test n slot)) only is n right out
