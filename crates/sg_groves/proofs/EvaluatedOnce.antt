@@ -52,8 +52,8 @@ module _ (spec : Spec) (t : Term) (u : Place) (s : Term) where
     | inr out ↦ elim (or_cases (is_at_or_below i.node u) (list_any (is_changed spec t u s) (arguments spec t u s i)) test) [
       | inl below ↦ absurd (out (below_from i.node u below))
       | inr any ↦
-        let found = any_from (is_changed spec t u s) (arguments spec t u s i) any in
-        inr (out, record { arg = found.0; named = found.1; changed = differ_from (value_in spec (put t u s) found.0) (value_in spec t found.0) found.2 })
+          let found = any_from (is_changed spec t u s) (arguments spec t u s i) any in
+          inr (out, record { arg = found.0; named = found.1; changed = differ_from (value_in spec (put t u s) found.0) (value_in spec t found.0) found.2 })
     ]
   ]
 

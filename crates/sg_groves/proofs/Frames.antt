@@ -52,7 +52,12 @@ only_more old new few more within only = record {
   shape = only.shape;
   room = only.room;
   parts = λ n x y found there. let p = only.parts n x y found there in record {
-    scheme = p.scheme; elided = p.elided; count = p.count; others = λ slot out. p.others slot (λ one. out (within n slot one)); leaf = p.leaf };
+    scheme = p.scheme;
+    elided = p.elided;
+    count = p.count;
+    others = λ slot out. p.others slot (λ one. out (within n slot one));
+    leaf = p.leaf;
+  };
 }
 
 pub only_twice : (old mid new : Grove) (first second : Slots) → OnlyStored old mid first → OnlyStored mid new second → OnlyStored old new (λ n slot. first n slot ⊎ second n slot)
@@ -62,17 +67,17 @@ only_twice old mid new first second one two = record {
   shape = shapes.KeepsShape-then (nodes old) (nodes mid) (nodes new) one.shape two.shape;
   room = λ n. two.room n ∙ one.room n;
   parts = λ n x z found there.
-    let between = one.shape.kept n x found in
-    let y = between.0 in
-    let p = one.parts n x y found between.1 in
-    let q = two.parts n y z between.1 there in
-    record {
-      scheme = q.scheme ∙ p.scheme;
-      elided = q.elided ∙ p.elided;
-      count = q.count ∙ p.count;
-      others = λ slot out. q.others slot (λ in_second. out (inr in_second)) ∙ p.others slot (λ in_first. out (inl in_first));
-      leaf = λ is. q.leaf (ap (λ (l : Kind). l.op) between.2 ∙ is) ∙ p.leaf is;
-    };
+      let between = one.shape.kept n x found in
+      let y = between.0 in
+      let p = one.parts n x y found between.1 in
+      let q = two.parts n y z between.1 there in
+      record {
+        scheme = q.scheme ∙ p.scheme;
+        elided = q.elided ∙ p.elided;
+        count = q.count ∙ p.count;
+        others = λ slot out. q.others slot (λ in_second. out (inr in_second)) ∙ p.others slot (λ in_first. out (inl in_first));
+        leaf = λ is. q.leaf (ap (λ (l : Kind). l.op) between.2 ∙ is) ∙ p.leaf is;
+      };
 }
 
 -- each stored number is in the pool
@@ -143,7 +148,7 @@ module _ (old new : Grove) (changed : Slots) (only : OnlyStored old new changed)
 
     top_kept : (x y : forest.Node Kind Part) (ts : Terms) → KeepsPart x.label x.part y.part (λ slot. Unit {0}) → (o : Option ℕ) → x.label.op ≡ o → MatchOption o (IsLeaf old x) (IsOperation old x)
         → ◌≡◌ {A = Term} (elim o [ None ↦ Leaf x.label.phylum (kept new.pool y.part 0) | Some op ↦ Node op y.part.scheme y.part.elided ts ])
-          (elim o [ None ↦ Leaf x.label.phylum (kept old.pool x.part 0) | Some op ↦ Node op x.part.scheme x.part.elided ts ])
+        (elim o [ None ↦ Leaf x.label.phylum (kept old.pool x.part 0) | Some op ↦ Node op x.part.scheme x.part.elided ts ])
     top_kept x y ts keeps None at leaf = ap (Leaf x.label.phylum) (leaf_kept x y leaf (keeps.leaf at))
     top_kept x y ts keeps (Some op) at operation = λ i. Node op (keeps.scheme i) (keeps.elided i) ts
 
@@ -157,11 +162,12 @@ module _ (old new : Grove) (changed : Slots) (only : OnlyStored old new changed)
           let row = row_kept ts stands.0 stands.2 in
           let p = only.parts n x y shows.found now.1 in
           let weak : KeepsPart x.label x.part y.part (λ slot. Unit {0}) = record { scheme = p.scheme; elided = p.elided; count = p.count; others = λ slot out. absurd (out tt); leaf = p.leaf } in
-          let same : term_over new.pool x.label y.part (terms_under new.pool row.0) ≡ term_over old.pool x.label x.part (terms_under new.pool row.0) = top_kept x y (terms_under new.pool row.0) weak x.label.op refl (is.each n x shows.found) in
-          (tree.node kind y.part row.0,
-           (stands.0, record { node = y; found = now.1; has_label = now.2 ∙ shows.has_label; has_part = refl; has_kids = now.4 ∙ shows.has_kids }, row.1),
-           ap (λ l. term_over new.pool l y.part (terms_under new.pool row.0)) (sym shows.has_label) ∙ same
-           ∙ (λ i. term_over old.pool (shows.has_label i) (shows.has_part i) (row.2 i)))
+          let same : term_over new.pool x.label y.part (terms_under new.pool row.0) ≡ term_over old.pool x.label x.part (terms_under new.pool row.0) = top_kept x y (terms_under new.pool row.0) weak x.label.op refl (is.each n x shows.found) in (
+            tree.node kind y.part row.0,
+            (stands.0, record { node = y; found = now.1; has_label = now.2 ∙ shows.has_label; has_part = refl; has_kids = now.4 ∙ shows.has_kids }, row.1),
+            ap (λ l. term_over new.pool l y.part (terms_under new.pool row.0)) (sym shows.has_label) ∙ same
+                ∙ (λ i. term_over old.pool (shows.has_label i) (shows.has_part i) (row.2 i)),
+          )
 
       row_kept : (ts : tree.Row Kind Part) (ids : List NodeId) → tree.StandAll (nodes old) ids ts → (us : tree.Row Kind Part) × tree.StandAll (nodes new) ids us × (terms_under new.pool us ≡ terms_under old.pool ts)
       row_kept tree.end ids all = (tree.end, all, refl)
@@ -186,10 +192,10 @@ module _ (old new : Grove) (changed : Slots) (only : OnlyStored old new changed)
       term = right.term;
       holds = only_holds n right.term right.holds;
       right = λ u m slot i climbs site.
-        let way = only_climbed u m n climbs in
-        let was : site_of (rules_of old.spec) (net_of right.term) (record { node = u; slot = slot }) ≡ Some i = subst (λ (x : Spec). site_of (rules_of x) (net_of right.term) (record { node = u; slot = slot }) ≡ Some i) only.spec site in
-        only_value is m slot (out u m slot way) ∙ right.right u m slot i way was
-        ∙ ap (λ (x : Spec). value_in x right.term (record { node = u; slot = slot })) (sym only.spec);
+          let way = only_climbed u m n climbs in
+          let was : site_of (rules_of old.spec) (net_of right.term) (record { node = u; slot = slot }) ≡ Some i = subst (λ (x : Spec). site_of (rules_of x) (net_of right.term) (record { node = u; slot = slot }) ≡ Some i) only.spec site in
+          only_value is m slot (out u m slot way) ∙ right.right u m slot i way was
+          ∙ ap (λ (x : Spec). value_in x right.term (record { node = u; slot = slot })) (sym only.spec);
     }
 
 -- where only the pool grows each term stays

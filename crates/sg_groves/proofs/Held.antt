@@ -64,7 +64,7 @@ module _ (g : Grove) (is : IsGrove g) where
         let kids : x.kids ≡ stands.0 = ap (λ z. z.kids) same ∙ shows.has_kids in
         let count : length stands.0 ≡ x.label.arity = ap length (sym kids) ∙ is.forest.arities n x found in
         let over = either_fits x (terms_under g.pool ts) x.label.op (is.each n x found) (λ op operation.
-            row_fits ts stands.0 (args_of g.spec.ops op) (count ∙ operation.arity) (λ k m y listed there. operation.kids k m y (ap (λ ids. slice_get ids k) kids ∙ listed) there) stands.2) in
+        row_fits ts stands.0 (args_of g.spec.ops op) (count ∙ operation.arity) (λ k m y listed there. operation.kids k m y (ap (λ ids. slice_get ids k) kids ∙ listed) there) stands.2) in
         let here : Kind → Part → Type 0 = λ k p. Fits g.spec (term_over g.pool k p (terms_under g.pool ts)) x.label.phylum in
         subst (here kind) parts (subst (λ k. here k x.part) label over)
 
@@ -77,9 +77,10 @@ module _ (g : Grove) (is : IsGrove g) where
         let there = stands_node g t all.0 all.3 in
         let phylum : p ≡ there.0.label.phylum = same_Some p there.0.label.phylum (each 0 all.0 there.0 (ap (λ l. slice_get l 0) all.2) there.1) in
         let some : length ids ≡ suc (length all.1) = ap length all.2 in
-        let fewer : length all.1 ≡ length ps = omega (arith, count, some) in
-        (subst (Fits g.spec (term_of g.pool t)) (sym phylum) (tree_fits t all.0 there.0 there.1 all.3),
-         row_fits ts all.1 ps fewer (λ k m y listed found. each (suc k) m y (ap (λ l. slice_get l (suc k)) all.2 ∙ listed) found) all.4)
+        let fewer : length all.1 ≡ length ps = omega (arith, count, some) in (
+          subst (Fits g.spec (term_of g.pool t)) (sym phylum) (tree_fits t all.0 there.0 there.1 all.3),
+          row_fits ts all.1 ps fewer (λ k m y listed found. each (suc k) m y (ap (λ l. slice_get l (suc k)) all.2 ∙ listed) found) all.4,
+        )
 
   pub held_fits : (n : NodeId) (x : forest.Node Kind Part) (t : Term) → nodes g n ≡ Some x → Holds g n t → Fits g.spec t x.label.phylum
   held_fits n x t found holds = subst (λ s. Fits g.spec s x.label.phylum) holds.term (tree_fits holds.tree n x found holds.stands)
@@ -100,9 +101,12 @@ module _ (g : Grove) (is : IsGrove g) where
       let lists = is.forest.linked.upward p k n hangs in
       let same : lists.node ≡ shows.node = cc (lists.found, shows.found) in
       let listed : slice_get stands.0 k ≡ Some n = ap (λ l. slice_get l k) (sym (ap (λ z. z.kids) same ∙ shows.has_kids)) ∙ lists.lists in
-      let below = row_at ts stands.0 k n stands.2 listed in
-      (below.0, below.1, by lists.node (term_of g.pool below.0) kind.op (subst (λ o. MatchOption o (IsLeaf g lists.node) (IsOperation g lists.node)) (ap (λ z. z.label.op) same ∙ ap (λ (l : Kind). l.op) shows.has_label) (is.each p lists.node lists.found))
-        (is.forest.arities p lists.node lists.found) (slice_get_within lists.node.kids k n lists.lists) below.2)
+      let below = row_at ts stands.0 k n stands.2 listed in (
+        below.0,
+        below.1,
+        by lists.node (term_of g.pool below.0) kind.op (subst (λ o. MatchOption o (IsLeaf g lists.node) (IsOperation g lists.node)) (ap (λ z. z.label.op) same ∙ ap (λ (l : Kind). l.op) shows.has_label) (is.each p lists.node lists.found))
+            (is.forest.arities p lists.node lists.found) (slice_get_within lists.node.kids k n lists.lists) below.2,
+      )
     where
       by : (x : forest.Node Kind Part) (s : Term) (o : Option ℕ) → MatchOption o (IsLeaf g x) (IsOperation g x) → length x.kids ≡ x.label.arity → k < length x.kids → slice_get (terms_of (terms_under g.pool ts)) k ≡ Some s
           → child k (elim o [ None ↦ Leaf kind.phylum (kept g.pool part 0) | Some op ↦ Node op part.scheme part.elided (terms_under g.pool ts) ]) ≡ Some s
@@ -161,9 +165,9 @@ module _ (g : Grove) (is : IsGrove g) where
         let shows = stands.1 in
         let x = shows.node in
         let kids : (k : ℕ) (m : NodeId) → slice_get stands.0 k ≡ Some m → room_below g.trees m < most = λ k m listed.
-            let hangs = is.forest.linked.down n k m (record { node = x; found = shows.found; lists = ap (λ l. slice_get l k) shows.has_kids ∙ listed }) in
-            let less = room_below-child g.trees is.forest.linked m n k hangs in
-            omega (arith, less, low) in
+        let hangs = is.forest.linked.down n k m (record { node = x; found = shows.found; lists = ap (λ l. slice_get l k) shows.has_kids ∙ listed }) in
+        let less = room_below-child g.trees is.forest.linked m n k hangs in
+        omega (arith, less, low) in
         let row : kids_of (map (term_within g most) x.kids) ≡ terms_under g.pool ts = ap (λ l. kids_of (map (term_within g most) l)) shows.has_kids ∙ row_within ts stands.0 most kids stands.2 in
         ap (λ (o : Option (forest.Node Kind Part)). elim o as (λ _. Term) [ None ↦ Leaf 0 untyped | Some y ↦ term_over g.pool y.label y.part (kids_of (map (term_within g most) y.kids)) ]) shows.found
         ∙ ap (λ l. term_over g.pool l x.part (kids_of (map (term_within g most) x.kids))) shows.has_label

@@ -83,10 +83,10 @@ node_outside t (k ∷ u) s w out = by (sub t u) refl (node_outside t u)
         let now : sub (put t u (with_child n k s)) w ≡ sub (with_child n k s) v = ap (sub (put t u (with_child n k s))) b.is ∙ sub_put_inside t u v n (with_child n k s) at in
         let was : sub t w ≡ sub n v = ap (sub t) b.is ∙ sub_below t u v n at in
         let same : option_map bare (sub (with_child n k s) v) ≡ option_map bare (sub n v) = elim (below_changed n k s v) [
-            | inl top ↦ ap (λ x. option_map bare (sub (with_child n k s) x)) top ∙ ap Some (bare-with_child n k s) ∙ sym (ap (λ x. option_map bare (sub n x)) top)
-            | inr (inl below) ↦ absurd (out (let c = below_child v u k below in record { below = c.below; is = b.is ∙ c.is }))
-            | inr (inr same) ↦ ap (option_map bare) same
-          ] in
+          | inl top ↦ ap (λ x. option_map bare (sub (with_child n k s) x)) top ∙ ap Some (bare-with_child n k s) ∙ sym (ap (λ x. option_map bare (sub n x)) top)
+          | inr (inl below) ↦ absurd (out (let c = below_child v u k below in record { below = c.below; is = b.is ∙ c.is }))
+          | inr (inr same) ↦ ap (option_map bare) same
+        ] in
         ap (option_map bare) now ∙ same ∙ sym (ap (option_map bare) was)
 
     by : (o : Option Term) → sub t u ≡ o → ((s : Term) (w : Place) → (IsAtOrBelow w u → ⊥) → node_in (put t u s) w ≡ node_in t w)

@@ -28,7 +28,7 @@ module _ (pool : List Value) where
     where
       by : (o : Option ℕ) → child k (elim o [ None ↦ Leaf kind.phylum (kept pool part 0) | Some op ↦ Node op part.scheme part.elided (terms_under pool ts) ]) ≡ Some x
           → ◌≡◌ {A = Term} (elim o [ None ↦ Leaf kind.phylum (kept pool part 0) | Some op ↦ Node op part.scheme part.elided (terms_under pool (changed_at k f ts)) ])
-            (with_child (elim o [ None ↦ Leaf kind.phylum (kept pool part 0) | Some op ↦ Node op part.scheme part.elided (terms_under pool ts) ]) k s)
+          (with_child (elim o [ None ↦ Leaf kind.phylum (kept pool part 0) | Some op ↦ Node op part.scheme part.elided (terms_under pool ts) ]) k s)
       by None got = absurd (none-some x got)
       by (Some op) got = ap (Node op part.scheme part.elided) (row_changed ts k f x s got becomes)
 
