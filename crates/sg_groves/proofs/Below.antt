@@ -1,6 +1,6 @@
 -- The test whether a place is at or below another.
-use Rattle.std.specs.Prelude.{◌≡◌, ◌⊎◌, refl, ℕ, Bool, true, false, ◌||◌, bytes_eq, List, [], ◌∷◌, ◌++◌}
-use Rattle.std.proofs.Common.{sym, ap, ◌∙◌, subst, inl, inr, arith}
+use Rattle.std.specs.Prelude.{◌≡◌, ◌⊎◌, refl, ℕ, Bool, true, false, bytes_eq, [], ◌∷◌, ◌++◌}
+use Rattle.std.proofs.Common.{sym, ap, ◌∙◌, subst, inl, inr}
 use Rattle.std.proofs.lemmas.Bool.{or_left, or_cases, false≢true}
 use Rattle.sg_kinds.specs.Places.{Place}
 use Rattle.sg_kinds.proofs.Elementary.{bytes_is, bytes_itself, or_right}

@@ -1,7 +1,7 @@
 -- The list of what a replacement evaluates has exactly that, each once.
-use Rattle.std.specs.Prelude.{◌≡◌, ◌≢◌, ◌⊎◌, ◌↔◌, refl, Bool, true, false, not, ◌||◌, List, [], ◌∷◌, Contains, Option, Some, None, option_map, unwrap_or}
+use Rattle.std.specs.Prelude.{◌≡◌, ◌≢◌, ◌⊎◌, refl, Bool, true, false, not, List, [], ◌∷◌, Contains, Some, option_map, unwrap_or}
 use Rattle.std.specs.List.{list_any}
-use Rattle.std.proofs.Common.{sym, ap, ◌∙◌, subst, inl, inr}
+use Rattle.std.proofs.Common.{sym, ap, ◌∙◌, inl, inr}
 use Rattle.std.proofs.lemmas.List.Kept.{AllPairs-filter}
 use Rattle.std.proofs.lemmas.Bool.{false≢true, or_left, or_cases}
 use Rattle.sg_kinds.proofs.Elementary.{or_right, not_true}
@@ -15,7 +15,7 @@ use Rattle.sg_kinds.specs.Places.{Place, put}
 use Rattle.sg_kinds.specs.Nets.{Reference, net_of}
 use Rattle.sg_kinds.specs.Instances.{Site, site_of, instances}
 use Rattle.sg_kinds.specs.FromScratch.{value_in}
-use Rattle.sg_groves.specs.Evaluated.{IsAtOrBelow, is_at_or_below, IsChanged, is_changed, arguments, HasChanged, IsEvaluated, is_evaluated_by, is_evaluated, evaluated}
+use Rattle.sg_groves.specs.Evaluated.{IsAtOrBelow, is_at_or_below, is_changed, arguments, HasChanged, IsEvaluated, is_evaluated_by, is_evaluated, evaluated}
 use Rattle.sg_groves.proofs.Below.{below_from, below_to, below_or_not}
 use Rattle.sg_groves.proofs.Lists.{contains_first, contains_later, contains_either, contains_none, AreApart, filter_to, filter_from}
 use Rattle.sg_groves.proofs.InstancesOnce.{instance_has, instance_site, instances_apart}

@@ -1,15 +1,15 @@
 -- Where only stored values change.
-use Rattle.std.specs.Prelude.{◌≡◌, ◌⊎◌, refl, ℕ, zero, suc, ◌<◌, List, [], ◌∷◌, ◌++◌, length, Option, Some, None, slice_get, option_map, option_and_then, unwrap_or, MatchOption}
-use Rattle.std.proofs.Common.{sym, ap, ◌∙◌, subst, inl, inr, arith, append-nil}
+use Rattle.std.specs.Prelude.{◌≡◌, ◌⊎◌, refl, ℕ, zero, suc, List, [], ◌∷◌, Option, Some, None, slice_get, option_map, option_and_then, unwrap_or, MatchOption}
+use Rattle.std.proofs.Common.{sym, ap, ◌∙◌, subst, inl, inr, arith}
 use Rattle.std.proofs.lemmas.Option.{none-some, same_Some, slice_get_within}
 use Rattle.sg_kinds.proofs.Elementary.{slice_get-before, slice_get-there}
 use Rattle.sg_kinds.specs.Values.{Value}
 use Rattle.sg_kinds.specs.Evaluation.{untyped}
-use Rattle.sg_kinds.specs.Terms.{Term, Terms, Leaf, Node, NoTerm, AndTerm}
+use Rattle.sg_kinds.specs.Terms.{Term, Terms, Leaf, Node, AndTerm}
 use Rattle.sg_kinds.specs.Typing.{slots_there}
 use Rattle.sg_kinds.specs.Places.{Place}
 use Rattle.sg_kinds.specs.Nets.{net_of}
-use Rattle.sg_kinds.specs.Instances.{Site, site_of}
+use Rattle.sg_kinds.specs.Instances.{site_of}
 use Rattle.sg_kinds.specs.FromScratch.{value_in}
 use Rattle.sg_kinds.specs.Specification.{rules_of}
 use Rattle.sg_kinds.specs.declared.spec.Spec.{Spec}

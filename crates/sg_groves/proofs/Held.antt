@@ -2,9 +2,8 @@
 use Rattle.std.specs.Prelude.{◌≡◌, refl, ℕ, zero, suc, ◌<◌, List, [], ◌∷◌, length, map, Option, Some, None, slice_get, option_map, option_and_then, unwrap_or, MatchOption}
 use Rattle.std.proofs.Common.{sym, ap, ◌∙◌, subst, arith}
 use Rattle.std.proofs.lemmas.Option.{none-some, same_Some, slice_get_within}
-use Rattle.sg_kinds.specs.Values.{Value}
 use Rattle.sg_kinds.specs.Evaluation.{untyped}
-use Rattle.sg_kinds.specs.Terms.{Term, Terms, Leaf, Node, NoTerm, AndTerm, terms_of, kids_of}
+use Rattle.sg_kinds.specs.Terms.{Term, Terms, Leaf, Node, AndTerm, terms_of, kids_of}
 use Rattle.sg_kinds.specs.Places.{Place, child, sub}
 use Rattle.sg_kinds.specs.Fits.{MayHold, Fits, AllFit}
 use Rattle.sg_kinds.specs.Specification.{args_of}

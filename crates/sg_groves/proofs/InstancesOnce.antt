@@ -1,14 +1,13 @@
 -- The instances of a term are the references that have an equation, each once.
-use Rattle.std.specs.Prelude.{◌≡◌, ◌≢◌, refl, ℕ, zero, suc, ◌+◌, ◌<◌, Bool, true, false, cond, ◌&&◌, nat_eq, List, [], ◌∷◌, ◌++◌, map, filter, flat_map, find, length, All, Contains, Option, Some, None, slice_get, option_map, option_and_then, unwrap_or, is_some, IsTrue}
-use Rattle.std.proofs.Common.{sym, ap, ◌∙◌, subst, inl, inr, arith, length-append}
+use Rattle.std.specs.Prelude.{◌≡◌, ◌≢◌, refl, ℕ, ◌+◌, ◌<◌, Bool, true, false, cond, ◌&&◌, nat_eq, List, [], ◌∷◌, map, flat_map, find, length, Contains, Option, Some, None, slice_get, option_map, option_and_then, unwrap_or, is_some, IsTrue}
+use Rattle.std.proofs.Common.{sym, ap, ◌∙◌, subst, arith, length-append}
 use Rattle.std.proofs.lemmas.List.{length-map}
 use Rattle.std.proofs.lemmas.List.Elements.{All-contains}
 use Rattle.std.proofs.lemmas.List.Kept.{AllPairs-filter}
-use Rattle.std.proofs.lemmas.Bool.{false≢true, and_parts, eqb-true}
+use Rattle.std.proofs.lemmas.Bool.{false≢true, and_parts}
 use Rattle.std.proofs.lemmas.Option.{none-some, same_Some, slice_get_within}
 use Rattle.sg_kinds.proofs.Elementary.{some_there, option_map_some, eq_is}
 use Rattle.sg_kinds.specs.Terms.{Term}
-use Rattle.sg_kinds.specs.Values.{Value}
 use Rattle.sg_kinds.specs.Specification.{attrs_of, locals_of, phylum_of, is_inherited, is_way_inherited, rules_of}
 use Rattle.sg_kinds.specs.Typing.{attr_types, slots_there, slot_type, types_at, is_typed}
 use Rattle.sg_kinds.specs.Sound.{IsSound, is_rule_typed}
@@ -19,7 +18,6 @@ use Rattle.sg_kinds.specs.declared.spec.Spec.{Spec}
 use Rattle.sg_kinds.specs.declared.spec.Rule.{Rule}
 use Rattle.sg_kinds.specs.declared.spec.Attr.{Attr}
 use Rattle.sg_kinds.specs.declared.spec.Local.{Local}
-use Rattle.sg_kinds.specs.declared.spec.Occurrence.{Occurrence}
 use Rattle.sg_groves.proofs.Lists.{contains_first, contains_later, AreApart, filter_to, filter_from, flat_to, flat_apart, map_to, map_from, map_apart, below_has, below_apart}
 use Rattle.sg_groves.proofs.PlacesOnce.{place_there, places_apart}
 

@@ -1,6 +1,6 @@
 -- What a term that was put at a place leaves, and a second one in the same place.
-use Rattle.std.specs.Prelude.{◌≡◌, ◌≢◌, ◌⊎◌, refl, ℕ, zero, suc, List, [], ◌∷◌, ◌++◌, Option, Some, None, slice_get, option_map, option_and_then}
-use Rattle.std.proofs.Common.{sym, ap, ◌∙◌, subst, inl, inr, arith, append_assoc, append-nil}
+use Rattle.std.specs.Prelude.{◌≡◌, ◌≢◌, ◌⊎◌, refl, ℕ, zero, suc, [], ◌∷◌, ◌++◌, Option, Some, None, slice_get, option_map, option_and_then}
+use Rattle.std.proofs.Common.{sym, ap, ◌∙◌, subst, inl, inr, append_assoc, append-nil}
 use Rattle.std.proofs.lemmas.Bool.{cases_eq}
 use Rattle.sg_kinds.specs.Terms.{Term, Terms, Leaf, Node, NoTerm, AndTerm, terms_of}
 use Rattle.sg_kinds.specs.Places.{Place, child, sub, put, with_child, with_kid}
@@ -8,7 +8,7 @@ use Rattle.sg_kinds.specs.Nets.{label_of}
 use Rattle.sg_kinds.proofs.TermLaws.{sub_put, sub_put_inside}
 use Rattle.sg_groves.specs.Bare.{bare, node_in}
 use Rattle.sg_groves.specs.Evaluated.{IsAtOrBelow}
-use Rattle.sg_groves.proofs.Below.{below_or_not, below_itself}
+use Rattle.sg_groves.proofs.Below.{below_or_not}
 
 -- a place below a place
 pub sub_below : (t : Term) (u v : Place) (x : Term) → sub t u ≡ Some x → sub t (v ++ u) ≡ sub x v

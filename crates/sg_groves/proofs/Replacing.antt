@@ -3,14 +3,14 @@ use Rattle.std.specs.Prelude.{◌≡◌, refl, ℕ, zero, suc, List, [], ◌∷�
 use Rattle.std.proofs.Common.{sym, ap, ◌∙◌, subst}
 use Rattle.std.proofs.lemmas.Option.{none-some, same_Some}
 use Rattle.sg_kinds.specs.Values.{Value}
-use Rattle.sg_kinds.specs.Terms.{Term, Terms, Leaf, Node, NoTerm, AndTerm, terms_of}
+use Rattle.sg_kinds.specs.Terms.{Term, Leaf, Node, AndTerm, terms_of}
 use Rattle.sg_kinds.specs.Places.{Place, child, sub, put, with_child}
 use Rattle.sg_kinds.specs.Places as places
 use Rattle.sg_forest.specs.Tree.{Tree, Row, node, end, beside, changed_at, with_kid, changed, replaced}
 use Rattle.sg_groves.specs.declared.kind.Kind.{Kind}
 use Rattle.sg_groves.specs.declared.part.Part.{Part}
 use Rattle.sg_groves.specs.Stored.{kept}
-use Rattle.sg_groves.specs.Holds.{term_over, term_of, terms_under}
+use Rattle.sg_groves.specs.Holds.{term_of, terms_under}
 
 module _ (pool : List Value) where
   -- a change of a tree is one of its term

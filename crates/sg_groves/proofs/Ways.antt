@@ -1,7 +1,6 @@
 -- Nodes and their places: one each.
-use Rattle.std.specs.Prelude.{◌≡◌, refl, ℕ, zero, suc, ◌≤◌, List, [], ◌∷◌, length, Option, Some}
+use Rattle.std.specs.Prelude.{◌≡◌, refl, ℕ, zero, suc, ◌≤◌, [], ◌∷◌, length}
 use Rattle.std.proofs.Common.{sym, ap, ◌∙◌, subst, arith}
-use Rattle.std.specs.Option.{option_map_or}
 use Rattle.std.specs.FinMap as finmap
 use Rattle.sg_kinds.specs.Places.{Place}
 use Rattle.sg_forest.specs.declared.node_id.NodeId.{NodeId}

@@ -1,9 +1,9 @@
 -- When every stored value of a tree is its from-scratch value.
-use Rattle.std.specs.Prelude.{◌≡◌, ℕ, Option, Some}
+use Rattle.std.specs.Prelude.{◌≡◌, ℕ, Some}
 use Rattle.sg_kinds.specs.Terms.{Term}
 use Rattle.sg_kinds.specs.Specification.{rules_of}
 use Rattle.sg_kinds.specs.Places.{Place}
-use Rattle.sg_kinds.specs.Nets.{Reference, net_of}
+use Rattle.sg_kinds.specs.Nets.{net_of}
 use Rattle.sg_kinds.specs.Instances.{Site, site_of}
 use Rattle.sg_kinds.specs.FromScratch.{value_in}
 use Rattle.sg_forest.specs.declared.node_id.NodeId.{NodeId}

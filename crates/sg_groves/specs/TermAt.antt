@@ -1,5 +1,5 @@
 -- The term that a node holds and the place where it stands, as functions.
-use Rattle.std.specs.Prelude.{ℕ, zero, suc, List, [], ◌∷◌, map, Option, Some, None}
+use Rattle.std.specs.Prelude.{ℕ, zero, suc, [], ◌∷◌, map, Some, None}
 use Rattle.std.specs.Option.{option_map_or}
 use Rattle.std.specs.FinMap as finmap
 use Rattle.sg_kinds.specs.Evaluation.{untyped}

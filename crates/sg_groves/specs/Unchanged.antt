@@ -1,5 +1,5 @@
 -- What stays where only stored values change.
-use Rattle.std.specs.Prelude.{◌≡◌, ℕ, List, length, Option, Some, None, slice_get}
+use Rattle.std.specs.Prelude.{◌≡◌, ℕ, length, Some, None, slice_get}
 use Rattle.sg_pool.specs.Pools.{IsGrown}
 use Rattle.sg_forest.specs.declared.node_id.NodeId.{NodeId}
 use Rattle.sg_forest.specs.Node.{Node}
