@@ -2,6 +2,7 @@
 use Rattle.std.proofs.Common.{◌≡◌, List, [], ◌∷◌, length, Some, None, sym, ap, ◌∙◌, arith}
 use Rattle.std.specs.Prelude.{◌==◌}
 use Rattle.std.proofs.lemmas.Bool.{eqb-true}
+use Rattle.std.proofs.lemmas.Option.{same_Some}
 use Rattle.sg_ast.specs.Declarations.{Decl}
 use Rattle.sg_ast.specs.Spelling.{Mark}
 use Rattle.sg_ast.specs.Readers.{Outcome}
@@ -17,10 +18,7 @@ spelling_reads ms d is = ap entire (decl_reads d is.tree is.fits)
 
 all_taken : (o : Outcome Decl) (d : Decl) → entire o ≡ Some d → o ≡ Some (d, [])
 all_taken None d e = absurd (cc)
-all_taken (Some (a, [])) d e = ap (λ (x : Decl). Some (x, [])) (some_same e)
-  where
-    some_same : Some a ≡ Some d → a ≡ d
-    some_same e = cc
+all_taken (Some (a, [])) d e = ap (λ (x : Decl). Some (x, [])) (same_Some a d e)
 all_taken (Some (a, m ∷ ms)) d e =
     either (length (m ∷ ms) == 0) e
     (λ is e. let none : length (m ∷ ms) ≡ 0 = eqb-true (length (m ∷ ms)) 0 is in absurd (omega (arith, none)))
@@ -31,8 +29,5 @@ unfolding decl_of
 reading_spells ms d e =
     let is = decl_read (all_taken (declaration ms) d e) in record { tree = is.0; fits = is.1 }
 
-some_same : (d e : Decl) → Some d ≡ Some e → d ≡ e
-some_same d e is = cc
-
 pub one_tree : (ms : List Mark) (d e : Decl) → Spells ms d → Spells ms e → d ≡ e
-one_tree ms d e first second = some_same d e (sym (spelling_reads ms d first) ∙ spelling_reads ms e second)
+one_tree ms d e first second = same_Some d e (sym (spelling_reads ms d first) ∙ spelling_reads ms e second)

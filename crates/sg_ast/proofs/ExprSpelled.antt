@@ -2,7 +2,7 @@
 use Rattle.std.proofs.Common.{◌≡◌, ℕ, zero, suc, ◌+◌, ◌<◌, ◌≤◌, Bool, true, false, List, [], ◌∷◌, ◌++◌, Option, Some, None, refl, sym, ap, ◌∙◌, subst, arith, append_assoc}
 use Rattle.std.specs.Prelude.{cond, flat_map, max, nat_le, ◌&&◌, ⊤, drop}
 use Rattle.std.specs.List.{AllByRecursion, join_by}
-use Rattle.std.proofs.lemmas.Bool.{leb-true}
+use Rattle.std.proofs.lemmas.Bool.{and_parts, leb-true}
 use Rattle.sg_text.specs.Lexemes.{Word}
 use Rattle.sg_text.specs.declared.symbols.Symbol.TheVariants as signs
 use Rattle.sg_text.specs.declared.words.Keyword.TheVariants as keyword
@@ -380,17 +380,12 @@ climbed d w (suc turns) least most a e ms mid rest left is =
     stepped d w turns least most a e ms mid rest (next_infix least most mid) left refl
     (λ next whole behind grown_left is. climbed d w turns least next whole e ms behind rest grown_left is) is
 
-both : (a b : Bool) → (a && b) ≡ true → (a ≡ true) × (b ≡ true)
-both true true e = (refl, refl)
-both true false e = absurd (cc)
-both false b e = absurd (cc)
-
 chosen_read : (d : ℕ) → Inner d → (least : ℕ) (a e : Expr) (ms mid rest : List Mark) → IsPlain d least a ms mid → chosen (expr_within d) (suc d) least a mid ≡ Some (e, rest) → Was (suc d) least e ms rest
 unfolding chosen
 chosen_read d w least a e ms mid rest plain is =
     either (nat_le least choice_level && sees (is_sign signs.Question) mid) is
     (λ passes is.
-    let tests = both (nat_le least choice_level) (sees (is_sign signs.Question) mid) passes in
+    let tests = and_parts (nat_le least choice_level) (sees (is_sign signs.Question) mid) passes in
     let s1 = opens is in
     let s2 = opens s1.3 in
     let s3 = opens s2.3 in

@@ -4,17 +4,17 @@ use Rattle.std.specs.Prelude.{cond, flat_map}
 use Rattle.std.specs.List.{AllByRecursion, list_any, filter}
 use Rattle.sg_ast.specs.FirstFault.{or_else, first, first_of, repeats_behind, repeats, repeat_from, first_repeat}
 
-pub or_else-assoc : {A : Type 0} (a b c : Option A) → or_else (or_else a b) c ≡ or_else a (or_else b c)
-or_else-assoc (Some a) b c = refl
-or_else-assoc None b c = refl
+pub or_else_assoc : {A : Type 0} (a b c : Option A) → or_else (or_else a b) c ≡ or_else a (or_else b c)
+or_else_assoc (Some a) b c = refl
+or_else_assoc None b c = refl
 
-pub or_else-none : {A : Type 0} (a : Option A) → or_else a None ≡ a
-or_else-none (Some a) = refl
-or_else-none None = refl
+pub or_none : {A : Type 0} (a : Option A) → or_else a None ≡ a
+or_none (Some a) = refl
+or_none None = refl
 
 pub first-append : {X A : Type 0} (f : X → Option A) (xs ys : List X) → first f (xs ++ ys) ≡ or_else (first f xs) (first f ys)
 first-append f [] ys = refl
-first-append f (x ∷ xs) ys = ap (or_else (f x)) (first-append f xs ys) ∙ sym (or_else-assoc (f x) (first f xs) (first f ys))
+first-append f (x ∷ xs) ys = ap (or_else (f x)) (first-append f xs ys) ∙ sym (or_else_assoc (f x) (first f xs) (first f ys))
 
 pub first-flat : {X Y A : Type 0} (f : Y → Option A) (g : X → List Y) (xs : List X) → first f (flat_map g xs) ≡ first (λ x. first f (g x)) xs
 first-flat f g [] = refl
@@ -25,7 +25,7 @@ first-map f g [] = refl
 first-map f g (x ∷ xs) = ap (or_else (f (g x))) (first-map f g xs)
 
 pub first-push : {X A : Type 0} (f : X → Option A) (xs : List X) (x : X) → first f (xs ++ x ∷ []) ≡ or_else (first f xs) (f x)
-first-push f xs x = first-append f xs (x ∷ []) ∙ ap (or_else (first f xs)) (or_else-none (f x))
+first-push f xs x = first-append f xs (x ∷ []) ∙ ap (or_else (first f xs)) (or_none (f x))
 
 -- a test before the rule
 pub first-filter : {X A : Type 0} (f : X → Option A) (p : X → Bool) (xs : List X) → first f (filter p xs) ≡ first (λ x. cond (p x) (f x) None) xs
@@ -37,14 +37,14 @@ first-filter f p (x ∷ xs) = by (p x) (first-filter f p xs)
     by true e = ap (or_else (f x)) e
     by false e = e
 
-nothing : {A : Type 0} (a b : Option A) → or_else a b ≡ None → (a ≡ None) × (b ≡ None)
-nothing (Some a) b e = absurd (cc)
-nothing None b e = (refl, e)
+pub neither : {A : Type 0} (a b : Option A) → or_else a b ≡ None → (a ≡ None) × (b ≡ None)
+neither (Some a) b e = absurd (cc)
+neither None b e = (refl, e)
 
 -- there is no fault exactly where no spot has one
 pub first-none : {X A : Type 0} (f : X → Option A) (xs : List X) → first f xs ≡ None → AllByRecursion (λ x. f x ≡ None) xs
 first-none f [] e = tt
-first-none f (x ∷ xs) e = let n = nothing (f x) (first f xs) e in (n.0, first-none f xs n.1)
+first-none f (x ∷ xs) e = let n = neither (f x) (first f xs) e in (n.0, first-none f xs n.1)
 
 pub none-first : {X A : Type 0} (f : X → Option A) (xs : List X) → AllByRecursion (λ x. f x ≡ None) xs → first f xs ≡ None
 none-first f [] all = refl

@@ -1,7 +1,8 @@
 -- Which operators may stand beside which, and what may stand behind an expression.
 use Rattle.std.proofs.Common.{◌≡◌, ℕ, ◌+◌, ◌-◌, ◌<◌, ◌≤◌, Bool, true, false, List, [], ◌∷◌, Option, Some, None, refl, sym, ap, ◌∙◌, arith}
 use Rattle.std.specs.Prelude.{cond, ◌&&◌, nat_le}
-use Rattle.std.proofs.lemmas.Bool.{leb-true, le-leb, lt-leb, eqb-true}
+use Rattle.std.proofs.lemmas.Bool.{and_parts, leb-true, le-leb, lt-leb, eqb-true}
+use Rattle.std.proofs.lemmas.Option.{same_Some}
 use Rattle.sg_text.specs.Lexemes.{Lexeme, Sign}
 use Rattle.sg_text.specs.declared.symbols.Symbol.{Symbol}
 use Rattle.sg_text.specs.declared.symbols.Symbol.TheVariants.{ColonColon, BarBar, AmpersandAmpersand, EqualsEquals, BangEquals, Less, LessEquals, Greater, GreaterEquals, Hash, Plus, Minus, Star, Slash, Percent, LeftParenthesis, Dollar, Dot, Question}
@@ -104,25 +105,22 @@ infix-symbol infixes.Mul = refl
 infix-symbol infixes.Div = refl
 infix-symbol infixes.Rem = refl
 
-some_same : {A : Type 0} {x y : A} → Some x ≡ Some y → x ≡ y
-some_same e = cc
-
 symbol-infix : (s : Symbol) (f : Infix) → infix_of s ≡ Some f → s ≡ symbol_of f
-symbol-infix BarBar f e = ap symbol_of (some_same e)
-symbol-infix AmpersandAmpersand f e = ap symbol_of (some_same e)
-symbol-infix EqualsEquals f e = ap symbol_of (some_same e)
-symbol-infix BangEquals f e = ap symbol_of (some_same e)
-symbol-infix Less f e = ap symbol_of (some_same e)
-symbol-infix LessEquals f e = ap symbol_of (some_same e)
-symbol-infix Greater f e = ap symbol_of (some_same e)
-symbol-infix GreaterEquals f e = ap symbol_of (some_same e)
-symbol-infix ColonColon f e = ap symbol_of (some_same e)
-symbol-infix Hash f e = ap symbol_of (some_same e)
-symbol-infix Plus f e = ap symbol_of (some_same e)
-symbol-infix Minus f e = ap symbol_of (some_same e)
-symbol-infix Star f e = ap symbol_of (some_same e)
-symbol-infix Slash f e = ap symbol_of (some_same e)
-symbol-infix Percent f e = ap symbol_of (some_same e)
+symbol-infix BarBar f e = ap symbol_of (same_Some _ _ e)
+symbol-infix AmpersandAmpersand f e = ap symbol_of (same_Some _ _ e)
+symbol-infix EqualsEquals f e = ap symbol_of (same_Some _ _ e)
+symbol-infix BangEquals f e = ap symbol_of (same_Some _ _ e)
+symbol-infix Less f e = ap symbol_of (same_Some _ _ e)
+symbol-infix LessEquals f e = ap symbol_of (same_Some _ _ e)
+symbol-infix Greater f e = ap symbol_of (same_Some _ _ e)
+symbol-infix GreaterEquals f e = ap symbol_of (same_Some _ _ e)
+symbol-infix ColonColon f e = ap symbol_of (same_Some _ _ e)
+symbol-infix Hash f e = ap symbol_of (same_Some _ _ e)
+symbol-infix Plus f e = ap symbol_of (same_Some _ _ e)
+symbol-infix Minus f e = ap symbol_of (same_Some _ _ e)
+symbol-infix Star f e = ap symbol_of (same_Some _ _ e)
+symbol-infix Slash f e = ap symbol_of (same_Some _ _ e)
+symbol-infix Percent f e = ap symbol_of (same_Some _ _ e)
 symbol-infix s f e = absurd (cc)
 
 -- ---- what may stand behind an expression
@@ -232,19 +230,14 @@ pub record IsNext (least most : ℕ) (f : Infix) (ms : List Mark) : Type 0 where
   pub mid : List Mark
   pub is : ms ≡ (Sign (symbol_of f), place) ∷ mid
 
-both : (a b : Bool) → (a && b) ≡ true → (a ≡ true) × (b ≡ true)
-both true true e = (refl, refl)
-both true false e = absurd (cc)
-both false b e = absurd (cc)
-
 between_some : (least most : ℕ) (o : Option Infix) (f : Infix) → between least most o ≡ Some f → (o ≡ Some f) × (least ≤ level f) × (level f ≤ most)
 between_some least most None f e = absurd (cc)
 between_some least most (Some g) f e =
     either (nat_le least (level g) && nat_le (level g) most) e
     (λ passes e.
     let is : Some g ≡ Some f = e in
-    let same = ap level (some_same e) in
-    let h = both (nat_le least (level g)) (nat_le (level g) most) passes in
+    let same = ap level (same_Some _ _ e) in
+    let h = and_parts (nat_le least (level g)) (nat_le (level g) most) passes in
     (is, rw (← same) (leb-true least (level g) h.0), rw (← same) (leb-true (level g) most h.1)))
     (λ fails e. absurd (cc))
 

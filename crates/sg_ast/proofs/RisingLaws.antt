@@ -74,12 +74,17 @@ some_rise n nothing h = tt
 some_rise {ps} {qs = q ∷ qs} n (passed s) h = sooner_open n (q.token + 1) ps (omega (arith, h.0)) (some_rise (q.token + 1) s h.1)
 some_rise {qs = q ∷ qs} n (taken s) h = (h.0, some_rise (q.token + 1) s h.1)
 
+-- a whole list
+pub whole : {A : Type 0} (xs : List A) → SomeOf xs xs
+whole [] = nothing
+whole (x ∷ xs) = taken (whole xs)
+
 -- some of each are some of all
-later : {A : Type 0} {us vs : List A} (ys : List A) → SomeOf us vs → SomeOf us (ys ++ vs)
+pub later : {A : Type 0} {us vs : List A} (ys : List A) → SomeOf us vs → SomeOf us (ys ++ vs)
 later [] t = t
 later (y ∷ ys) t = passed (later ys t)
 
-some_then : {A : Type 0} {xs ys us vs : List A} → SomeOf xs ys → SomeOf us vs → SomeOf (xs ++ us) (ys ++ vs)
+pub some_then : {A : Type 0} {xs ys us vs : List A} → SomeOf xs ys → SomeOf us vs → SomeOf (xs ++ us) (ys ++ vs)
 some_then {ys = ys} nothing t = later ys t
 some_then (passed s) t = passed (some_then s t)
 some_then (taken s) t = taken (some_then s t)

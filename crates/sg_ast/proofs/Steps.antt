@@ -4,6 +4,7 @@ use Rattle.std.specs.Prelude.{nat_lt, flat_map, cond}
 use Rattle.std.specs.List.{AllByRecursion}
 use Rattle.std.proofs.lemmas.List.{append-nil}
 use Rattle.std.proofs.lemmas.Bool.{ltb-true, lt-ltb}
+use Rattle.std.proofs.lemmas.Option.{same_Some}
 use denote.Enum.Bare.{same_true, true_same}
 use Rattle.sg_text.specs.Lexemes.{Lexeme, Word, Reserved, Numeral, String, Literal, Sign}
 use Rattle.sg_text.specs.contracts.symbols.Symbol as symbols
@@ -45,15 +46,12 @@ pub opens : {A B : Type 0} {o : Outcome A} {f : A → Reader B} {y : B × List M
 opens {o = Some p} e = (p.0, p.1, refl, e)
 opens {o = None} e = absurd (cc)
 
-same_some : {A : Type 0} {x y : A} → Some x ≡ Some y → x ≡ y
-same_some e = cc
-
 -- what holds of what was read and left at last
 pub closes : {B : Type 0} (P : B → List Mark → Type 0) {a b : B} {ms rest : List Mark} → P a ms → ◌≡◌ {A = Outcome B} (Some (a, ms)) (Some (b, rest)) → P b rest
 closes {B = B} P {a = a} {b = b} {ms = ms} {rest = rest} p e =
     let x : B × List Mark = (a, ms) in
     let y : B × List Mark = (b, rest) in
-    let pair : x ≡ y = same_some e in
+    let pair : x ≡ y = same_Some _ _ e in
     let Q : B × List Mark → Type 0 = λ p. P p.0 p.1 in
     subst Q pair p
 

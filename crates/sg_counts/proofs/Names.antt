@@ -6,15 +6,11 @@ use Rattle.std.specs.Cmp.Lexicographic.{slice_cmp}
 use Rattle.std.specs.Ordering.{nat_cmp, is_eq, ordering_then}
 use Rattle.std.specs.declared.cmp.Ordering.{Ordering}
 use Rattle.std.specs.declared.cmp.Ordering.TheVariants.{Less, Equal, Greater}
-use Rattle.std.proofs.lemmas.Bool.Decides.{nat_tests}
-use Rattle.std.proofs.lemmas.Cmp.{same_from_slice_cmp}
+use Rattle.std.proofs.lemmas.Map.Text.{is_eq-slice_cmp}
 use Rattle.sg_counts.specs.Crowds.{different, crowd}
 use Rattle.sg_counts.specs.Limits.{is_same_operator}
 use Rattle.sg_counts.specs.OwnersView.{names_of, operators_of}
 use Rattle.sg_counts.proofs.Seen.{different_seen, crowd_seen}
-
-pub same_bytes : (xs ys : List ℕ) → is_eq (slice_cmp nat_cmp xs ys) ≡ bytes_eq xs ys
-same_bytes xs ys = same_from_slice_cmp nat_cmp is_eq bytes_eq refl (λ _ _. refl) (λ _ _. refl) (λ x y xs ys o h. grind (arith, nat_tests)) xs ys (slice_cmp nat_cmp xs ys) refl
 
 pub both_equal : (o p : Ordering) → is_eq (ordering_then o p) ≡ (is_eq o && is_eq p)
 both_equal Less p = refl
@@ -27,20 +23,20 @@ told (Ok n) h e = h ∙ e
 told (Err e) h is = h
 
 -- the orders of names and of pairs of names
-abbrev name_order : Bor (List ℕ) → Bor (List ℕ) → Ordering
+abbrev pub name_order : Bor (List ℕ) → Bor (List ℕ) → Ordering
 name_order a b = slice_cmp nat_cmp a.now b.now
 
 abbrev pair_order : Bor (List ℕ) × Bor (List ℕ) → Bor (List ℕ) × Bor (List ℕ) → Ordering
 pair_order a b = ordering_then (name_order a.0 b.0) (name_order a.1 b.1)
 
 same_pairs : (a b : Bor (List ℕ) × Bor (List ℕ)) → is_at (pair_order a) b ≡ is_same_operator (a.0.now, a.1.now) (b.0.now, b.1.now)
-same_pairs a b = both_equal (name_order a.0 b.0) (name_order a.1 b.1) ∙ ap (λ t. t && is_eq (name_order a.1 b.1)) (same_bytes a.0.now b.0.now) ∙ ap (λ t. bytes_eq a.0.now b.0.now && t) (same_bytes a.1.now b.1.now)
+same_pairs a b = both_equal (name_order a.0 b.0) (name_order a.1 b.1) ∙ ap (λ t. t && is_eq (name_order a.1 b.1)) (is_eq-slice_cmp a.0.now b.0.now) ∙ ap (λ t. bytes_eq a.0.now b.0.now && t) (is_eq-slice_cmp a.1.now b.1.now)
 
 pub different_names : (xs : List (Bor (List ℕ))) → length (different (λ a b. is_at (λ y. slice_cmp nat_cmp a.now y.now) b) xs) ≡ length (different bytes_eq (names_of xs))
-different_names xs = different_seen (λ a b. is_at (name_order a) b) bytes_eq (λ (n : Bor (List ℕ)). n.now) (λ a b. same_bytes a.now b.now) xs
+different_names xs = different_seen (λ a b. is_at (name_order a) b) bytes_eq (λ (n : Bor (List ℕ)). n.now) (λ a b. is_eq-slice_cmp a.now b.now) xs
 
 pub crowd_names : (limit : ℕ) (xs : List (Bor (List ℕ))) → crowd (λ a b. is_at (λ y. slice_cmp nat_cmp a.now y.now) b) limit xs ≡ crowd bytes_eq limit (names_of xs)
-crowd_names limit xs = crowd_seen (λ a b. is_at (name_order a) b) bytes_eq (λ (n : Bor (List ℕ)). n.now) (λ a b. same_bytes a.now b.now) limit xs
+crowd_names limit xs = crowd_seen (λ a b. is_at (name_order a) b) bytes_eq (λ (n : Bor (List ℕ)). n.now) (λ a b. is_eq-slice_cmp a.now b.now) limit xs
 
 pub crowd_operators : (limit : ℕ) (xs : List (Bor (List ℕ) × Bor (List ℕ))) → crowd (λ a b. is_at (pair_order a) b) limit xs ≡ crowd is_same_operator limit (operators_of xs)
 crowd_operators limit xs = crowd_seen (λ a b. is_at (pair_order a) b) is_same_operator (λ (n : Bor (List ℕ) × Bor (List ℕ)). (n.0.now, n.1.now)) same_pairs limit xs

@@ -1,28 +1,17 @@
 -- What a loop along declarations has gathered.
 use Rattle.std.proofs.Common.{◌≡◌, ℕ, ◌+◌, ◌<◌, Bool, cond, List, [], ◌∷◌, ◌++◌, length, map, take, get_or, refl, sym, ap, ◌∙◌, append_assoc, append-nil}
 use Rattle.std.specs.List.{flat_map, count_by}
+use Rattle.std.proofs.lemmas.List.{flat_map_more, map_push}
 use Rattle.std.proofs.lemmas.List.Sums.{sum_by-cons}
 use Rattle.sg_kinds.proofs.Kids.{take_more}
-
-flat_push : {A B : Type 0} (g : A → List B) (xs : List A) (x : A) → flat_map g (xs ++ x ∷ []) ≡ flat_map g xs ++ g x
-flat_push g [] x = append-nil (g x)
-flat_push g (y ∷ xs) x = ap (λ l. g y ++ l) (flat_push g xs x) ∙ sym (append_assoc (g y) (flat_map g xs) (g x))
-
-map_last : {A B : Type 0} (f : A → B) (xs : List A) (x : A) → map f (xs ++ x ∷ []) ≡ map f xs ++ f x ∷ []
-map_last f [] x = refl
-map_last f (y ∷ xs) x = ap (λ l. f y ∷ l) (map_last f xs x)
 
 -- one more declaration
 pub one_more : {A B C : Type 0} (g : B → List C) (view : A → B) (xs : List A) (i : ℕ) (x : A) (front new : List C) → i < length xs → x ≡ get_or xs i x → front ≡ flat_map g (map view (take i xs)) → new ≡ front ++ g (view x)
     → new ≡ flat_map g (map view (take (i + 1) xs))
 one_more g view xs i x front new low here so_far more =
-    more ∙ ap (λ l. l ++ g (view x)) so_far ∙ sym (flat_push g (map view (take i xs)) (view x)) ∙ ap (flat_map g) (sym (map_last view (take i xs) x)) ∙ ap (λ l. flat_map g (map view l)) (sym (take_more xs i x low here))
+    more ∙ ap (λ l. l ++ g (view x)) so_far ∙ flat_map_more g [] (map view (take i xs)) (view x) ∙ ap (flat_map g) (sym (map_push view (take i xs) x)) ∙ ap (λ l. flat_map g (map view l)) (sym (take_more xs i x low here))
 
 pub count_map : {A B : Type 0} (p : B → Bool) (view : A → B) (xs : List A) → count_by p (map view xs) ≡ count_by (λ x. p (view x)) xs
 count_map p view [] = refl
 count_map p view (x ∷ xs) =
     sum_by-cons (λ b. cond (p b) 1 0) (view x) (map view xs) ∙ ap (λ n. cond (p (view x)) 1 0 + n) (count_map p view xs) ∙ sym (sum_by-cons (λ a. cond (p (view a)) 1 0) x xs)
-
-pub map_map : {A B C : Type 0} (f : B → C) (view : A → B) (xs : List A) → map f (map view xs) ≡ map (λ x. f (view x)) xs
-map_map f view [] = refl
-map_map f view (x ∷ xs) = ap (λ l. f (view x) ∷ l) (map_map f view xs)

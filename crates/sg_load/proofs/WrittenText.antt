@@ -27,7 +27,7 @@ HasText l = ⊤
 escape_text : (b : ℕ) → is_escape b ≡ true → is_text_byte (escape_value b) ≡ true
 escape_text b is = grind (arith, nat_tests)
 
-byte_text : (b : ℕ) → text.is_text_byte b ≡ true → is_text_byte b ≡ true
+byte_text : (b : ℕ) → text.is_string_byte b ≡ true → is_text_byte b ≡ true
 byte_text b is = grind (arith, nat_tests)
 
 -- no quote stands before the last byte
@@ -49,8 +49,8 @@ rest_text true (b ∷ bs) (suc k) len is =
     let parts = and_parts (is_escape b) (is_string_rest false bs) is in
     and_from (is_text_byte (escape_value b)) (is_text (unescaped_after false (take k bs))) (escape_text b parts.0) (rest_text false bs k (omega arith) parts.1)
 rest_text false (b ∷ bs) (suc k) len is =
-    let more = open_rest (b == double_quote) (text.is_text_byte b && is_string_rest (b == backslash) bs) (length bs) (omega arith) is in
-    let parts = and_parts (text.is_text_byte b) (is_string_rest (b == backslash) bs) more in
+    let more = open_rest (b == double_quote) (text.is_string_byte b && is_string_rest (b == backslash) bs) (length bs) (omega arith) is in
+    let parts = and_parts (text.is_string_byte b) (is_string_rest (b == backslash) bs) more in
     byte_and (b == backslash) b (unescaped_after (b == backslash) (take k bs)) (byte_text b parts.0) (rest_text (b == backslash) bs k (omega arith) parts.1)
 
 -- what stands between the quotes of a string

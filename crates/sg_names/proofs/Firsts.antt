@@ -3,7 +3,7 @@ use Rattle.std.proofs.Common.{◌≡◌, ℕ, ◌+◌, ◌<◌, ◌≤◌, Bool,
 use Rattle.std.specs.List.{position, position_from}
 use Rattle.std.proofs.lemmas.List.{at_drop_more, at_drop_all}
 use Rattle.sg_ast.specs.FirstFault.{or_else}
-use Rattle.sg_names.proofs.Loops.{or_none}
+use Rattle.sg_ast.proofs.FirstLaws.{or_none}
 use Rattle.std.proofs.lemmas.Iterator.Adapters.{position_from-zero}
 
 -- the search from the beginning

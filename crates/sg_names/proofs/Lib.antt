@@ -3,7 +3,6 @@ pub mod Shorts
 pub mod Firsts
 pub mod RowLaws
 pub mod HeadLaws
-pub mod Loops
 pub mod Owned
 pub mod Written
 pub mod TableMade

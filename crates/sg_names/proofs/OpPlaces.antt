@@ -4,10 +4,11 @@ use Rattle.std.specs.Prelude.{flat_map}
 use Rattle.std.proofs.lemmas.List.{length-map}
 use Rattle.sg_ast.specs.declared.decl.Alt.{Alt}
 use Rattle.sg_ast.specs.Declarations.{Decl, Operators}
+use Rattle.sg_ast.specs.Parts.{op_places_at}
 use Rattle.sg_names.specs.declared.heads.Head.{Head}
-use Rattle.sg_names.specs.Names.{map_from, operator, operators_at, operators_in, op_places_at, phyla_in, with_local, locals_of, names_of}
+use Rattle.sg_names.specs.Names.{map_from, operator, operators_at, operators_in, phyla_in, with_local, locals_of, names_of}
 
-map_from_length : {A B : Type 0} (f : ℕ → A → B) (k : ℕ) (xs : List A) → length (map_from f k xs) ≡ length xs
+pub map_from_length : {A B : Type 0} (f : ℕ → A → B) (k : ℕ) (xs : List A) → length (map_from f k xs) ≡ length xs
 map_from_length f k [] = refl
 map_from_length f k (x ∷ xs) = ap suc (map_from_length f (suc k) xs)
 

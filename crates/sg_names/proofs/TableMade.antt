@@ -12,9 +12,10 @@ use Rattle.sg_names.specs.Heads.{is_head}
 use Rattle.sg_kinds.specs.declared.fault.Position.{Position}
 use Rattle.sg_ast.specs.Declarations.{Decl}
 use Rattle.sg_ast.specs.FirstFault.{first}
+use Rattle.sg_ast.specs.Parts.{op_places_at}
 use Rattle.sg_names.specs.declared.table.Signature.{Signature}
 use Rattle.sg_names.specs.declared.table.Table.{Table}
-use Rattle.sg_names.specs.Names.{map_from, phylum, nonterminal, with_locals, owned, owners, listings_of, attributes_of, locals_of, function_at, root_at, op_places_at, operators_in, phyla_in, nonterminals_in, table_from, names_of}
+use Rattle.sg_names.specs.Names.{map_from, phylum, nonterminal, with_locals, owned, owners, listings_of, attributes_of, locals_of, function_at, root_at, operators_in, phyla_in, nonterminals_in, table_from, names_of}
 use Rattle.sg_names.proofs.Firsts.{from_zero}
 
 pub phyla_made : {made : List Phylum} (heads slice : List Head) (l l' : ℕ → List Shape) (o o' : ℕ → List ℕ) (a a' : ℕ → List Attr) → slice ≡ heads

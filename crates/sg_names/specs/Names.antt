@@ -9,7 +9,6 @@ use Rattle.sg_kinds.specs.declared.spec.Attr.{Attr}
 use Rattle.sg_kinds.specs.declared.spec.Operator.{Operator}
 use Rattle.sg_kinds.specs.declared.spec.Local.{Local}
 use Rattle.sg_kinds.specs.declared.marks.Shape.{Shape}
-use Rattle.sg_kinds.specs.declared.fault.Position.{Position}
 use Rattle.sg_kinds.specs.declared.marks.Shape.TheVariants.{Truths, Numbers, Texts, Lexemes, Ordinary}
 use Rattle.sg_kinds.specs.declared.marks.Shape.TheVariants as shape
 use Rattle.sg_kinds.specs.declared.marks.Way.TheVariants.{Synthesized}
@@ -19,6 +18,7 @@ use Rattle.sg_ast.specs.declared.decl.Alt.{Alt}
 use Rattle.sg_ast.specs.declared.decl.AttrDecl.{AttrDecl}
 use Rattle.sg_ast.specs.Declarations.{Decl, Root, Listed, Optional, Operators, LexemeOf, Attributes, Equations, Function, Productions}
 use Rattle.sg_ast.specs.FirstFault.{first}
+use Rattle.sg_ast.specs.Parts.{op_places_at}
 use Rattle.sg_names.specs.declared.heads.Head.{Head}
 use Rattle.sg_names.specs.Heads.{with_head, number_in, numbers_in, head_of, base_heads}
 use Rattle.sg_names.specs.declared.table.Signature.{Signature}
@@ -60,10 +60,6 @@ operators_at phyla d = []
 
 abbrev pub operators_in : List Head → List Decl → List Operator
 operators_in phyla ds = flat_map (operators_at phyla) ds
-
-abbrev pub op_places_at : Decl → List Position
-op_places_at (Operators n alts) = map (λ (a : Alt). a.name.place) alts
-op_places_at d = []
 
 -- the first operator of a name; the same, if it is one of a phylum
 abbrev pub op_named : List Operator → Bytes → Option ℕ

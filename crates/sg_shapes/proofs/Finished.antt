@@ -1,5 +1,6 @@
 -- What the counts say of the made terms.
 use Rattle.std.proofs.Common.{◌≡◌, ℕ, zero, suc, ◌<◌, ◌≤◌, Bool, true, false, not, ◌&&◌, nat_le, List, [], ◌∷◌, length, get_or, Option, Some, None, MatchOption, slice_get, option_and_then, refl, sym, ap, ◌∙◌, arith}
+use Rattle.std.proofs.lemmas.Bool.{and_from, and_parts, both_ways, le-leb, leb-true, not-false, not-true}
 use Rattle.std.proofs.lemmas.Bool.Decides.{nat_tests}
 use Rattle.sg_kinds.specs.Terms.{Term, nodes_of, height_of}
 use Rattle.sg_kinds.specs.declared.spec.Spec.{Spec}
@@ -21,12 +22,6 @@ use Rattle.sg_shapes.proofs.Counted.{completed_made, placeheld_made, counted}
 use Rattle.sg_shapes.proofs.Low.{IsLow, completing_low, placeholder_low}
 use Rattle.sg_shapes.proofs.Finds.{none_found, all_not, found_is, found_before}
 
-le_true : (a b : ℕ) → a ≤ b → nat_le a b ≡ true
-le_true a b h = grind (arith, nat_tests)
-
-true_le : (a b : ℕ) → nat_le a b ≡ true → a ≤ b
-true_le a b h = grind (arith, nat_tests)
-
 cap_test : (n : ℕ) → nat_le (capped n) 65536 ≡ nat_le n 65536
 cap_test n = grind (arith, nat_tests)
 
@@ -36,7 +31,7 @@ and_true false b e = refl
 
 fits_made : (o : Option Term) → IsLow 1024 o → fits (count_of o) ≡ is_small_made o
 fits_made None low = refl
-fits_made (Some t) low = cap_test (nodes_of t) ∙ and_true (nat_le (nodes_of t) 65536) (nat_le (height_of t) 1024) (le_true (height_of t) 1024 low)
+fits_made (Some t) low = cap_test (nodes_of t) ∙ and_true (nat_le (nodes_of t) 65536) (nat_le (height_of t) 1024) (le-leb (height_of t) 1024 low)
 
 lower : (k m : ℕ) (o : Option Term) → k ≤ m → IsLow k o → IsLow m o
 lower k m None h low = tt
@@ -76,54 +71,38 @@ at_place [] p x h e = absurd (omega (arith, h))
 at_place (y ∷ phyla) zero x h e = ap (λ (z : Phylum). Some z) (sym e)
 at_place (y ∷ phyla) (suc p) x h e = at_place phyla p x (omega (arith, h)) e
 
-split_and : (a b : Bool) → (a && b) ≡ true → (a ≡ true) × (b ≡ true)
-split_and true b e = (refl, e)
-split_and false b e = absurd (cc e)
-
-both_true : (a b : Bool) → a ≡ true → b ≡ true → (a && b) ≡ true
-both_true true b e f = f
-both_true false b e f = absurd (cc e)
-
 small_made : (o : Option Term) → is_small_made o ≡ true → MatchOption o ⊥ IsSmall
 small_made None e = absurd (cc e)
-small_made (Some t) e = let both = split_and (nat_le (nodes_of t) 65536) (nat_le (height_of t) 1024) e in (true_le (nodes_of t) 65536 both.0, true_le (height_of t) 1024 both.1)
+small_made (Some t) e = let both = and_parts (nat_le (nodes_of t) 65536) (nat_le (height_of t) 1024) e in (leb-true (nodes_of t) 65536 both.0, leb-true (height_of t) 1024 both.1)
 
 made_small : (o : Option Term) → MatchOption o ⊥ IsSmall → is_small_made o ≡ true
 made_small None s = absurd s
-made_small (Some t) s = both_true (nat_le (nodes_of t) 65536) (nat_le (height_of t) 1024) (le_true (nodes_of t) 65536 s.0) (le_true (height_of t) 1024 s.1)
+made_small (Some t) s = and_from (nat_le (nodes_of t) 65536) (nat_le (height_of t) 1024) (le-leb (nodes_of t) 65536 s.0) (le-leb (height_of t) 1024 s.1)
 
 finite : (spec : Spec) (p : ℕ) → is_finished spec p ≡ true → IsFinite spec p
 unfolding is_finished
 finite spec p e =
-    let both = split_and (is_small_made (completing_within spec 1024 p)) (is_small_made (placeholder_within spec 1023 p)) e in
+    let both = and_parts (is_small_made (completing_within spec 1024 p)) (is_small_made (placeholder_within spec 1023 p)) e in
     (small_made (completing_within spec 1024 p) both.0, small_made (placeholder_within spec 1023 p) both.1)
 
 finished : (spec : Spec) (p : ℕ) → IsFinite spec p → is_finished spec p ≡ true
 unfolding is_finished
-finished spec p f = both_true (is_small_made (completing_within spec 1024 p)) (is_small_made (placeholder_within spec 1023 p)) (made_small (completing_within spec 1024 p) f.0) (made_small (placeholder_within spec 1023 p) f.1)
-
-not_not : (b : Bool) → not b ≡ false → b ≡ true
-not_not true e = refl
-not_not false e = absurd (cc e)
+finished spec p f = and_from (is_small_made (completing_within spec 1024 p)) (is_small_made (placeholder_within spec 1023 p)) (made_small (completing_within spec 1024 p) f.0) (made_small (placeholder_within spec 1023 p) f.1)
 
 -- where no phylum is unfinished, each is finite, and the other way round
 pub all_finite : (t : Table) → unfinished t ≡ None → (p : ℕ) → p < length t.phyla → IsFinite (drafted t) p
-all_finite t e p h = finite (drafted t) p (not_not (is_finished (drafted t) p) (none_found (λ q. not (is_finished (drafted t) q)) (length t.phyla) e p h))
+all_finite t e p h = finite (drafted t) p (not-false (is_finished (drafted t) p) (none_found (λ q. not (is_finished (drafted t) q)) (length t.phyla) e p h))
 
 pub all_finished : (t : Table) → ((p : ℕ) → p < length t.phyla → IsFinite (drafted t) p) → unfinished t ≡ None
 all_finished t f = all_not (λ q. not (is_finished (drafted t) q)) (length t.phyla) (λ p h. ap not (finished (drafted t) p (f p h)))
 
-never : (b : Bool) → b ≡ true → not b ≡ true → ⊥
-never true e n = cc n
-never false e n = cc e
-
 pub not_finite : (t : Table) (p : ℕ) → unfinished t ≡ Some p → IsFinite (drafted t) p → ⊥
 not_finite t p e f =
     let is = found_is (λ q. not (is_finished (drafted t) q)) (length t.phyla) p e in
-    never (is_finished (drafted t) p) (finished (drafted t) p f) is.0
+    both_ways (is_finished (drafted t) p) (not-true (is_finished (drafted t) p) is.0) (finished (drafted t) p f)
 
 pub finite_before : (t : Table) (p q : ℕ) → unfinished t ≡ Some p → q < p → IsFinite (drafted t) q
-finite_before t p q e h = finite (drafted t) q (not_not (is_finished (drafted t) q) (found_before (λ (r : ℕ). not (is_finished (drafted t) r)) (length t.phyla) p e q h))
+finite_before t p q e h = finite (drafted t) q (not-false (is_finished (drafted t) q) (found_before (λ (r : ℕ). not (is_finished (drafted t) r)) (length t.phyla) p e q h))
 
 -- leaves are finite and small
 leaf_fits : (ops : List Operator) (count : ℕ → Option ℕ) (os : List ℕ) (shape : Shape) → is_leaf_shape shape ≡ true → (fits (completed ops count os shape) && fits (placeheld ops count os shape)) ≡ true
@@ -143,6 +122,6 @@ has_operators t p x e is = by (is_leaf_shape x.shape) refl
     by false leaf = refl
     by true leaf =
         let found = found_is (λ q. not (is_finished (drafted t) q)) (length t.phyla) p e in
-        absurd (never (is_finished (drafted t) p)
-        (sym (finished_is (drafted t) p x is) ∙ leaf_fits t.ops (look (deepened t.phyla t.ops 1023 (no_counts t.phyla))) x.ops x.shape leaf)
-        found.0)
+        absurd (both_ways (is_finished (drafted t) p)
+        (not-true (is_finished (drafted t) p) found.0)
+        (sym (finished_is (drafted t) p x is) ∙ leaf_fits t.ops (look (deepened t.phyla t.ops 1023 (no_counts t.phyla))) x.ops x.shape leaf))

@@ -3,23 +3,16 @@ use Rattle.std.proofs.Common.{◌≡◌, ℕ, ◌+◌, ◌<◌, ◌≤◌, List,
 use Rattle.std.proofs.lemmas.List.{at_drop_more, at_drop_all}
 use Rattle.sg_ast.specs.FirstFault.{or_else, first}
 use Rattle.sg_ast.specs.View.{tree_of, trees_of}
+use Rattle.sg_ast.proofs.FirstLaws.{first-append}
 use Rattle.sg_ast.specs.declared.decl.Decl.{Decl}
 use Rattle.sg_ast.specs.Declarations as plain
 use Rattle.sg_names.specs.declared.table.Table.{Table}
 use Rattle.sg_names.specs.Shapes.{root_names, roots, list_shape_at, list_names, list_shape, optional_shape_at, optional_names, optional_shape, root_inherits_at, root_inherits}
 
-joined : {X Y : Type 0} (f : X → Option Y) (xs ys : List X) → first f (xs ++ ys) ≡ or_else (first f xs) (first f ys)
-joined f [] ys = refl
-joined f (x ∷ xs) ys = ap (or_else (f x)) (joined f xs ys) ∙ assoc (f x) (first f xs) (first f ys)
-  where
-    assoc : {Z : Type 0} (a b c : Option Z) → or_else a (or_else b c) ≡ or_else (or_else a b) c
-    assoc None b c = refl
-    assoc (Some z) b c = refl
-
 -- the first fault of the spots of all declarations
 pub first_trees : {X Y : Type 0} (f : X → Option Y) (g : plain.Decl → List X) (ds : List Decl) → first (λ d. first f (g (tree_of d))) ds ≡ first f (flat_map g (trees_of ds))
 first_trees f g [] = refl
-first_trees f g (d ∷ ds) = ap (or_else (first f (g (tree_of d)))) (first_trees f g ds) ∙ sym (joined f (g (tree_of d)) (flat_map g (trees_of ds)))
+first_trees f g (d ∷ ds) = ap (or_else (first f (g (tree_of d)))) (first_trees f g ds) ∙ sym (first-append f (g (tree_of d)) (flat_map g (trees_of ds)))
 
 at_root : (ds : List Decl) (i : ℕ) (d : Decl) → i < length ds → d ≡ get_or ds i d
     → length (roots (map tree_of (drop i ds))) ≡ length (root_names (tree_of d)) + length (roots (map tree_of (drop (i + 1) ds)))

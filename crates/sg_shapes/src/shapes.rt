@@ -132,7 +132,7 @@ impl Rule<Decl, SpecFault> for Lists<'_> {
 
     ghost fault_of = { λ r d. first (list_shape_at r.0.now) (list_names (tree_of d)) };
 
-    #[tactic(auto, using(sg_names::proofs::Loops::or_none))]
+    #[tactic(auto, using(sg_ast::proofs::FirstLaws::or_none))]
     fn fault(&self, alloc: Global, spot: &Decl) -> Result<Option<SpecFault>, NoMemory> {
         match spot {
             Decl::Listed(name) | Decl::Optional(true, name) => list_fault(alloc, self.0, name),
@@ -183,7 +183,7 @@ impl Rule<Decl, SpecFault> for Optionals<'_> {
 
     ghost fault_of = { λ r d. first (optional_shape_at r.0.now) (optional_names (tree_of d)) };
 
-    #[tactic(auto, using(sg_names::proofs::Loops::or_none))]
+    #[tactic(auto, using(sg_ast::proofs::FirstLaws::or_none))]
     fn fault(&self, alloc: Global, spot: &Decl) -> Result<Option<SpecFault>, NoMemory> {
         match spot {
             Decl::Optional(false, name) => optional_fault(alloc, self.0, name),
@@ -236,7 +236,7 @@ impl Rule<Decl, SpecFault> for Roots<'_> {
 
     ghost fault_of = { λ r d. first (root_inherits_at r.0.now) (root_names (tree_of d)) };
 
-    #[tactic(auto, using(sg_names::proofs::Loops::or_none))]
+    #[tactic(auto, using(sg_ast::proofs::FirstLaws::or_none))]
     fn fault(&self, alloc: Global, spot: &Decl) -> Result<Option<SpecFault>, NoMemory> {
         match spot {
             Decl::Root(name) => root_fault(alloc, self.0, name),

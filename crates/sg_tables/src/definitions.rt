@@ -5,6 +5,7 @@ ghost use Rattle.sg_ast.specs.FirstFault.{first};
 ghost use Rattle.sg_ast.specs.declared.decl.Alt.{Alt};
 ghost use Rattle.sg_ast.specs.declared.name.Typed.{Typed};
 ghost use Rattle.sg_names.specs.Heads as head;
+ghost use Rattle.sg_ast.specs.Parts.{op_places_at};
 ghost use Rattle.sg_names.specs.Names as spec;
 
 use crate::heads::Heads;
@@ -151,7 +152,7 @@ fn add_alt_places(places: &mut Vec<Position>, alts: &[Alt]) -> Result<(), NoMemo
 }
 
 fn add_places(places: &mut Vec<Position>, decl: &Decl) -> Result<(), NoMemory>
-    ensures { OnOk result (places.new.items ≡ places.old.items ++ spec.op_places_at (tree_of decl.now)) }
+    ensures { OnOk result (places.new.items ≡ places.old.items ++ op_places_at (tree_of decl.now)) }
 {
     match decl {
         Decl::Operators(_, alts) => add_alt_places(places, alts.as_slice()),
@@ -162,7 +163,7 @@ fn add_places(places: &mut Vec<Position>, decl: &Decl) -> Result<(), NoMemory>
 /// The places of the operators' names.
 #[tactic(auto, using(crate::proofs::Loops::list_more, crate::proofs::Loops::list_all))]
 pub(crate) fn op_places(alloc: Global, decls: &[Decl]) -> Result<Row<Position>, NoMemory>
-    ensures { IfOk result (λ r. r ≡ flat_map spec.op_places_at (trees_of decls.now)) }
+    ensures { IfOk result (λ r. r ≡ flat_map op_places_at (trees_of decls.now)) }
 {
     let mut places = Vec::new(alloc);
     for decl in decls {

@@ -58,10 +58,10 @@ sign-no-letter b h = grind (arith, nat_tests)
 sign-no-digit : (b : ℕ) → is_sign b ≡ true → is_ascii_digit b ≡ false
 sign-no-digit b h = grind (arith, nat_tests)
 
-sign-no-double : (b : ℕ) → is_sign b ≡ true → (b == double_quote) ≡ false
+pub sign-no-double : (b : ℕ) → is_sign b ≡ true → (b == double_quote) ≡ false
 sign-no-double b h = grind (arith, nat_tests)
 
-sign-no-single : (b : ℕ) → is_sign b ≡ true → (b == single_quote) ≡ false
+pub sign-no-single : (b : ℕ) → is_sign b ≡ true → (b == single_quote) ≡ false
 sign-no-single b h = grind (arith, nat_tests)
 
 -- after a letter, a name or nothing

@@ -12,7 +12,7 @@ use Rattle.sg_text.specs.Bytes.{is_sign, is_blank, double_quote, single_quote}
 use Rattle.sg_text.specs.Symbols.{symbol_of, longest_symbol, sized}
 use Rattle.sg_text.specs.Forms.{longest_form, longest_within}
 use Rattle.sg_text.specs.Tokens.{form_at, token_at, longest_at, fault_at, opens_comment, comment_form, comment_end}
-use Rattle.sg_text.proofs.FirstByte.{kind_of-sign}
+use Rattle.sg_text.proofs.FirstByte.{kind_of-sign, sign-no-double, sign-no-single}
 
 -- a symbol with its length as a form with its length
 abbrev as_form : declared.Symbol × ℕ → Kind × ℕ
@@ -44,12 +44,6 @@ longest-symbol a (b ∷ []) sign =
     rw (kind_of-sign a (b ∷ []) sign, kind_of-sign a [] sign) (two (symbol_of (a ∷ b ∷ [])) (symbol_of (a ∷ [])))
 longest-symbol a (b ∷ c ∷ bs) sign =
     rw (beyond-three (length bs) a b c bs sign (omega arith), kind_of-sign a (b ∷ c ∷ []) sign, kind_of-sign a (b ∷ []) sign, kind_of-sign a [] sign) (three (symbol_of (a ∷ b ∷ c ∷ [])) (symbol_of (a ∷ b ∷ [])) (symbol_of (a ∷ [])))
-
-sign-no-double : (b : ℕ) → is_sign b ≡ true → (b == double_quote) ≡ false
-sign-no-double b h = grind (arith, nat_tests)
-
-sign-no-single : (b : ℕ) → is_sign b ≡ true → (b == single_quote) ≡ false
-sign-no-single b h = grind (arith, nat_tests)
 
 symbol-at : (at : ℕ) (bs : List ℕ) (o : Option (declared.Symbol × ℕ)) → fault_at at bs ≡ Byte at → longest_at at bs (option_map as_form o) ≡ option_map_or (λ p. Found (Symbol p.0) p.1) o (Fault (Byte at))
 symbol-at at bs None fault = ap Fault fault

@@ -2,6 +2,7 @@
 use Rattle.std.proofs.Common.{◌≡◌, ℕ, zero, suc, ◌+◌, ◌-◌, ◌<◌, ◌≤◌, ◌^◌, Bool, true, false, cond, List, [], ◌∷◌, ◌++◌, length, get_or, take, drop, refl, sym, arith, Option, Some, None, Result, Ok, Err, subst, append_assoc, length-append}
 use Rattle.std.specs.Prelude.{◌==◌, nat_le, All, AllPairs, ⊤}
 use Rattle.std.proofs.Math.Seq.{drop-append_seam, take-append_seam}
+use Rattle.std.proofs.lemmas.List.{length-take}
 use Rattle.std.proofs.lemmas.List.Sums.{sum_by-append}
 use Rattle.std.proofs.lemmas.List.Elements.{All-cons}
 use Rattle.std.proofs.lemmas.Bool.Decides.{nat_tests}
@@ -23,18 +24,13 @@ record IsFront (kind : Kind) (n : ℕ) (bs : List ℕ) : Type 0 where
   form : kind_of (take n bs) ≡ Some kind
   limits : IsWithinLimits kind (take n bs)
 
-length-take-at-most : (n : ℕ) (bs : List ℕ) → length (take n bs) ≤ n
-length-take-at-most zero bs = omega arith
-length-take-at-most (suc n) [] = omega arith
-length-take-at-most (suc n) (b ∷ bs) = omega (arith, length-take-at-most n bs)
-
 name-front : (at n : ℕ) (bs : List ℕ) (kind : Kind) (m : ℕ) (t : Bool) → nat_le n 64 ≡ t → kind_of (take n bs) ≡ Some Name → cond t (Found Name n) (Fault (LongName at)) ≡ Found kind m → IsFront kind m bs
 name-front at n bs kind m false small form is = absurd (cc)
 name-front at n bs kind m true small form is =
     let same : Name ≡ kind = cc in
     let len : n ≡ m = cc in
     let short : n ≤ 64 = grind (arith, nat_tests) in
-    subst (λ k. IsFront k m bs) same (subst (λ j. IsFront Name j bs) len (record { form = form; limits = omega (arith, length-take-at-most n bs) }))
+    subst (λ k. IsFront k m bs) same (subst (λ j. IsFront Name j bs) len (record { form = form; limits = omega (arith, length-take n bs) }))
 
 number-front : (at n : ℕ) (bs : List ℕ) (v : _) (kind : Kind) (m : ℕ) (t : Bool) → nat_le (value_of (take n bs)) (2 ^ 63 - 1) ≡ t → kind_of (take n bs) ≡ Some (Number v) → cond t (Found (Number v) n) (Fault (LongNumber at)) ≡ Found kind m → IsFront kind m bs
 number-front at n bs v kind m false small form is = absurd (cc)

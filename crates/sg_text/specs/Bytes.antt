@@ -48,8 +48,8 @@ abbrev pub is_name_byte : ℕ → Bool
 is_name_byte b = is_letter b || is_ascii_digit b
 
 -- the bytes that may stand in a string
-abbrev pub is_text_byte : ℕ → Bool
-is_text_byte b = nat_le 32 b && nat_le b 126
+abbrev pub is_string_byte : ℕ → Bool
+is_string_byte b = nat_le 32 b && nat_le b 126
 
 -- the bytes that may stand after a backslash
 abbrev pub is_escape : ℕ → Bool

@@ -5,7 +5,7 @@ use Rattle.std.specs.Option.{option_or}
 use Rattle.std.specs.Char.{is_ascii_digit}
 use Rattle.sg_text.specs.declared.tokens.Kind.{Kind}
 use Rattle.sg_text.specs.declared.tokens.Kind.TheVariants.{Name, Number, Text, Quoted, Symbol}
-use Rattle.sg_text.specs.Bytes.{is_letter, is_name_byte, is_text_byte, is_escape, is_quoted_byte, double_quote, single_quote, backslash}
+use Rattle.sg_text.specs.Bytes.{is_letter, is_name_byte, is_string_byte, is_escape, is_quoted_byte, double_quote, single_quote, backslash}
 use Rattle.sg_text.specs.Symbols.{symbol_of}
 
 -- a letter or `_`, then letters, digits and `_`
@@ -23,7 +23,7 @@ abbrev pub is_string_rest : (escaped : Bool) → List ℕ → Bool
 is_string_rest escaped [] = false
 is_string_rest true (b ∷ bs) = is_escape b && is_string_rest false bs
 is_string_rest false (b ∷ bs) =
-    if b == double_quote then nat_le (length bs) 0 else (is_text_byte b && is_string_rest (b == backslash) bs)
+    if b == double_quote then nat_le (length bs) 0 else (is_string_byte b && is_string_rest (b == backslash) bs)
 
 -- a double quote, bytes from 32 to 126 and escapes, a double quote
 abbrev pub is_string : List ℕ → Bool

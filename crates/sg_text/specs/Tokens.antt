@@ -8,7 +8,7 @@ use Rattle.sg_text.specs.declared.tokens.LexFault.{LexFault}
 use Rattle.sg_text.specs.declared.tokens.LexFault.TheVariants.{Byte, Unclosed, LongNumber, LongName}
 use Rattle.sg_text.specs.declared.forms.Form.{Form}
 use Rattle.sg_text.specs.declared.forms.Form.TheVariants.{Gap, Found, Fault}
-use Rattle.sg_text.specs.Bytes.{is_blank, is_text_byte, is_escape, is_quoted_byte, double_quote, single_quote, backslash, newline, star, slash}
+use Rattle.sg_text.specs.Bytes.{is_blank, is_string_byte, is_escape, is_quoted_byte, double_quote, single_quote, backslash, newline, star, slash}
 use Rattle.sg_text.specs.Forms.{value_of, longest_form}
 
 -- the bytes up to and with the first `*/`
@@ -43,7 +43,7 @@ text_len escaped [] = 0
 text_len true (b ∷ bs) = let rest = text_len false bs in if is_escape b then rest + 2 else 0
 text_len false (b ∷ bs) =
     let rest = text_len (b == backslash) bs in
-    if b == backslash then rest else (if is_text_byte b then rest + 1 else 0)
+    if b == backslash then rest else (if is_string_byte b then rest + 1 else 0)
 
 -- no string begins at the double quote before bs
 abbrev pub string_fault : ℕ → List ℕ → LexFault

@@ -28,8 +28,8 @@ pub fn is_name_byte(byte: u8) -> bool
 
 /// A byte that may stand in a string.
 #[inline]
-pub fn is_text_byte(byte: u8) -> bool
-    ensures { result ≡ spec.is_text_byte byte }
+pub fn is_string_byte(byte: u8) -> bool
+    ensures { result ≡ spec.is_string_byte byte }
 {
     byte >= 32 && byte <= 126
 }

@@ -7,7 +7,7 @@ ghost use Rattle.sg_text.specs.Bytes.{is_name_byte, is_sign};
 ghost use Rattle.sg_text.specs.Forms.{value_of};
 ghost use Rattle.sg_text.specs.Tokens.{comment_end, string_len, text_len, literal_len, quoted_len, opens_comment, form_at};
 
-use crate::bytes::{is_blank, is_escape, is_letter, is_name_byte, is_quoted_byte, is_text_byte};
+use crate::bytes::{is_blank, is_escape, is_letter, is_name_byte, is_quoted_byte, is_string_byte};
 use crate::symbols::longest_symbol;
 use crate::tokens::{Kind, LexFault};
 
@@ -88,7 +88,7 @@ fn text_len(rest: &[u8]) -> usize
             escaped = false;
         } else if *byte == b'\\' {
             escaped = true;
-        } else if is_text_byte(*byte) {
+        } else if is_string_byte(*byte) {
             good += 1;
         } else {
             return good;

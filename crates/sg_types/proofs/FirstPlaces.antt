@@ -13,7 +13,7 @@ use Rattle.std.proofs.lemmas.List.Quantifiers.{position-Some}
 use Rattle.sg_ast.specs.FirstFault.{or_else}
 use Rattle.sg_kinds.specs.Values.{Bytes}
 use Rattle.sg_names.proofs.HeadLaws.{position_push}
-use Rattle.sg_names.proofs.Loops.{or_none}
+use Rattle.sg_ast.proofs.FirstLaws.{or_none}
 use Rattle.sg_names.proofs.SeenLaws.{apart, by_case, same_bytes}
 use Rattle.sg_types.specs.declared.scope.Variable.{Variable}
 use Rattle.sg_types.specs.Scopes.{place_of, place_in, AreFirst}

@@ -1,2 +1,4 @@
 pub mod SeenLaws
 pub mod NotedLaws
+pub mod Order
+pub mod FirstInText

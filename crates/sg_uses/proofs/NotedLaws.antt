@@ -1,5 +1,6 @@
 -- First faults of a walk over joined uses.
 use Rattle.std.proofs.Common.{◌≡◌, ℕ, Bool, true, false, if◌then◌else◌, length, ◌+◌, ◌<◌, ◌≤◌, map, flat_map, drop, get_or, take, append_assoc, append-nil, List, [], ◌∷◌, ◌++◌, Option, Some, None, fold, refl, sym, ap, ◌∙◌}
+use Rattle.std.proofs.Math.Seq.{take-append_seam, take-length}
 use Rattle.std.proofs.lemmas.Grind.{fold-append}
 use Rattle.std.proofs.lemmas.List.{at_drop_more, at_drop_all}
 use Rattle.sg_ast.specs.FirstFault.{or_else, first}
@@ -14,27 +15,18 @@ use Rattle.sg_uses.specs.Noted.{noted, noted_at, nothing_found}
 use Rattle.sg_names.specs.UnknownName.{unknown_at, unknown_name}
 use Rattle.sg_names.specs.TwiceBound.{twice_at, twice_bound}
 use Rattle.sg_names.specs.Arity.{arity_at, arity}
-use Rattle.sg_names.proofs.Loops.{or_none}
+use Rattle.sg_ast.proofs.FirstLaws.{or_else_assoc, or_none}
 
 pub noted_append : (t : Table) (f : Found) (us vs : List Use) → noted t f (us ++ vs) ≡ noted t (noted t f us) vs
 noted_append t f us vs = fold-append (noted_at t) f us vs
-
-take-front : (xs ys : List (List ℕ)) → take (length xs) (xs ++ ys) ≡ xs
-take-front [] [] = refl
-take-front [] (y ∷ ys) = refl
-take-front (x ∷ xs) ys = ap (λ l. x ∷ l) (take-front xs ys)
-
-take-all : (xs : List (List ℕ)) → take (length xs) xs ≡ xs
-take-all [] = refl
-take-all (x ∷ xs) = ap (λ l. x ∷ l) (take-all xs)
 
 -- with one more name, and back
 pub back_from_one : (scope : List (List ℕ)) (n : List ℕ) (count : ℕ) → count ≡ length scope → take count (with_variable scope n) ≡ scope
 back_from_one scope n count e = ap (λ k. take k (with_variable scope n)) e ∙ by (is_visible scope n)
   where
     by : (b : Bool) → take (length scope) (if b then scope else scope ++ n ∷ []) ≡ scope
-    by true = take-all scope
-    by false = take-front scope (n ∷ [])
+    by true = take-length scope
+    by false = take-append_seam scope (n ∷ [])
 
 -- a pattern only puts names behind
 mutual
@@ -61,7 +53,7 @@ mutual
 pub back_from_pattern : (scope : List (List ℕ)) (x : Pattern) (count : ℕ) → count ≡ length scope → take count (pattern_scope scope x) ≡ scope
 back_from_pattern scope x count e =
     let m = more_names scope x in
-    ap (λ k. take k (pattern_scope scope x)) e ∙ ap (take (length scope)) m.1 ∙ take-front scope m.0
+    ap (λ k. take k (pattern_scope scope x)) e ∙ ap (take (length scope)) m.1 ∙ take-append_seam scope m.0
 
 -- loops along lists: one use for each element, several, and several by a view
 pub map_more : {A : Type 0} {total : Found} (t : Table) (f : A → Use) (now next : Found) (xs : List A) (i : ℕ) (x : A) → i < length xs → x ≡ get_or xs i x
@@ -110,14 +102,10 @@ fold_all step f now xs i all so_far =
     sym e ∙ so_far
 
 -- the three slots are the first faults of their rows
-assoc : {X : Type 0} (a b c : Option X) → or_else (or_else a b) c ≡ or_else a (or_else b c)
-assoc None b c = refl
-assoc (Some x) b c = refl
-
 slot : (t : Table) (read : Found → Option SpecFault) (test : Use → Option SpecFault) → ((f : Found) (u : Use) → read (noted_at t f u) ≡ or_else (read f) (test u))
     → (f : Found) (us : List Use) → read (noted t f us) ≡ or_else (read f) (first test us)
 slot t read test steps f [] = sym (or_none (read f))
-slot t read test steps f (u ∷ us) = slot t read test steps (noted_at t f u) us ∙ ap (λ o. or_else o (first test us)) (steps f u) ∙ assoc (read f) (test u) (first test us)
+slot t read test steps f (u ∷ us) = slot t read test steps (noted_at t f u) us ∙ ap (λ o. or_else o (first test us)) (steps f u) ∙ or_else_assoc (read f) (test u) (first test us)
 
 pub unknown_slot : (t : Table) (ds : List Decl) (f : Found) → f ≡ noted t nothing_found (uses t ds) → f.unknown ≡ unknown_name t ds
 unfolding unknown_name

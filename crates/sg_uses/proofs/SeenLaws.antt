@@ -7,7 +7,9 @@ use Rattle.std.specs.Map.{IsKeyTest, AreApart}
 use Rattle.std.specs.Cmp.Lexicographic.{slice_cmp, texts_ties}
 use Rattle.std.specs.Ordering.{nat_cmp}
 use Rattle.std.proofs.lemmas.Cmp.{nat_list_eq_equiv, nat_list_cmp_total, eq_by_cmp_equiv}
-use Rattle.std.proofs.lemmas.List.{take-append-le}
+use Rattle.std.proofs.Math.Bool.{or-false, or_assoc}
+use Rattle.std.proofs.lemmas.Bool.{or_parts, or_from}
+use Rattle.std.proofs.lemmas.List.{length-map, map_push, take-append-le}
 use Rattle.sg_names.specs.Uses.{is_visible}
 use Rattle.sg_uses.specs.Seen.{StandOnce, holds, IsSeen}
 use Rattle.sg_names.proofs.SeenLaws.{apart, by_case, same_bytes}
@@ -22,42 +24,22 @@ changed {A} bs s n b h cs = by_case (bytes_eq bs cs) (holds n cs) b (holds s cs)
     (λ e. subst (λ l. holds n l ≡ b) (same_bytes bs cs e) h.1)
     (λ e. other_keys _ _ _ _ h.3 _ (λ x y. (eq_by_cmp_equiv nat_list_cmp_total).congr cs x.items y.items) (λ k y. sym (texts_ties cs k.items) ∙ apart bs cs k.items e (texts_ties bs k.items ∙ y)))
 
-either : (a b : Bool) → (a || b) ≡ false → (a ≡ false) × (b ≡ false)
-either true b h = cc
-either false b h = (refl, h)
-
-neither : (a b : Bool) → a ≡ false → b ≡ false → (a || b) ≡ false
-neither true b h k = h
-neither false b h k = k
-
 visible_push : (ns : List (List ℕ)) (n m : List ℕ) → is_visible (ns ++ n ∷ []) m ≡ (is_visible ns m || bytes_eq m n)
-visible_push [] n m = last (bytes_eq m n)
-  where
-    last : (b : Bool) → (b || false) ≡ b
-    last true = refl
-    last false = refl
-visible_push (k ∷ ns) n m = ap (λ b. bytes_eq m k || b) (visible_push ns n m) ∙ group (bytes_eq m k) (is_visible ns m) (bytes_eq m n)
-  where
-    group : (a b c : Bool) → (a || (b || c)) ≡ ((a || b) || c)
-    group true b c = refl
-    group false b c = refl
+visible_push [] n m = or-false (bytes_eq m n)
+visible_push (k ∷ ns) n m = ap (λ b. bytes_eq m k || b) (visible_push ns n m) ∙ sym (or_assoc (bytes_eq m k) (is_visible ns m) (bytes_eq m n))
 
 once_push : (ns : List (List ℕ)) (n : List ℕ) → StandOnce ns → is_visible ns n ≡ false → StandOnce (ns ++ n ∷ [])
 once_push [] n h fresh = (refl, tt)
 once_push (m ∷ ms) n h fresh =
-    let f = either (bytes_eq n m) (is_visible ms n) fresh in
-    (visible_push ms n m ∙ neither (is_visible ms m) (bytes_eq m n) h.0 (nat_list_eq_equiv.symm m n ∙ f.0), once_push ms n h.1 f.1)
+    let f = or_parts (bytes_eq n m) (is_visible ms n) fresh in
+    (visible_push ms n m ∙ or_from (is_visible ms m) (bytes_eq m n) h.0 (nat_list_eq_equiv.symm m n ∙ f.0), once_push ms n h.1 f.1)
 
 once_pop : (ns : List (List ℕ)) (n : List ℕ) → StandOnce (ns ++ n ∷ []) → StandOnce ns × (is_visible ns n ≡ false)
 once_pop [] n h = (tt, refl)
 once_pop (m ∷ ms) n h =
-    let f = either (is_visible ms m) (bytes_eq m n) (sym (visible_push ms n m) ∙ h.0) in
+    let f = or_parts (is_visible ms m) (bytes_eq m n) (sym (visible_push ms n m) ∙ h.0) in
     let r = once_pop ms n h.1 in
-    ((f.0, r.0), neither (bytes_eq n m) (is_visible ms n) (nat_list_eq_equiv.symm n m ∙ f.1) r.1)
-
-map_push : {A : Type 0} (vs : List (Vec ℕ A)) (v : Vec ℕ A) → map (λ (x : Vec ℕ A). x.items) (vs ++ v ∷ []) ≡ map (λ (x : Vec ℕ A). x.items) vs ++ v.items ∷ []
-map_push [] v = refl
-map_push (x ∷ vs) v = ap (λ l. x.items ∷ l) (map_push vs v)
+    ((f.0, r.0), or_from (bytes_eq n m) (is_visible ms n) (nat_list_eq_equiv.symm n m ∙ f.1) r.1)
 
 put_in : (a b : Bool) → cond a true b ≡ (b || a)
 put_in true true = refl
@@ -70,7 +52,7 @@ pub seen_push : {A : Type 0} (vs after : List (Vec ℕ A)) (v key : Vec ℕ A) (
     → v.items ≡ n → key.items ≡ n → after ≡ vs ++ v ∷ [] → false ≡ holds old n
     → UpdatesBy (λ x y. slice_cmp nat_cmp x.items y.items) (λ k. slice_cmp nat_cmp key.items k.items) old new true → IsSeen (map (λ (x : Vec ℕ A). x.items) after) new
 seen_push {A} vs after v key old new n is ev ek ea fresh put =
-    let all : map (λ (x : Vec ℕ A). x.items) after ≡ map (λ (x : Vec ℕ A). x.items) vs ++ n ∷ [] = ap (map (λ (x : Vec ℕ A). x.items)) ea ∙ map_push vs v ∙ ap (λ (l : List ℕ). map (λ (x : Vec ℕ A). x.items) vs ++ l ∷ []) ev in
+    let all : map (λ (x : Vec ℕ A). x.items) after ≡ map (λ (x : Vec ℕ A). x.items) vs ++ n ∷ [] = ap (map (λ (x : Vec ℕ A). x.items)) ea ∙ map_push (λ (x : Vec ℕ A). x.items) vs v ∙ ap (λ (l : List ℕ). map (λ (x : Vec ℕ A). x.items) vs ++ l ∷ []) ev in
     let absent : is_visible (map (λ (x : Vec ℕ A). x.items) vs) n ≡ false = sym (is.told n) ∙ sym fresh in
     subst (λ (l : List (List ℕ)). IsSeen l new) (sym all) (record {
       told = λ m. changed key.items old new true put m ∙ ap (λ (l : List ℕ). cond (bytes_eq l m) true (holds old m)) ek ∙ put_in (bytes_eq n m) (holds old m)
@@ -87,7 +69,7 @@ take_out false false h = refl
 pub seen_pop : {A : Type 0} (before after : List (Vec ℕ A)) (v : Vec ℕ A) (old new : BTreeSet (Vec ℕ A)) (n : List ℕ) → IsSeen (map (λ (x : Vec ℕ A). x.items) before) old
     → before ≡ after ++ v ∷ [] → n ≡ v.items → UpdatesBy (λ x y. slice_cmp nat_cmp x.items y.items) (λ k. slice_cmp nat_cmp n k.items) old new false → IsSeen (map (λ (x : Vec ℕ A). x.items) after) new
 seen_pop {A} before after v old new n is eb en taken =
-    let all : map (λ (x : Vec ℕ A). x.items) before ≡ map (λ (x : Vec ℕ A). x.items) after ++ n ∷ [] = ap (map (λ (x : Vec ℕ A). x.items)) eb ∙ map_push after v ∙ ap (λ (l : List ℕ). map (λ (x : Vec ℕ A). x.items) after ++ l ∷ []) (sym en) in
+    let all : map (λ (x : Vec ℕ A). x.items) before ≡ map (λ (x : Vec ℕ A). x.items) after ++ n ∷ [] = ap (map (λ (x : Vec ℕ A). x.items)) eb ∙ map_push (λ (x : Vec ℕ A). x.items) after v ∙ ap (λ (l : List ℕ). map (λ (x : Vec ℕ A). x.items) after ++ l ∷ []) (sym en) in
     let was : IsSeen (map (λ (x : Vec ℕ A). x.items) after ++ n ∷ []) old = subst (λ (l : List (List ℕ)). IsSeen l old) all is in
     let o = once_pop (map (λ (x : Vec ℕ A). x.items) after) n was.once in
     record {
@@ -97,14 +79,10 @@ seen_pop {A} before after v old new n is eb en taken =
       once = o.0;
     }
 
-length_map : {A : Type 0} (vs : List (Vec ℕ A)) → length (map (λ (x : Vec ℕ A). x.items) vs) ≡ length vs
-length_map [] = refl
-length_map (v ∷ vs) = ap (λ n. suc n) (length_map vs)
-
 -- the first names stay
 pub front_kept : {A : Type 0} (before after : List (Vec ℕ A)) (v : Vec ℕ A) (count : ℕ) → before ≡ after ++ v ∷ [] → count ≤ length after
     → take count (map (λ (x : Vec ℕ A). x.items) after) ≡ take count (map (λ (x : Vec ℕ A). x.items) before)
 front_kept {A} before after v count eb few =
-    let l : length (map (λ (x : Vec ℕ A). x.items) after) ≡ length after = length_map after in
+    let l : length (map (λ (x : Vec ℕ A). x.items) after) ≡ length after = length-map after (λ (x : Vec ℕ A). x.items) in
     let h : count ≤ length (map (λ (x : Vec ℕ A). x.items) after) = omega (arith, l, few) in
-    sym (take-append-le count (map (λ (x : Vec ℕ A). x.items) after) (v.items ∷ []) h) ∙ ap (take count) (sym (map_push after v)) ∙ ap (λ (l : List (Vec ℕ A)). take count (map (λ (x : Vec ℕ A). x.items) l)) (sym eb)
+    sym (take-append-le count (map (λ (x : Vec ℕ A). x.items) after) (v.items ∷ []) h) ∙ ap (take count) (sym (map_push (λ (x : Vec ℕ A). x.items) after v)) ∙ ap (λ (l : List (Vec ℕ A)). take count (map (λ (x : Vec ℕ A). x.items) l)) (sym eb)

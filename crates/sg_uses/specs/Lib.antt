@@ -1,3 +1,4 @@
 pub mod Noted
 pub mod SiteView
 pub mod Seen
+pub mod UsePlaces

@@ -20,7 +20,7 @@ pub struct Found {
 
 impl Found {
     /// Notes a name that is not known.
-    #[tactic(auto, using(sg_names::proofs::Loops::or_none))]
+    #[tactic(auto, using(sg_ast::proofs::FirstLaws::or_none))]
     pub(crate) fn note_unknown(
         &mut self,
         alloc: Global,
@@ -36,7 +36,7 @@ impl Found {
     }
 
     /// Notes a name that is bound while it is visible.
-    #[tactic(auto, using(sg_names::proofs::Loops::or_none))]
+    #[tactic(auto, using(sg_ast::proofs::FirstLaws::or_none))]
     pub(crate) fn note_twice(
         &mut self,
         alloc: Global,
@@ -52,7 +52,7 @@ impl Found {
     }
 
     /// Notes a number of parts that is not as declared.
-    #[tactic(auto, using(sg_names::proofs::Loops::or_none))]
+    #[tactic(auto, using(sg_ast::proofs::FirstLaws::or_none))]
     pub(crate) fn note_arity(
         &mut self,
         alloc: Global,

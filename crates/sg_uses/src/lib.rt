@@ -4,6 +4,7 @@
 
 pub mod found;
 mod known;
+pub mod laws;
 mod scope;
 mod walk;
 pub mod walked;

@@ -1,8 +1,8 @@
-use Rattle.sg_ast.proofs.FirstLaws.{or_else-assoc, first-append, first-flat, first-map, first-filter, first-none, none-first, first_of-append}
+use Rattle.sg_ast.proofs.FirstLaws.{or_else_assoc, first-append, first-flat, first-map, first-filter, first-none, none-first, first_of-append}
 use Rattle.sg_ast.proofs.laws.first_faults.Goals as goal
 
 pub returns-clause-before : goal.returns-clause-before
-returns-clause-before g c = or_else-assoc
+returns-clause-before g c = or_else_assoc
 
 pub returns-clause-append : goal.returns-clause-append
 returns-clause-append g c = first-append

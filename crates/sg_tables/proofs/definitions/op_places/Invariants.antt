@@ -1,6 +1,6 @@
 use Rattle.std.proofs.Common.{◌≡◌, ◌++◌, map, flat_map, drop}
 use Rattle.sg_ast.specs.View.{tree_of, trees_of}
-use Rattle.sg_names.specs.Names.{op_places_at}
+use Rattle.sg_ast.specs.Parts.{op_places_at}
 use Rattle.sg_tables.proofs.definitions.op_places.Given as goal
 
 abbrev pub invariant-loop-decl : goal.invariant-loop-decl
