@@ -1,11 +1,11 @@
 -- The places that trees keep rise with the tokens.
-use Rattle.std.proofs.Common.{◌≡◌, ℕ, ◌+◌, ◌≤◌, List, [], ◌∷◌, ◌++◌, length, refl, sym, subst, arith}
+use Rattle.std.proofs.Common.{◌≡◌, ℕ, ◌+◌, ◌≤◌, List, [], ◌∷◌, ◌++◌, length, refl, sym, ap, subst, arith}
 use Rattle.std.specs.Prelude.{flat_map}
 use Rattle.sg_kinds.specs.declared.fault.Position.{Position}
 use Rattle.sg_text.specs.declared.tokens.Token.{Token}
 use Rattle.sg_text.specs.Cut.{cut}
 use Rattle.sg_ast.specs.Declarations.{Decl}
-use Rattle.sg_ast.specs.Spelling.{Mark, Piece, Takes, none, free, kept, spell}
+use Rattle.sg_ast.specs.Spelling.{Mark, Piece, Free, Kept, Takes, none, free, kept, spell}
 use Rattle.sg_ast.specs.Spells.{Spells, EachSpells, marks_from, marked_from, declarations}
 use Rattle.sg_ast.specs.Rising.{kept_places, places_of, RiseFrom, SomeOf, nothing, passed, taken}
 
@@ -74,7 +74,14 @@ some_rise n nothing h = tt
 some_rise {ps} {qs = q ∷ qs} n (passed s) h = sooner_open n (q.token + 1) ps (omega (arith, h.0)) (some_rise (q.token + 1) s h.1)
 some_rise {qs = q ∷ qs} n (taken s) h = (h.0, some_rise (q.token + 1) s h.1)
 
--- a whole list
+-- some of some, and a whole list
+pub some_some : {A : Type 0} {xs ys zs : List A} → SomeOf xs ys → SomeOf ys zs → SomeOf xs zs
+some_some nothing t = nothing
+some_some (passed s) (passed t) = passed (some_some (passed s) t)
+some_some (passed s) (taken t) = passed (some_some s t)
+some_some (taken s) (passed t) = passed (some_some (taken s) t)
+some_some (taken s) (taken t) = taken (some_some s t)
+
 pub whole : {A : Type 0} (xs : List A) → SomeOf xs xs
 whole [] = nothing
 whole (x ∷ xs) = taken (whole xs)
@@ -92,3 +99,23 @@ some_then (taken s) t = taken (some_then s t)
 pub some_of_each : {D A : Type 0} (f g : D → List A) → ((d : D) → SomeOf (f d) (g d)) → (ds : List D) → SomeOf (flat_map f ds) (flat_map g ds)
 some_of_each f g one [] = nothing
 some_of_each f g one (d ∷ ds) = some_then (one d) (some_of_each f g one ds)
+
+-- places among the tokens of two spellings, one behind the other
+kept_append : (ps qs : List Piece) → kept_places (ps ++ qs) ≡ kept_places ps ++ kept_places qs
+kept_append [] qs = refl
+kept_append (Free l ∷ ps) qs = kept_append ps qs
+kept_append (Kept l place ∷ ps) qs = ap (λ qs. place ∷ qs) (kept_append ps qs)
+
+earlier : {A : Type 0} {xs ys : List A} (zs : List A) → SomeOf xs ys → SomeOf xs (ys ++ zs)
+earlier zs nothing = nothing
+earlier zs (passed s) = passed (earlier zs s)
+earlier zs (taken s) = taken (earlier zs s)
+
+pub in_front : (xs : List Position) (ps qs : List Piece) → SomeOf xs (kept_places ps) → SomeOf xs (kept_places (ps ++ qs))
+in_front xs ps qs s = subst (λ (l : List Position). SomeOf xs l) (sym (kept_append ps qs)) (earlier (kept_places qs) s)
+
+pub in_back : (xs : List Position) (ps qs : List Piece) → SomeOf xs (kept_places qs) → SomeOf xs (kept_places (ps ++ qs))
+in_back xs ps qs s = subst (λ (l : List Position). SomeOf xs l) (sym (kept_append ps qs)) (later (kept_places ps) s)
+
+pub in_both : (xs ys : List Position) (ps qs : List Piece) → SomeOf xs (kept_places ps) → SomeOf ys (kept_places qs) → SomeOf (xs ++ ys) (kept_places (ps ++ qs))
+in_both xs ys ps qs s t = subst (λ (l : List Position). SomeOf (xs ++ ys) l) (sym (kept_append ps qs)) (some_then s t)

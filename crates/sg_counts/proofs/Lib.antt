@@ -3,3 +3,4 @@ pub mod Walks
 pub mod Names
 pub mod Clashing
 pub mod SameKeys
+pub mod Order

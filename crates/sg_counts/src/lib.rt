@@ -5,4 +5,5 @@
 mod crowds;
 pub mod definitions;
 pub mod duplicates;
+pub mod laws;
 pub mod limits;

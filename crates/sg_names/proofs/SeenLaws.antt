@@ -1,7 +1,6 @@
 -- Bytes that are equal, and what differs at some bytes alone.
 use Rattle.std.proofs.Common.{◌≡◌, ℕ, Bool, true, false, cond, bytes_eq, List, refl, sym, ◌∙◌}
 use Rattle.std.proofs.lemmas.Cmp.{nat_list_eq_equiv}
-use Rattle.std.proofs.lemmas.Slice.Eq.{bytes_eq-Decides}
 
 pub apart : (bs cs ks : List ℕ) → bytes_eq bs cs ≡ false → bytes_eq bs ks ≡ true → bytes_eq cs ks ≡ false
 apart bs cs ks n y = nat_list_eq_equiv.symm cs ks ∙ sym (nat_list_eq_equiv.congr bs ks cs y) ∙ n
@@ -10,6 +9,3 @@ apart bs cs ks n y = nat_list_eq_equiv.symm cs ks ∙ sym (nat_list_eq_equiv.con
 pub by_case : {A : Type 0} (b : Bool) (x w y : A) → (b ≡ true → x ≡ w) → (b ≡ false → x ≡ y) → x ≡ cond b w y
 by_case true x w y h k = h refl
 by_case false x w y h k = k refl
-
-pub same_bytes : (bs cs : List ℕ) → bytes_eq bs cs ≡ true → bs ≡ cs
-same_bytes bs cs e = (bytes_eq-Decides bs cs).0 e

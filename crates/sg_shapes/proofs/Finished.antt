@@ -2,6 +2,7 @@
 use Rattle.std.proofs.Common.{◌≡◌, ℕ, zero, suc, ◌<◌, ◌≤◌, Bool, true, false, not, ◌&&◌, nat_le, List, [], ◌∷◌, length, get_or, Option, Some, None, MatchOption, slice_get, option_and_then, refl, sym, ap, ◌∙◌, arith}
 use Rattle.std.proofs.lemmas.Bool.{and_from, and_parts, both_ways, le-leb, leb-true, not-false, not-true}
 use Rattle.std.proofs.lemmas.Bool.Decides.{nat_tests}
+use Rattle.std.proofs.lemmas.Option.{slice_get_read}
 use Rattle.sg_kinds.specs.Terms.{Term, nodes_of, height_of}
 use Rattle.sg_kinds.specs.declared.spec.Spec.{Spec}
 use Rattle.sg_kinds.specs.declared.spec.Phylum.{Phylum}
@@ -67,9 +68,7 @@ pub tested : (t : Table) (counts : List (Option ℕ)) (p : ℕ) (x : Phylum) (b 
 tested t counts p x b table is fit = ap not (sym (finished_is (drafted t) p x is) ∙ ap (λ (l : List (Option ℕ)). both_fit t.ops l x) (sym table) ∙ fit)
 
 pub at_place : (phyla : List Phylum) (p : ℕ) (x : Phylum) → p < length phyla → x ≡ get_or phyla p x → slice_get phyla p ≡ Some x
-at_place [] p x h e = absurd (omega (arith, h))
-at_place (y ∷ phyla) zero x h e = ap (λ (z : Phylum). Some z) (sym e)
-at_place (y ∷ phyla) (suc p) x h e = at_place phyla p x (omega (arith, h)) e
+at_place phyla p x h e = slice_get_read phyla (length phyla) p x refl h e
 
 small_made : (o : Option Term) → is_small_made o ≡ true → MatchOption o ⊥ IsSmall
 small_made None e = absurd (cc e)

@@ -4,3 +4,4 @@ pub mod Low
 pub mod Counted
 pub mod Finds
 pub mod Finished
+pub mod Order

@@ -14,7 +14,8 @@ use Rattle.sg_ast.specs.FirstFault.{or_else}
 use Rattle.sg_kinds.specs.Values.{Bytes}
 use Rattle.sg_names.proofs.HeadLaws.{position_push}
 use Rattle.sg_ast.proofs.FirstLaws.{or_none}
-use Rattle.sg_names.proofs.SeenLaws.{apart, by_case, same_bytes}
+use Rattle.sg_kinds.proofs.Elementary.{bytes_is}
+use Rattle.sg_names.proofs.SeenLaws.{apart, by_case}
 use Rattle.sg_types.specs.declared.scope.Variable.{Variable}
 use Rattle.sg_types.specs.Scopes.{place_of, place_in, AreFirst}
 
@@ -33,7 +34,7 @@ other_keys eq test old new h = h
 changed : {A : Type 0} (bs : Bytes) (m n : BTreeMap (Vec ℕ A) ℕ) (w : Option ℕ) → UpdatesBy (λ x y. slice_cmp nat_cmp x.items y.items) (λ k. slice_cmp nat_cmp bs k.items) m n w
     → (cs : Bytes) → place_in n cs ≡ cond (bytes_eq bs cs) w (place_in m cs)
 changed {A} bs m n w h cs = by_case (bytes_eq bs cs) (place_in n cs) w (place_in m cs)
-    (λ e. subst (λ l. place_in n l ≡ w) (same_bytes bs cs e) h.1)
+    (λ e. subst (λ l. place_in n l ≡ w) (bytes_is bs cs e) h.1)
     (λ e. other_keys _ _ _ _ h.3 _ (λ x y. (eq_by_cmp_equiv nat_list_cmp_total).congr cs x.items y.items) (λ k y. sym (texts_ties cs k.items) ∙ apart bs cs k.items e (texts_ties bs k.items ∙ y)))
 
 or_some : (o p : Option ℕ) → is_some o ≡ true → or_else o p ≡ o
@@ -46,7 +47,7 @@ bound_again vs after v places first pushed there n =
     first n ∙ sym (by (bytes_eq n v.name) refl) ∙ sym (place_push vs v n) ∙ ap (λ l. place_of l n) (sym pushed)
   where
     by : (b : Bool) → bytes_eq n v.name ≡ b → or_else (place_of vs n) (cond b (Some (length vs)) None) ≡ place_of vs n
-    by true e = or_some (place_of vs n) (Some (length vs)) (ap is_some (sym (first n) ∙ ap (place_in places) (same_bytes n v.name e)) ∙ there)
+    by true e = or_some (place_of vs n) (Some (length vs)) (ap is_some (sym (first n) ∙ ap (place_in places) (bytes_is n v.name e)) ∙ there)
     by false e = or_none (place_of vs n)
 
 or_last : (o : Option ℕ) (k : ℕ) → is_some o ≡ false → or_else o (Some k) ≡ Some k
@@ -61,7 +62,7 @@ bound_first vs after v key place old new first pushed is there fresh put n =
     ∙ by (bytes_eq n v.name) refl ∙ sym (place_push vs v n) ∙ ap (λ l. place_of l n) (sym pushed)
   where
     by : (b : Bool) → bytes_eq n v.name ≡ b → cond b (Some (length vs)) (place_in old n) ≡ or_else (place_of vs n) (cond b (Some (length vs)) None)
-    by true e = sym (or_last (place_of vs n) (length vs) (ap is_some (sym (first n) ∙ ap (place_in old) (same_bytes n v.name e)) ∙ fresh))
+    by true e = sym (or_last (place_of vs n) (length vs) (ap is_some (sym (first n) ∙ ap (place_in old) (bytes_is n v.name e)) ∙ fresh))
     by false e = first n ∙ sym (or_none (place_of vs n))
 
 -- the last variable is the first of its name, or it is not
@@ -90,7 +91,7 @@ left_first before after v name old new first popped is there taken n =
 
     by : (b : Bool) → bytes_eq n v.name ≡ b → cond b None (place_in old n) ≡ place_of after n
     by true e =
-        let last : place_in old n ≡ Some (length after) = ap (place_in old) (same_bytes n v.name e) ∙ there in
+        let last : place_in old n ≡ Some (length after) = ap (place_in old) (bytes_is n v.name e) ∙ there in
         sym (last_alone after n (ap (λ b. or_else (place_of after n) (cond b (Some (length after)) None)) (sym e) ∙ sym (whole n) ∙ last))
     by false e = whole n ∙ ap (λ b. or_else (place_of after n) (cond b (Some (length after)) None)) e ∙ or_none (place_of after n)
 
@@ -102,7 +103,7 @@ left_again before after v places first popped other n = whole ∙ by (bytes_eq n
     whole = first n ∙ ap (λ l. place_of l n) popped ∙ place_push after v n
 
     by : (b : Bool) → bytes_eq n v.name ≡ b → or_else (place_of after n) (cond b (Some (length after)) None) ≡ place_of after n
-    by true e = not_last (place_of after n) (length after) (λ same. other (ap (place_in places) (sym (same_bytes n v.name e)) ∙ whole ∙ ap (λ b. or_else (place_of after n) (cond b (Some (length after)) None)) e ∙ same))
+    by true e = not_last (place_of after n) (length after) (λ same. other (ap (place_in places) (sym (bytes_is n v.name e)) ∙ whole ∙ ap (λ b. or_else (place_of after n) (cond b (Some (length after)) None)) e ∙ same))
     by false e = or_none (place_of after n)
 
 -- the first variables stay

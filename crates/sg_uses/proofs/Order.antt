@@ -1,5 +1,5 @@
 -- Uses stand in the order of the text.
-use Rattle.std.proofs.Common.{◌≡◌, ℕ, Bool, true, false, List, [], ◌∷◌, ◌++◌, map, Option, Some, None, refl, sym, ap, subst}
+use Rattle.std.proofs.Common.{◌≡◌, ℕ, Bool, true, false, List, [], ◌∷◌, ◌++◌, map, Option, Some, None, sym, subst}
 use Rattle.std.specs.Prelude.{flat_map}
 use Rattle.std.specs.List.{join_by}
 use Rattle.std.proofs.lemmas.Grind.{flat_map-append}
@@ -26,9 +26,9 @@ use Rattle.sg_ast.specs.Expressions as e
 use Rattle.sg_ast.specs.Expressions.{Expr, Exprs, Cases, NoExpr, AndExpr, NoCase, Default, Case}
 use Rattle.sg_ast.specs.Declarations.{Decl, Equation, Right, Root, Listed, Optional, Operators, Attributes, Equations, Schemes, Function, Transform, Productions, Entry}
 use Rattle.sg_ast.specs.Chains.{occurrence_place}
-use Rattle.sg_ast.specs.Spelling.{Piece, Free, Kept, sign, named, comma, bar, spell_name, spell_occurrence, spell_pattern, spell_patterns, spell_more_patterns, spell_expr, spell_exprs, spell_more_exprs, spell_cases, spell_target, spell_equation, spell_alt, spell_attr, spell_local, spell_param, spell_item, spell_scheme, spell_part, spell_right, spell_view}
+use Rattle.sg_ast.specs.Spelling.{Piece, sign, named, comma, bar, spell_name, spell_occurrence, spell_pattern, spell_patterns, spell_more_patterns, spell_expr, spell_exprs, spell_more_exprs, spell_cases, spell_target, spell_equation, spell_alt, spell_attr, spell_local, spell_param, spell_item, spell_scheme, spell_part, spell_right, spell_view}
 use Rattle.sg_ast.specs.Rising.{kept_places, places_of, SomeOf, nothing, passed, taken}
-use Rattle.sg_ast.proofs.RisingLaws.{later, some_then}
+use Rattle.sg_ast.proofs.RisingLaws.{some_then, in_front, in_back, in_both}
 use Rattle.sg_names.specs.declared.table.Table.{Table}
 use Rattle.sg_names.specs.Lookups.{operator_at}
 use Rattle.sg_names.specs.Uses.{Site, InOperator, InProduction, Elsewhere, Use, UsesPhylum, HasOperators, HasAttributes, UsesOperator, UsesSymbol, UsesResult, Refers, UsesVariable, Binds, Calls, Matches, with_variable, pattern_scope, pattern_uses, patterns_uses, expr_uses, exprs_uses, cases_uses, case_uses, local_scope, target_uses, equation_uses, item_uses, scheme_uses, equations_uses, schemes_uses, within, params_scope, params_uses, part_uses, right_uses, decl_uses, uses}
@@ -38,27 +38,16 @@ use Rattle.sg_uses.specs.UsePlaces.{use_places, walked_places}
 abbrev In : List Use → List Piece → Type 0
 In us ps = SomeOf (walked_places us) (kept_places ps)
 
-kept_append : (ps qs : List Piece) → kept_places (ps ++ qs) ≡ kept_places ps ++ kept_places qs
-kept_append [] qs = refl
-kept_append (Free l ∷ ps) qs = kept_append ps qs
-kept_append (Kept l place ∷ ps) qs = ap (λ qs. place ∷ qs) (kept_append ps qs)
-
-ahead : {A : Type 0} {xs ys : List A} (zs : List A) → SomeOf xs ys → SomeOf xs (ys ++ zs)
-ahead zs nothing = nothing
-ahead zs (passed s) = passed (ahead zs s)
-ahead zs (taken s) = taken (ahead zs s)
-
 -- the same tokens with others behind or before them, and two lists one behind the other
 closed : (us : List Use) (ps qs : List Piece) → In us ps → In us (ps ++ qs)
-closed us ps qs s = subst (λ (l : List Position). SomeOf (walked_places us) l) (sym (kept_append ps qs)) (ahead (kept_places qs) s)
+closed us ps qs s = in_front (walked_places us) ps qs s
 
 opened : (us : List Use) (ps qs : List Piece) → In us qs → In us (ps ++ qs)
-opened us ps qs s = subst (λ (l : List Position). SomeOf (walked_places us) l) (sym (kept_append ps qs)) (later (kept_places ps) s)
+opened us ps qs s = in_back (walked_places us) ps qs s
 
 joined : (us vs : List Use) (ps qs : List Piece) → In us ps → In vs qs → In (us ++ vs) (ps ++ qs)
 joined us vs ps qs s t =
-    subst (λ (l : List Position). SomeOf l (kept_places (ps ++ qs))) (sym (flat_map-append use_places us vs))
-    (subst (λ (l : List Position). SomeOf (walked_places us ++ walked_places vs) l) (sym (kept_append ps qs)) (some_then s t))
+    subst (λ (l : List Position). SomeOf l (kept_places (ps ++ qs))) (sym (flat_map-append use_places us vs)) (in_both (walked_places us) (walked_places vs) ps qs s t)
 
 -- each of a list, with nothing between or with separators
 each_in : {X : Type 0} (f : X → List Use) (s : X → List Piece) → ((x : X) → In (f x) (s x)) → (xs : List X) → In (flat_map f xs) (flat_map s xs)

@@ -12,7 +12,8 @@ use Rattle.std.proofs.lemmas.Bool.{or_parts, or_from}
 use Rattle.std.proofs.lemmas.List.{length-map, map_push, take-append-le}
 use Rattle.sg_names.specs.Uses.{is_visible}
 use Rattle.sg_uses.specs.Seen.{StandOnce, holds, IsSeen}
-use Rattle.sg_names.proofs.SeenLaws.{apart, by_case, same_bytes}
+use Rattle.sg_kinds.proofs.Elementary.{bytes_is}
+use Rattle.sg_names.proofs.SeenLaws.{apart, by_case}
 
 other_keys : {K : Type 0} (eq : K → K → Bool) (test : K → Bool) (old new : List K) → KeepsOthers eq test old new → (other : K → Bool) → IsKeyTest eq other → AreApart test other → list_any other new ≡ list_any other old
 unfolding KeepsOthers
@@ -21,7 +22,7 @@ other_keys eq test old new h = h
 pub changed : {A : Type 0} (bs : List ℕ) (s n : BTreeSet (Vec ℕ A)) (b : Bool) → UpdatesBy (λ x y. slice_cmp nat_cmp x.items y.items) (λ k. slice_cmp nat_cmp bs k.items) s n b
     → (cs : List ℕ) → holds n cs ≡ cond (bytes_eq bs cs) b (holds s cs)
 changed {A} bs s n b h cs = by_case (bytes_eq bs cs) (holds n cs) b (holds s cs)
-    (λ e. subst (λ l. holds n l ≡ b) (same_bytes bs cs e) h.1)
+    (λ e. subst (λ l. holds n l ≡ b) (bytes_is bs cs e) h.1)
     (λ e. other_keys _ _ _ _ h.3 _ (λ x y. (eq_by_cmp_equiv nat_list_cmp_total).congr cs x.items y.items) (λ k y. sym (texts_ties cs k.items) ∙ apart bs cs k.items e (texts_ties bs k.items ∙ y)))
 
 visible_push : (ns : List (List ℕ)) (n m : List ℕ) → is_visible (ns ++ n ∷ []) m ≡ (is_visible ns m || bytes_eq m n)
@@ -75,7 +76,7 @@ seen_pop {A} before after v old new n is eb en taken =
     record {
       told = λ m. changed n old new false taken m ∙ ap (λ b. cond (bytes_eq n m) false b) (was.told m ∙ visible_push (map (λ (x : Vec ℕ A). x.items) after) n m)
           ∙ ap (λ b. cond (bytes_eq n m) false (is_visible (map (λ (x : Vec ℕ A). x.items) after) m || b)) (nat_list_eq_equiv.symm m n)
-          ∙ take_out (bytes_eq n m) (is_visible (map (λ (x : Vec ℕ A). x.items) after) m) (λ e. subst (λ (l : List ℕ). is_visible (map (λ (x : Vec ℕ A). x.items) after) l ≡ false) (same_bytes n m e) o.1);
+          ∙ take_out (bytes_eq n m) (is_visible (map (λ (x : Vec ℕ A). x.items) after) m) (λ e. subst (λ (l : List ℕ). is_visible (map (λ (x : Vec ℕ A). x.items) after) l ≡ false) (bytes_is n m e) o.1);
       once = o.0;
     }
 

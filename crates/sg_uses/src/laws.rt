@@ -13,7 +13,6 @@ ghost use Rattle.sg_names.specs.declared.table.Table.{Table};
 ghost use Rattle.sg_uses.specs.UsePlaces.{walked_places, fault_place, IsFirst};
 
 /// The walk meets uses in the order of the text: their places are some of those that the declarations keep.
-#[tactic(auto, using(crate::proofs::Order::uses_in))]
 pub fn uses_follow_the_text()
     ensures { (t : Table) (ds : List Decl) → SomeOf (walked_places (uses t ds)) (flat_map places_of ds) }
 {}
