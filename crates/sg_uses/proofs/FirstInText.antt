@@ -54,9 +54,10 @@ one_place f p q a b = let same : Some p ≡ Some q = sym a ∙ b in cc
 module _ (test : Use → Option SpecFault) (stands : (u : Use) (p : Position) → fault_place (test u) ≡ Some p → Among p (use_places u)) where
   all_later : (k : ℕ) (p : Position) (us : List Use) → p.token ≤ k → RiseFrom k (walked_places us) → IsFirst test us p
   all_later k p [] less h = tt
-  all_later k p (u ∷ us) less h =
-      ((λ q e. let low = front_rises k q (use_places u) (walked_places us) h (stands u q e) in omega (arith, less, low)),
-      all_later k p us less (rest_rises k (use_places u) (walked_places us) h))
+  all_later k p (u ∷ us) less h = (
+    (λ q e. let low = front_rises k q (use_places u) (walked_places us) h (stands u q e) in omega (arith, less, low)),
+    all_later k p us less (rest_rises k (use_places u) (walked_places us) h),
+  )
 
   first_stands : (k : ℕ) (p : Position) (us : List Use) → RiseFrom k (walked_places us) → fault_place (first test us) ≡ Some p → IsFirst test us p
   first_stands k p [] h e = tt
@@ -64,9 +65,10 @@ module _ (test : Use → Option SpecFault) (stands : (u : Use) (p : Position) �
     where
       by : (o : Option SpecFault) → test u ≡ o → fault_place (or_else o (first test us)) ≡ Some p → (fault_place (first test us) ≡ Some p → IsFirst test us p) → IsFirst test (u ∷ us) p
       by (Some f) is e rest =
-          let here : fault_place (test u) ≡ Some p = ap fault_place is ∙ e in
-          ((λ q there. let same : p ≡ q = one_place f p q e (ap fault_place (sym is) ∙ there) in omega (arith, ap (λ (x : Position). x.token) same)),
-          all_later (p.token + 1) p us (omega arith) (behind_rises k p (use_places u) (walked_places us) h (stands u p here)))
+          let here : fault_place (test u) ≡ Some p = ap fault_place is ∙ e in (
+            (λ q there. let same : p ≡ q = one_place f p q e (ap fault_place (sym is) ∙ there) in omega (arith, ap (λ (x : Position). x.token) same)),
+            all_later (p.token + 1) p us (omega arith) (behind_rises k p (use_places u) (walked_places us) h (stands u p here)),
+          )
       by None is e rest = ((λ q there. let never : None ≡ Some q = ap fault_place (sym is) ∙ there in absurd (cc)), rest e)
 
 -- the faults of the rows stand at places of their uses
