@@ -94,3 +94,23 @@ sound-then links start now next f g x y h =
     let last = g x y h in
     let first = f last.0 y last.1 in
     (first.0, first.1, Reaches-then (Linked links) first.0 last.0 x first.2 last.2)
+
+-- what has flowed along some of the links
+pub record Flows (links : List (ℕ × ℕ)) (start now : Table) : Type 0 where
+  pub shape : SameShape start now
+  pub sound : IsSound links start.rows now.rows
+  pub keeps : (x y : ℕ) → Holds start.rows x y → Holds now.rows x y
+  pub fewer : all_missing now.rows ≤ all_missing start.rows
+
+never_more : (now next : Table) (grown : Bool) → OnTrue grown (all_missing next.rows < all_missing now.rows) → OnFalse grown (next ≡ now) → all_missing next.rows ≤ all_missing now.rows
+never_more now next true g s = omega (arith, g)
+never_more now next false g s = let same = ap (λ (t : Table). all_missing t.rows) s in omega (arith, same)
+
+pub flows_more : (links : List (ℕ × ℕ)) (start now next : Table) (n : ℕ) (grown : Bool) → n < length links → Flows links start now → Joins (get_or links n (0, 0)).0 (get_or links n (0, 0)).1 now next
+    → OnTrue grown (all_missing next.rows < all_missing now.rows) → OnFalse grown (next ≡ now) → SameShape now next → Flows links start next
+flows_more links start now next n grown low f joins g s shape = record {
+  shape = SameShape-then start now next f.shape shape;
+  sound = sound-more links start now next n low f.sound joins;
+  keeps = λ x y h. (joins x y).1 (inl (f.keeps x y h));
+  fewer = let one = never_more now next grown g s in let all = f.fewer in omega (arith, one, all);
+}

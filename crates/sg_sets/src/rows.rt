@@ -152,7 +152,9 @@ impl Rows {
         ensures flows { (x y : ℕ) → Holds self.new.rows x y ↔ ((s : ℕ) × Holds self.old.rows s y × Reaches (Linked links.now) s x) }
         ensures shape { SameShape self.old self.new }
     {
-        while self.flow_once(links) {}
+        while self.flow_once(links) {
+            self.flow_back(links);
+        }
     }
 
     /// Takes each link once, and returns whether a row changed.
@@ -171,5 +173,20 @@ impl Rows {
             }
         }
         grown
+    }
+
+    /// Takes each link once, from the last on. Along a chain of links that stand in either order, one of the two ways
+    /// goes from end to end.
+    fn flow_back(&mut self, links: &[(usize, usize)])
+        requires { All (AreRows self.old.rows) links.now }
+        ensures sound { (x y : ℕ) → Holds self.new.rows x y → (s : ℕ) × Holds self.old.rows s y × Reaches (Linked links.now) s x }
+        ensures keeps { (x y : ℕ) → Holds self.old.rows x y → Holds self.new.rows x y }
+        ensures fewer { all_missing self.new.rows ≤ all_missing self.old.rows }
+        ensures shape { SameShape self.old self.new }
+    {
+        for passed in 0..links.len() {
+            let (from, to) = links[links.len() - 1 - passed];
+            self.join_row(from, to);
+        }
     }
 }
