@@ -11,6 +11,7 @@ pub mod Layerings
 pub mod Extensions
 pub mod Positions
 pub mod VisitRows
+pub mod Waiting
 pub mod Owned
 pub mod Proper
 pub mod Timed

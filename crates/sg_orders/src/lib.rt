@@ -23,6 +23,7 @@ mod steps;
 mod timing;
 mod vertices;
 mod visits;
+mod waiting;
 
 pub use fault::OrderFault;
 pub use ordering::order;

@@ -4,9 +4,11 @@ ghost use Rattle.std.specs.Bool.{OnTrue, OnFalse};
 ghost use Rattle.sg_sets.specs.Paths.{Path};
 ghost use Rattle.sg_sets.specs.Rows.{Holds, all_missing};
 ghost use Rattle.sg_orders.specs.Induced.{relation_at};
+ghost use Rattle.sg_orders.specs.Waiting.{AreSettledElse};
 ghost use Rattle.sg_orders.specs.Rounds.{Fits, IsPlaced, IsMet, IsSpread, IsJoined, AreAlike, AreFitting, AreSettled, StaySound};
 
 use crate::frame::{Frame, Spot};
+use crate::waiting::call;
 use sg_kinds::memory::NoMemory;
 use sg_sets::Relation;
 use std::alloc::Global;
@@ -25,29 +27,60 @@ pub fn saturate(
     ensures keeps { OnOk result ((p m n : ℕ) → Holds (relation_at operators.old p) m n → Holds (relation_at operators.new p) m n) }
     ensures settled { OnOk result (AreSettled frames.now operators.new phyla.new) }
 {
-    while round(alloc, frames, operators, phyla)? {}
+    let mut waiting = vec![in alloc; true; frames.len()]?;
+    exhaust(alloc, frames, operators, phyla, waiting.as_mut_slice())
+}
+
+/// Settles the operators that wait, and those that wait then, until none does.
+fn exhaust(
+    alloc: Global,
+    frames: &[Frame],
+    operators: &mut [Relation],
+    phyla: &mut [Relation],
+    waiting: &mut [bool],
+) -> Result<(), NoMemory>
+    requires fit { AreFitting frames.now operators.old phyla.old }
+    requires flags { length waiting.old ≡ length frames.now }
+    requires others { AreSettledElse frames.now waiting.old operators.old phyla.old }
+    ensures operators { OnOk result (AreAlike operators.old operators.new) }
+    ensures phyla { OnOk result (AreAlike phyla.old phyla.new) }
+    ensures sound { OnOk result (StaySound frames.now operators.old phyla.old operators.new phyla.new) }
+    ensures keeps { OnOk result ((p m n : ℕ) → Holds (relation_at operators.old p) m n → Holds (relation_at operators.new p) m n) }
+    ensures settled { OnOk result (AreSettled frames.now operators.new phyla.new) }
+{
+    while round(alloc, frames, operators, phyla, waiting)? {}
     Ok(())
 }
 
-/// Settles each operator once, and returns whether a phylum gained a pair.
+/// Settles each operator that waits, and returns whether a phylum gained a pair. Then those that have the phylum wait.
 fn round(
     alloc: Global,
     frames: &[Frame],
     operators: &mut [Relation],
     phyla: &mut [Relation],
+    waiting: &mut [bool],
 ) -> Result<bool, NoMemory>
-    requires { AreFitting frames.now operators.old phyla.old }
+    requires fit { AreFitting frames.now operators.old phyla.old }
+    requires flags { length waiting.old ≡ length frames.now }
+    requires others { AreSettledElse frames.now waiting.old operators.old phyla.old }
     ensures operators { OnOk result (AreAlike operators.old operators.new) }
     ensures phyla { OnOk result (AreAlike phyla.old phyla.new) }
     ensures sound { OnOk result (StaySound frames.now operators.old phyla.old operators.new phyla.new) }
     ensures keeps { OnOk result ((p m n : ℕ) → Holds (relation_at operators.old p) m n → Holds (relation_at operators.new p) m n) }
     ensures fewer { IfOk result (λ gained. sum_by all_missing phyla.new + (if gained then 1 else 0) ≤ sum_by all_missing phyla.old) }
+    ensures flags { OnOk result (length waiting.new ≡ length frames.now) }
+    ensures others { OnOk result (AreSettledElse frames.now waiting.new operators.new phyla.new) }
     ensures settled { IfOk result (λ gained. OnFalse gained (AreSettled frames.now operators.new phyla.new)) }
 {
     let mut gained = false;
     for (p, frame) in frames.iter().enumerate() {
-        if settle(alloc, frame.spots.as_slice(), &mut operators[p], phyla)? {
-            gained = true;
+        if waiting[p] {
+            if settle(alloc, frame.spots.as_slice(), &mut operators[p], phyla)? {
+                gained = true;
+                call(frames, frame.spots.as_slice(), waiting);
+            } else {
+                waiting[p] = false;
+            }
         }
     }
     Ok(gained)

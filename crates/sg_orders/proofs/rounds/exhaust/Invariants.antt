@@ -1,15 +1,18 @@
-use Rattle.std.proofs.Common.{ℕ}
+use Rattle.std.proofs.Common.{◌≡◌, ℕ, length}
 use Rattle.std.specs.Prelude.{sum_by}
 use Rattle.sg_sets.specs.Rows.{Holds, all_missing}
 use Rattle.sg_orders.specs.Induced.{relation_at}
 use Rattle.sg_orders.specs.Rounds.{AreAlike, StaySound}
-use Rattle.sg_orders.proofs.rounds.saturate.Given as goal
+use Rattle.sg_orders.specs.Waiting.{AreSettledElse}
+use Rattle.sg_orders.proofs.rounds.exhaust.Given as goal
 
 abbrev pub invariant-loop : goal.invariant-loop
 invariant-loop l = record {
   operators : AreAlike l.fn.operators l.operators;
   phyla : AreAlike l.fn.phyla l.phyla;
   sound : StaySound l.frames l.fn.operators l.fn.phyla l.operators l.phyla;
+  flags : length l.waiting ≡ length l.frames;
+  others : AreSettledElse l.frames l.waiting l.operators l.phyla;
   keeps : (p m n : ℕ) → Holds (relation_at l.fn.operators p) m n → Holds (relation_at l.operators p) m n;
 }
 
