@@ -8,12 +8,14 @@ pub mod MoveLemmas
 pub mod KernelLemmas
 pub mod StartLemmas
 pub mod PartLemmas
+pub mod SpreadLemmas
 pub mod CoreLemmas
 pub mod StateLemmas
 pub mod FirstLemmas
 pub mod LayoutLemmas
 pub mod LinkLemmas
 pub mod LookLemmas
+pub mod PlaceLemmas
 pub mod ClashLemmas
 pub mod ConflictLemmas
 pub mod TableLemmas

@@ -10,8 +10,19 @@ use Rattle.sg_lalr.specs.Closure.{IsKernel, IsClosure}
 abbrev pub row_at : List (List Item) → ℕ → List Item
 row_at rows s = slice_index_or rows s []
 
+-- each symbol's row has the items that have their dot before it, with their dots behind it
+abbrev pub IsSpread : Grammar → List Item → List (List Item) → Type 0
+IsSpread g items rows = (length rows ≡ g.symbols) × ((X : ℕ) → X < g.symbols → row_at rows X ≡ advance g X items)
+
 abbrev pub moves_at : List (List Move) → ℕ → List Move
 moves_at moves s = slice_index_or moves s []
+
+abbrev pub move_at : List Move → ℕ → Move
+move_at row k = slice_index_or row k (record { symbol = 0; target = 0 })
+
+-- moves by their symbols
+abbrev pub IsSorted : List Move → Type 0
+IsSorted moves = AllPairs (λ (m n : Move). m.symbol < n.symbol) moves
 
 -- where a move on the symbol leads
 abbrev pub target_of : List Move → ℕ → ℕ
@@ -66,6 +77,7 @@ pub record IsPart (g : Grammar) (kernels cores : List (List Item)) (moves : List
   pub distinct : AllPairs ◌≢◌ kernels
   pub rising : AllPairs Earlier origins
   pub earliest : (s X k : ℕ) → s < length moves → HasNext g (row_at cores s) X → goto moves s X ≡ suc k → NotLater (origin_at origins k) (origin s X)
+  pub sorted : (s : ℕ) → s < length moves → IsSorted (moves_at moves s)
 
 -- the kernels with one more
 abbrev pub Entered : List (List Item) → List (List Item) → List Origin → List Origin → List Item → Origin → ℕ → Type 0

@@ -11,8 +11,10 @@ mod least_set;
 mod lookaheads;
 mod making;
 mod moves;
+mod places;
 mod productive;
 mod search;
+mod spread;
 mod states;
 mod table;
 

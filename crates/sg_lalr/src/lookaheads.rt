@@ -4,9 +4,9 @@ ghost use Rattle.sg_sets.specs.Members.{Has};
 ghost use Rattle.sg_sets.specs.Paths.{Linked};
 ghost use Rattle.sg_sets.specs.Rows.{Holds, SameShape};
 ghost use Rattle.sg_lalr.specs.Closure.{InRange};
-ghost use Rattle.sg_lalr.specs.Items.{Item, symbol_of};
+ghost use Rattle.sg_lalr.specs.Items.{Item, Before, symbol_of};
 ghost use Rattle.sg_grammar.specs.Derives.{AllProductive};
-ghost use Rattle.sg_lalr.specs.Automaton.{target_of, goto, IsWhole};
+ghost use Rattle.sg_lalr.specs.Automaton.{moves_at, goto, IsSorted, IsWhole};
 ghost use Rattle.sg_lalr.specs.Least.{Grown};
 ghost use Rattle.sg_lalr.specs.Firsts.{First, IsNullable};
 ghost use Rattle.sg_lalr.specs.Lookaheads.{node_at, rest_of, BeginsWith, IsStart, IsLaid, OpensTo, FlowsTo, Gives, AreLookaheads};
@@ -16,6 +16,7 @@ use crate::items::Item;
 use crate::layout::{Layout, lay};
 use crate::least_set::{has_all, least_set};
 use crate::moves::symbol_of;
+use crate::places::{place_of, target_of};
 use crate::states::{Automaton, Move};
 use sg_grammar::Grammar;
 use sg_kinds::row::Row;
@@ -59,7 +60,7 @@ fn is_start(g: &Grammar, node: Node) -> bool
     node.state == 0 && node.item.dot == 0 && g.rules().len() <= node.item.production as usize
 }
 
-/// Links a node to those of an item between two places.
+/// Links a node to that of an item between two places, where the items rise.
 fn link_item(
     nodes: &[Node],
     from: usize,
@@ -70,12 +71,12 @@ fn link_item(
 ) -> Result<(), AllocError>
     requires order { from ≤ to }
     requires to { to ≤ length nodes.now }
+    requires rising { (m n : ℕ) → from ≤ m → m < n → n < to → Before (node_at nodes.now m).item (node_at nodes.now n).item }
     ensures { OnOk result ((x y : ℕ) → Linked links.new.items x y ↔ (Linked links.old.items x y ⊎ ((x ≡ a) × (from ≤ y) × (y < to) × ((node_at nodes.now y).item ≡ item)))) }
 {
-    for b in from..to {
-        if nodes[b].item == item {
-            links.push((a, b))?;
-        }
+    let b = place_of(nodes, from, to, item);
+    if b < to && nodes[b].item == item {
+        links.push((a, b))?;
     }
     Ok(())
 }
@@ -147,18 +148,6 @@ pub(crate) struct Lookaheads {
     pub(crate) rows: Rows,
 }
 
-/// Where a move on the symbol leads.
-fn target_of(row: &[Move], x: u32) -> u32
-    ensures { result ≡ target_of row.now x }
-{
-    for step in row {
-        if step.symbol == x {
-            return step.target;
-        }
-    }
-    0
-}
-
 /// Gives the beginnings of the productions of a node's symbol their lookaheads.
 fn open_node(
     alloc: Global,
@@ -197,7 +186,8 @@ fn open_node(
 
 /// Where the moves of a state lead on a symbol.
 pub(crate) fn goto_of(moves: &[Row<Move>], state: u32, x: u32) -> u32
-    requires { state < length moves.now }
+    requires there { state < length moves.now }
+    requires sorted { IsSorted (moves_at moves.now state) }
     ensures { result ≡ goto moves.now state x }
 {
     target_of(moves[state as usize].as_slice(), x)

@@ -44,38 +44,3 @@ pub(crate) fn next_symbol(g: &Grammar, items: &[Item], bound: u32) -> u32
     }
     best
 }
-
-/// Puts an item with its dot behind the symbol after the others, where its dot is before it.
-fn push_moved(g: &Grammar, x: u32, item: Item, kernel: &mut Vec<Item>) -> Result<(), AllocError>
-    requires { InRange g.now item }
-    ensures { OnOk result (kernel.new.items ≡ kernel.old.items ++ advance g.now x (item ∷ [])) }
-{
-    match symbol_of(g, item) {
-        Some(y) if y == x => {
-            let moved = Item {
-                production: item.production,
-                dot: item.dot + 1,
-            };
-            kernel.push(moved)?;
-            Ok(())
-        }
-        _ => Ok(()),
-    }
-}
-
-/// The items that have their dot before a symbol, with their dots behind it.
-pub(crate) fn advance(
-    alloc: Global,
-    g: &Grammar,
-    x: u32,
-    items: &[Item],
-) -> Result<Vec<Item>, AllocError>
-    requires { All (InRange g.now) items.now }
-    ensures { IfOk result (λ v. v.items ≡ advance g.now x items.now) }
-{
-    let mut kernel = Vec::new(alloc);
-    for item in items {
-        push_moved(g, x, *item, &mut kernel)?;
-    }
-    Ok(kernel)
-}

@@ -7,7 +7,7 @@ ghost use Rattle.sg_lalr.specs.Automaton.{row_at, start_items, Entered, IsPart, 
 
 use crate::closure::{closure, corners};
 use crate::items::Item;
-use crate::moves::{advance, next_symbol};
+use crate::spread::{next_filled, spread};
 use indexmap::IndexSet;
 use sg_grammar::Grammar;
 use sg_kinds::row::Row;
@@ -61,24 +61,25 @@ fn add(kernels: &mut IndexSet<Vec<Item>>, kernel: Vec<Item>) -> Result<(), Alloc
 
 /// The number of the state with a kernel, which is new where none has it, or None where there are too many.
 fn enter(
+    alloc: Global,
     kernels: &mut IndexSet<Vec<Item>>,
     origins: &mut Vec<Origin>,
-    kernel: Vec<Item>,
+    kernel: &[Item],
     origin: Origin,
 ) -> Result<Option<u32>, AllocError>
     requires { length kernels.old.keys ≤ MOST_STATES }
     ensures few { OnOk result (length kernels.new.keys ≤ MOST_STATES) }
-    ensures entered { IfOk result (λ found. IfSome found (Entered (map (λ k. k.items) kernels.old.keys) (map (λ k. k.items) kernels.new.keys) origins.old.items origins.new.items kernel.items origin)) }
-    ensures full { IfOk result (λ found. IfNone found ((length kernels.old.keys ≡ MOST_STATES) × (Contains (map (λ k. k.items) kernels.old.keys) kernel.items → ⊥))) }
+    ensures entered { IfOk result (λ found. IfSome found (Entered (map (λ k. k.items) kernels.old.keys) (map (λ k. k.items) kernels.new.keys) origins.old.items origins.new.items kernel.now origin)) }
+    ensures full { IfOk result (λ found. IfNone found ((length kernels.old.keys ≡ MOST_STATES) × (Contains (map (λ k. k.items) kernels.old.keys) kernel.now → ⊥))) }
 {
-    if let Some(known) = find(kernels, kernel.as_slice()) {
+    if let Some(known) = find(kernels, kernel) {
         return Ok(Some(known as u32));
     }
     let number = kernels.len();
     if number == MOST_STATES {
         return Ok(None);
     }
-    add(kernels, kernel)?;
+    add(kernels, Vec::from_slice(alloc, kernel)?)?;
     origins.push(origin)?;
     Ok(Some(number as u32))
 }
@@ -102,19 +103,21 @@ impl Automaton {
         g.sound();
         let state = self.cores.len();
         let core = self.core_of(alloc, g, corners, state)?;
+        let kernels = spread(alloc, g, &core)?;
         let mut row = Vec::new(alloc);
-        let mut x = next_symbol(g, &core, 0);
+        let mut x = next_filled(g, &kernels, 0);
         'symbols: while x < g.symbols() {
-            let kernel = advance(alloc, g, x, &core)?;
+            let kernel = kernels[x as usize].as_slice();
             let origin = Origin {
                 state: state as u32,
                 symbol: x,
             };
-            let Some(target) = enter(&mut self.kernels, &mut self.origins, kernel, origin)? else {
+            let Some(target) = enter(alloc, &mut self.kernels, &mut self.origins, kernel, origin)?
+            else {
                 return Ok(false);
             };
             row.push(Move { symbol: x, target })?;
-            x = next_symbol(g, &core, x + 1);
+            x = next_filled(g, &kernels, x + 1);
         }
         self.cores.push(Row::new(core))?;
         self.moves.push(Row::new(row))?;

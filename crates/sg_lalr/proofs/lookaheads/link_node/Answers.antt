@@ -3,11 +3,12 @@ use Rattle.std.specs.Prelude.{slice_index}
 use Rattle.std.proofs.lemmas.List.{get_or_read}
 use Rattle.sg_lalr.specs.declared.lookaheads.Node.{Node}
 use Rattle.sg_lalr.specs.declared.states.Move.{Move}
-use Rattle.sg_lalr.specs.Items.{Item, item, symbol_of, moved}
+use Rattle.sg_lalr.specs.Items.{Item, item, Before, symbol_of, moved}
 use Rattle.sg_lalr.specs.Closure.{InRange}
 use Rattle.sg_lalr.specs.Automaton.{goto}
 use Rattle.sg_lalr.specs.Lookaheads.{node, node_at}
 use Rattle.sg_lalr.proofs.LinkLemmas.{RangedTo, ranged-as}
+use Rattle.sg_lalr.proofs.PlaceLemmas.{nodes-rise}
 use Rattle.sg_lalr.proofs.LookLemmas.{node-range, node-target, flows-open, flows-shut, gives-shut}
 use Rattle.sg_lalr.proofs.lookaheads.link_node.Goals as goal
 
@@ -88,6 +89,32 @@ index-requires-2 c =
     let count = laid.count in
     let long = c.args.layout.now.firsts.ok.0 in
     omega (arith, low, v-is, count, long)
+
+pub link_item-requires-clause-rising : goal.link_item-requires-clause-rising
+link_item-requires-clause-rising c =
+    let g = c.args.g.now in
+    let nodes : List Node = c.args.layout.now.nodes.items in
+    let firsts : List ℕ = c.args.layout.now.firsts.items in
+    let moves : List (List Move) = c.args.automaton.now.moves.items in
+    let kernels = map (λ k. k.items) c.args.automaton.now.kernels.keys in
+    let cores : List (List Item) = c.args.automaton.now.cores.items in
+    let origins = c.args.automaton.now.origins.items in
+    let a = c.args.a in
+    let there = c.requires.there in
+    let laid = c.requires.laid in
+    let whole = c.requires.whole in
+    let is : c.index-node.result.now ≡ node_at nodes a = get_or_read nodes a c.index-node.result.now there c.index-node.ensures (node 0 (item 0 0)) in
+    let x = c.in-Some.x in
+    let symbol : symbol_of g (node_at nodes a).item ≡ Some x = ap (λ (n : Node). symbol_of g n.item) (sym is) ∙ (sym c.symbol_of.ensures.symbol ∙ c.in-Some.is) in
+    let v = goto moves (node_at nodes a).state x in
+    let low : v < length cores = node-target g kernels cores moves origins whole nodes firsts laid a x there symbol in
+    let v-is : c.goto_of-to.result ≡ v = c.goto_of-to.ensures ∙ ap (λ ms. goto ms c.index-node.result.now.state x) c.deref.ensures.value ∙ ap (λ (n : Node). goto moves n.state x) is in
+    let count = laid.count in
+    let long = c.args.layout.now.firsts.ok.0 in
+    let from : c.index.result.now ≡ slice_index firsts v = get_or_read firsts c.goto_of-to.result c.index.result.now (omega (arith, low, count, v-is)) c.index.ensures 0 ∙ ap (slice_index firsts) v-is in
+    let next : c.goto_of-to.result + 1 ≡ suc v = omega (arith, v-is) in
+    let to : c.index-2.result.now ≡ slice_index firsts (suc v) = get_or_read firsts (c.goto_of-to.result + 1) c.index-2.result.now (omega (arith, low, count, next)) c.index-2.ensures 0 ∙ ap (slice_index firsts) next in
+    λ m n l k h. subst (λ (ns : List Node). Before (node_at ns m).item (node_at ns n).item) (sym c.deref-2.ensures.value) (nodes-rise g kernels cores moves origins whole nodes firsts laid v m n low (omega (arith, l, from)) k (omega (arith, h, to)))
 
 pub link_item-requires-clause-order : goal.link_item-requires-clause-order
 link_item-requires-clause-order c =
