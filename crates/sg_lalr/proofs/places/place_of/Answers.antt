@@ -1,5 +1,5 @@
 use Rattle.std.proofs.Common.{◌+◌, ◌-◌, ◌/◌, arith}
-use Rattle.sg_lalr.proofs.PlaceLemmas.{NodeBefore, node-falls, node-only, halved-all, halved-up, halved-down}
+use Rattle.sg_lalr.proofs.PlaceLemmas.{NodeBefore, node-falls, node-only, halved-up}
 use Rattle.sg_lalr.proofs.places.place_of.Goals as goal
 
 pub returns-clause-only : goal.returns-clause-only

@@ -1,5 +1,5 @@
 use Rattle.std.proofs.Common.{arith}
-use Rattle.sg_lalr.proofs.PlaceLemmas.{MoveBefore, move-falls, move-only, halved-all, halved-up, halved-down}
+use Rattle.sg_lalr.proofs.PlaceLemmas.{move-only}
 use Rattle.sg_lalr.proofs.places.place_of_move.Goals as goal
 
 pub returns : goal.returns

@@ -1,4 +1,4 @@
-use Rattle.std.proofs.Common.{◌≡◌, sym, ap, ◌∙◌, arith}
+use Rattle.std.proofs.Common.{◌≡◌, sym, ap, arith}
 use Rattle.sg_lalr.specs.Automaton.{move_at}
 use Rattle.sg_lalr.proofs.PlaceLemmas.{target-at, target-none}
 use Rattle.sg_lalr.proofs.places.target_of.Goals as goal

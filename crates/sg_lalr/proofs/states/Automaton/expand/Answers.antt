@@ -1,7 +1,6 @@
-use Rattle.std.proofs.Common.{◌≡◌, ◌+◌, ◌<◌, ◌∙◌, ◌++◌, ◌∷◌, [], sym, ap, subst, map, length, arith, inl, inr}
+use Rattle.std.proofs.Common.{◌≡◌, ◌+◌, ◌<◌, ◌∙◌, ◌++◌, ◌∷◌, [], sym, ap, subst, map, length, arith}
 use Rattle.std.proofs.lemmas.List.{length-map, get_or-map}
-use Rattle.std.proofs.lemmas.Bool.{cases_lt}
-use Rattle.sg_lalr.specs.Items.{HasNext, advance}
+use Rattle.sg_lalr.specs.Items.{advance}
 use Rattle.sg_lalr.specs.Automaton.{IsSpread}
 use Rattle.sg_lalr.proofs.MoveLemmas.{next-within}
 use Rattle.sg_lalr.proofs.SpreadLemmas.{spread-next, spread-least}
