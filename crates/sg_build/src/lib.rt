@@ -1,0 +1,4 @@
+//! Terms into a forest and out of it, and their counts.
+#![tactic(auto)]
+
+pub mod laws;
