@@ -1,9 +1,9 @@
 -- How many nodes a term has, and how deep it is, with another subterm in a place.
-use Rattle.std.specs.Prelude.{◌≡◌, refl, ℕ, zero, suc, ◌+◌, ◌≤◌, max, List, [], ◌∷◌, length, Option, Some, None, slice_get, option_and_then}
-use Rattle.std.proofs.Common.{sym, ap, ◌∙◌, subst, arith}
+use Rattle.std.specs.Prelude.{◌≡◌, refl, ℕ, zero, suc, ◌+◌, ◌<◌, ◌≤◌, max, List, [], ◌∷◌, length, Option, Some, None, slice_get, option_and_then}
+use Rattle.std.proofs.Common.{ap, arith, get_or}
 use Rattle.std.proofs.lemmas.Option.{none-some, same_Some}
 use Rattle.sg_kinds.specs.Evaluation.{untyped}
-use Rattle.sg_kinds.specs.Terms.{Term, Terms, Leaf, Node, NoTerm, AndTerm, terms_of, nodes_of, nodes_of_all, height_of, height_of_all}
+use Rattle.sg_kinds.specs.Terms.{Term, Terms, Leaf, Node, NoTerm, AndTerm, terms_of, kids_of, nodes_of, nodes_of_all, height_of, height_of_all}
 use Rattle.sg_kinds.specs.Places.{Place, child, sub, put, with_child, with_kid}
 use Rattle.sg_build.specs.Rest.{rest_height}
 
@@ -46,10 +46,16 @@ height_put t (k ∷ u) x s at = by (sub t u) refl at (height_put t u)
   where
     by : (o : Option Term) → sub t u ≡ o → option_and_then (child k) o ≡ Some x → ((x s : Term) → sub t u ≡ Some x → height_of (put t u s) ≡ max (rest_height t u) (length u + height_of s))
         → height_of (elim o as (λ _. Term) [ None ↦ t | Some n ↦ put t u (with_child n k s) ])
-          ≡ max (height_of (elim o as (λ _. Term) [ None ↦ t | Some n ↦ put t u (with_child n k (Leaf 0 untyped)) ])) (suc (length u) + height_of s)
+        ≡ max (height_of (elim o as (λ _. Term) [ None ↦ t | Some n ↦ put t u (with_child n k (Leaf 0 untyped)) ])) (suc (length u) + height_of s)
     by None is got again = absurd (none-some x got)
     by (Some n) is got again =
         let one = again n (with_child n k s) is in
         let two = again n (with_child n k (Leaf 0 untyped)) is in
         let here = height-with_child n k x s (Leaf 0 untyped) got (some_height s) in
         omega (arith, one, two, here)
+
+-- a child is no deeper than the deepest
+pub height_at : (ts : List Term) (i : ℕ) (d : Term) → i < length ts → height_of (get_or ts i d) ≤ height_of_all (kids_of ts)
+height_at [] i d low = absurd (omega (arith, low))
+height_at (t ∷ ts) zero d low = omega arith
+height_at (t ∷ ts) (suc i) d low = let rest = height_at ts i d (omega (arith, low)) in omega (arith, rest)
