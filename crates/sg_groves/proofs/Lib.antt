@@ -8,3 +8,4 @@ pub mod Lists
 pub mod PlacesOnce
 pub mod InstancesOnce
 pub mod EvaluatedOnce
+pub mod Worked
