@@ -4,6 +4,7 @@ pub mod Settled
 pub mod Converted
 pub mod Forms
 pub mod Kept
+pub mod MadeLater
 pub mod Matched
 pub mod Clipped
 pub mod TypeFacts

@@ -1,4 +1,5 @@
 pub mod Applied
 pub mod Journal
 pub mod Lives
+pub mod MadeTerms
 pub mod Typed

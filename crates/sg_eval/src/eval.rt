@@ -7,18 +7,20 @@ ghost use Rattle.sg_kinds.specs.ExprView.{expr_of, exprs_of, cases_of};
 ghost use Rattle.sg_kinds.specs.Expressions.{Single, Binary, Logical, Cons, Choice, Apply, Call, Let, With};
 ghost use Rattle.sg_kinds.specs.Evaluation.{Gives, untyped, value_within, step as step_of, limited, made_value, row_reached, first_case};
 ghost use Rattle.sg_eval.specs.Lives.{value_in, AreKnown, bindings, bound_in, IsUsable, IsReached, AreReached, IsHalted, needs_second as needs_second_of};
+ghost use Rattle.sg_eval.specs.MadeTerms.{AreMade};
 
 use crate::live::{Live, Stop};
+use crate::made::MadeTerms;
 use crate::operators::{applied, combined};
 use crate::patterns::matches;
 use crate::texts::text;
-use crate::trees::{made, put, read, tree};
+use crate::trees::{read, tree, value_of_made};
 use sg_kinds::expr::{CaseList, ExprList, ExprTree};
 use sg_kinds::ids::{OpId, PhylumId, ValueId};
 use sg_kinds::marks::{Connective, FaultKind, Made, Sign, Unary};
 use sg_kinds::pattern::Literal;
-use sg_pool::pool::Pool;
 use sg_kinds::spec::Spec;
+use sg_pool::pool::Pool;
 use std::alloc::Global;
 
 /// What does not change while an expression or a function's body is evaluated. The first bindings are the arguments.
@@ -38,11 +40,16 @@ pub fn enter(
     room: u32,
     fuel: &mut u32,
     pool: &mut Pool,
+    made: &mut MadeTerms,
 ) -> Result<Live, Stop>
-    requires { AreKnown (length pool.old) (bindings scope.now.args.now env.old.items) }
-    ensures value { (last : List Value) → IsGrown pool.new last → IsReached last result fuel.new (value_within scope.now.spec.now room (expr_of e.now) (bound_in last scope.now.args.now env.old.items) fuel.old) }
+    requires known { AreKnown (length pool.old) (bindings scope.now.args.now env.old.items) }
+    requires made { AreMade scope.now.spec.now made.old pool.old }
+    ensures value { (last : List Value) → IsGrown pool.new last →
+        IsReached last result fuel.new (value_within scope.now.spec.now room (expr_of e.now)
+        (bound_in last scope.now.args.now env.old.items) fuel.old) }
     ensures env { OnOk result (env.new.items ≡ env.old.items) }
     ensures grown { IsGrown pool.old pool.new }
+    ensures made { AreMade scope.now.spec.now made.new pool.new }
 {
     if *fuel == 0 {
         return Err(Stop::Fault(FaultKind::Fuel));
@@ -51,7 +58,7 @@ pub fn enter(
         return Err(Stop::Fault(FaultKind::Depth));
     }
     *fuel -= 1;
-    step(scope, e, env, room - 1, fuel, pool)
+    step(scope, e, env, room - 1, fuel, pool, made)
 }
 
 // the value of a node, after its own unit of fuel
@@ -63,25 +70,30 @@ fn step(
     room: u32,
     fuel: &mut u32,
     pool: &mut Pool,
+    made: &mut MadeTerms,
 ) -> Result<Live, Stop>
-    requires { AreKnown (length pool.old) (bindings scope.now.args.now env.old.items) }
-    ensures value { (last : List Value) → IsGrown pool.new last → IsReached last result fuel.new (limited (step_of scope.now.spec.now (value_within scope.now.spec.now room) (expr_of e.now) (bound_in last scope.now.args.now env.old.items) fuel.old)) }
+    requires known { AreKnown (length pool.old) (bindings scope.now.args.now env.old.items) }
+    requires made { AreMade scope.now.spec.now made.old pool.old }
+    ensures value { (last : List Value) → IsGrown pool.new last →
+        IsReached last result fuel.new (limited (step_of scope.now.spec.now (value_within scope.now.spec.now room)
+        (expr_of e.now) (bound_in last scope.now.args.now env.old.items) fuel.old)) }
     ensures env { OnOk result (env.new.items ≡ env.old.items) }
     ensures grown { IsGrown pool.old pool.new }
+    ensures made { AreMade scope.now.spec.now made.new pool.new }
 {
     match e {
         ExprTree::Literal(literal) => constant(scope.alloc, literal, pool),
         ExprTree::Named(k) => named(scope, env, *k, pool),
-        ExprTree::Made(kind, p) => made_of(scope, *kind, *p, pool),
-        ExprTree::Unary(f, a) => single(scope, *f, a, env, room, fuel, pool),
-        ExprTree::Binary(sign, a, b) => binary(scope, *sign, a, b, env, room, fuel, pool),
-        ExprTree::Logical(how, a, b) => logical(scope, *how, a, b, env, room, fuel, pool),
-        ExprTree::Cons(op, a, b) => cons(scope, *op, a, b, env, room, fuel, pool),
-        ExprTree::Choice(c, a, b) => choice(scope, c, a, b, env, room, fuel, pool),
-        ExprTree::Apply(op, parts) => apply(scope, *op, parts, env, room, fuel, pool),
-        ExprTree::Call(f, parts) => call(scope, *f, parts, env, room, fuel, pool),
-        ExprTree::Let(a, b) => bind(scope, a, b, env, room, fuel, pool),
-        ExprTree::With(a, cases) => with(scope, a, cases, env, room, fuel, pool),
+        ExprTree::Made(kind, p) => made_of(scope, *kind, *p, pool, made),
+        ExprTree::Unary(f, a) => single(scope, *f, a, env, room, fuel, pool, made),
+        ExprTree::Binary(sign, a, b) => binary(scope, *sign, a, b, env, room, fuel, pool, made),
+        ExprTree::Logical(how, a, b) => logical(scope, *how, a, b, env, room, fuel, pool, made),
+        ExprTree::Cons(op, a, b) => cons(scope, *op, a, b, env, room, fuel, pool, made),
+        ExprTree::Choice(c, a, b) => choice(scope, c, a, b, env, room, fuel, pool, made),
+        ExprTree::Apply(op, parts) => apply(scope, *op, parts, env, room, fuel, pool, made),
+        ExprTree::Call(f, parts) => call(scope, *f, parts, env, room, fuel, pool, made),
+        ExprTree::Let(a, b) => bind(scope, a, b, env, room, fuel, pool, made),
+        ExprTree::With(a, cases) => with(scope, a, cases, env, room, fuel, pool, made),
     }
 }
 
@@ -95,13 +107,18 @@ fn single(
     room: u32,
     fuel: &mut u32,
     pool: &mut Pool,
+    made: &mut MadeTerms,
 ) -> Result<Live, Stop>
-    requires { AreKnown (length pool.old) (bindings scope.now.args.now env.old.items) }
-    ensures value { (last : List Value) → IsGrown pool.new last → IsReached last result fuel.new (limited (step_of scope.now.spec.now (value_within scope.now.spec.now room) (Single f (expr_of a.now)) (bound_in last scope.now.args.now env.old.items) fuel.old)) }
+    requires known { AreKnown (length pool.old) (bindings scope.now.args.now env.old.items) }
+    requires made { AreMade scope.now.spec.now made.old pool.old }
+    ensures value { (last : List Value) → IsGrown pool.new last →
+        IsReached last result fuel.new (limited (step_of scope.now.spec.now (value_within scope.now.spec.now room)
+        (Single f (expr_of a.now)) (bound_in last scope.now.args.now env.old.items) fuel.old)) }
     ensures env { OnOk result (env.new.items ≡ env.old.items) }
     ensures grown { IsGrown pool.old pool.new }
+    ensures made { AreMade scope.now.spec.now made.new pool.new }
 {
-    let x = enter(scope, a, env, room, fuel, pool)?;
+    let x = enter(scope, a, env, room, fuel, pool, made)?;
     applied(scope.alloc, f, x, pool)
 }
 
@@ -116,14 +133,19 @@ fn binary(
     room: u32,
     fuel: &mut u32,
     pool: &mut Pool,
+    made: &mut MadeTerms,
 ) -> Result<Live, Stop>
-    requires { AreKnown (length pool.old) (bindings scope.now.args.now env.old.items) }
-    ensures value { (last : List Value) → IsGrown pool.new last → IsReached last result fuel.new (limited (step_of scope.now.spec.now (value_within scope.now.spec.now room) (Binary sign (expr_of a.now) (expr_of b.now)) (bound_in last scope.now.args.now env.old.items) fuel.old)) }
+    requires known { AreKnown (length pool.old) (bindings scope.now.args.now env.old.items) }
+    requires made { AreMade scope.now.spec.now made.old pool.old }
+    ensures value { (last : List Value) → IsGrown pool.new last →
+        IsReached last result fuel.new (limited (step_of scope.now.spec.now (value_within scope.now.spec.now room)
+        (Binary sign (expr_of a.now) (expr_of b.now)) (bound_in last scope.now.args.now env.old.items) fuel.old)) }
     ensures env { OnOk result (env.new.items ≡ env.old.items) }
     ensures grown { IsGrown pool.old pool.new }
+    ensures made { AreMade scope.now.spec.now made.new pool.new }
 {
-    let x = enter(scope, a, env, room, fuel, pool)?;
-    let y = enter(scope, b, env, room, fuel, pool)?;
+    let x = enter(scope, a, env, room, fuel, pool, made)?;
+    let y = enter(scope, b, env, room, fuel, pool, made)?;
     combined(scope.alloc, sign, x, y, pool)
 }
 
@@ -138,18 +160,23 @@ fn logical(
     room: u32,
     fuel: &mut u32,
     pool: &mut Pool,
+    made: &mut MadeTerms,
 ) -> Result<Live, Stop>
-    requires { AreKnown (length pool.old) (bindings scope.now.args.now env.old.items) }
-    ensures value { (last : List Value) → IsGrown pool.new last → IsReached last result fuel.new (limited (step_of scope.now.spec.now (value_within scope.now.spec.now room) (Logical how (expr_of a.now) (expr_of b.now)) (bound_in last scope.now.args.now env.old.items) fuel.old)) }
+    requires known { AreKnown (length pool.old) (bindings scope.now.args.now env.old.items) }
+    requires made { AreMade scope.now.spec.now made.old pool.old }
+    ensures value { (last : List Value) → IsGrown pool.new last →
+        IsReached last result fuel.new (limited (step_of scope.now.spec.now (value_within scope.now.spec.now room)
+        (Logical how (expr_of a.now) (expr_of b.now)) (bound_in last scope.now.args.now env.old.items) fuel.old)) }
     ensures env { OnOk result (env.new.items ≡ env.old.items) }
     ensures grown { IsGrown pool.old pool.new }
+    ensures made { AreMade scope.now.spec.now made.new pool.new }
 {
-    let x = enter(scope, a, env, room, fuel, pool)?;
+    let x = enter(scope, a, env, room, fuel, pool, made)?;
     let Live::Truth(first) = x else {
         return Err(Stop::Fault(FaultKind::NoMatch));
     };
     if needs_second(how, first) {
-        enter(scope, b, env, room, fuel, pool)
+        enter(scope, b, env, room, fuel, pool, made)
     } else {
         Ok(x)
     }
@@ -176,14 +203,19 @@ fn cons(
     room: u32,
     fuel: &mut u32,
     pool: &mut Pool,
+    made: &mut MadeTerms,
 ) -> Result<Live, Stop>
-    requires { AreKnown (length pool.old) (bindings scope.now.args.now env.old.items) }
-    ensures value { (last : List Value) → IsGrown pool.new last → IsReached last result fuel.new (limited (step_of scope.now.spec.now (value_within scope.now.spec.now room) (Cons op (expr_of a.now) (expr_of b.now)) (bound_in last scope.now.args.now env.old.items) fuel.old)) }
+    requires known { AreKnown (length pool.old) (bindings scope.now.args.now env.old.items) }
+    requires made { AreMade scope.now.spec.now made.old pool.old }
+    ensures value { (last : List Value) → IsGrown pool.new last →
+        IsReached last result fuel.new (limited (step_of scope.now.spec.now (value_within scope.now.spec.now room)
+        (Cons op (expr_of a.now) (expr_of b.now)) (bound_in last scope.now.args.now env.old.items) fuel.old)) }
     ensures env { OnOk result (env.new.items ≡ env.old.items) }
     ensures grown { IsGrown pool.old pool.new }
+    ensures made { AreMade scope.now.spec.now made.new pool.new }
 {
-    let x = enter(scope, a, env, room, fuel, pool)?;
-    let y = enter(scope, b, env, room, fuel, pool)?;
+    let x = enter(scope, a, env, room, fuel, pool, made)?;
+    let y = enter(scope, b, env, room, fuel, pool, made)?;
     tree(scope.alloc, op, &[x, y], pool)
 }
 
@@ -198,19 +230,25 @@ fn choice(
     room: u32,
     fuel: &mut u32,
     pool: &mut Pool,
+    made: &mut MadeTerms,
 ) -> Result<Live, Stop>
-    requires { AreKnown (length pool.old) (bindings scope.now.args.now env.old.items) }
-    ensures value { (last : List Value) → IsGrown pool.new last → IsReached last result fuel.new (limited (step_of scope.now.spec.now (value_within scope.now.spec.now room) (Choice (expr_of c.now) (expr_of a.now) (expr_of b.now)) (bound_in last scope.now.args.now env.old.items) fuel.old)) }
+    requires known { AreKnown (length pool.old) (bindings scope.now.args.now env.old.items) }
+    requires made { AreMade scope.now.spec.now made.old pool.old }
+    ensures value { (last : List Value) → IsGrown pool.new last →
+        IsReached last result fuel.new (limited (step_of scope.now.spec.now (value_within scope.now.spec.now room)
+        (Choice (expr_of c.now) (expr_of a.now) (expr_of b.now))
+        (bound_in last scope.now.args.now env.old.items) fuel.old)) }
     ensures env { OnOk result (env.new.items ≡ env.old.items) }
     ensures grown { IsGrown pool.old pool.new }
+    ensures made { AreMade scope.now.spec.now made.new pool.new }
 {
-    let Live::Truth(chosen) = enter(scope, c, env, room, fuel, pool)? else {
+    let Live::Truth(chosen) = enter(scope, c, env, room, fuel, pool, made)? else {
         return Err(Stop::Fault(FaultKind::NoMatch));
     };
     if chosen {
-        enter(scope, a, env, room, fuel, pool)
+        enter(scope, a, env, room, fuel, pool, made)
     } else {
-        enter(scope, b, env, room, fuel, pool)
+        enter(scope, b, env, room, fuel, pool, made)
     }
 }
 
@@ -224,13 +262,18 @@ fn apply(
     room: u32,
     fuel: &mut u32,
     pool: &mut Pool,
+    made: &mut MadeTerms,
 ) -> Result<Live, Stop>
-    requires { AreKnown (length pool.old) (bindings scope.now.args.now env.old.items) }
-    ensures value { (last : List Value) → IsGrown pool.new last → IsReached last result fuel.new (limited (step_of scope.now.spec.now (value_within scope.now.spec.now room) (Apply op (exprs_of parts.now)) (bound_in last scope.now.args.now env.old.items) fuel.old)) }
+    requires known { AreKnown (length pool.old) (bindings scope.now.args.now env.old.items) }
+    requires made { AreMade scope.now.spec.now made.old pool.old }
+    ensures value { (last : List Value) → IsGrown pool.new last →
+        IsReached last result fuel.new (limited (step_of scope.now.spec.now (value_within scope.now.spec.now room)
+        (Apply op (exprs_of parts.now)) (bound_in last scope.now.args.now env.old.items) fuel.old)) }
     ensures env { OnOk result (env.new.items ≡ env.old.items) }
     ensures grown { IsGrown pool.old pool.new }
+    ensures made { AreMade scope.now.spec.now made.new pool.new }
 {
-    let kids = row(scope, parts, env, room, fuel, pool)?;
+    let kids = row(scope, parts, env, room, fuel, pool, made)?;
     tree(scope.alloc, op, &kids, pool)
 }
 
@@ -244,13 +287,18 @@ fn call(
     room: u32,
     fuel: &mut u32,
     pool: &mut Pool,
+    made: &mut MadeTerms,
 ) -> Result<Live, Stop>
-    requires { AreKnown (length pool.old) (bindings scope.now.args.now env.old.items) }
-    ensures value { (last : List Value) → IsGrown pool.new last → IsReached last result fuel.new (limited (step_of scope.now.spec.now (value_within scope.now.spec.now room) (Call f (exprs_of parts.now)) (bound_in last scope.now.args.now env.old.items) fuel.old)) }
+    requires known { AreKnown (length pool.old) (bindings scope.now.args.now env.old.items) }
+    requires made { AreMade scope.now.spec.now made.old pool.old }
+    ensures value { (last : List Value) → IsGrown pool.new last →
+        IsReached last result fuel.new (limited (step_of scope.now.spec.now (value_within scope.now.spec.now room)
+        (Call f (exprs_of parts.now)) (bound_in last scope.now.args.now env.old.items) fuel.old)) }
     ensures env { OnOk result (env.new.items ≡ env.old.items) }
     ensures grown { IsGrown pool.old pool.new }
+    ensures made { AreMade scope.now.spec.now made.new pool.new }
 {
-    let mut args = row(scope, parts, env, room, fuel, pool)?;
+    let mut args = row(scope, parts, env, room, fuel, pool, made)?;
     let Some(function) = scope.spec.functions.place(f) else {
         return Err(Stop::Fault(FaultKind::NoMatch));
     };
@@ -262,7 +310,7 @@ fn call(
         spec: scope.spec,
         args: &[],
     };
-    enter(&inside, &body.tree, &mut args, room, fuel, pool)
+    enter(&inside, &body.tree, &mut args, room, fuel, pool, made)
 }
 
 // `let`
@@ -275,15 +323,20 @@ fn bind(
     room: u32,
     fuel: &mut u32,
     pool: &mut Pool,
+    made: &mut MadeTerms,
 ) -> Result<Live, Stop>
-    requires { AreKnown (length pool.old) (bindings scope.now.args.now env.old.items) }
-    ensures value { (last : List Value) → IsGrown pool.new last → IsReached last result fuel.new (limited (step_of scope.now.spec.now (value_within scope.now.spec.now room) (Let (expr_of a.now) (expr_of b.now)) (bound_in last scope.now.args.now env.old.items) fuel.old)) }
+    requires known { AreKnown (length pool.old) (bindings scope.now.args.now env.old.items) }
+    requires made { AreMade scope.now.spec.now made.old pool.old }
+    ensures value { (last : List Value) → IsGrown pool.new last →
+        IsReached last result fuel.new (limited (step_of scope.now.spec.now (value_within scope.now.spec.now room)
+        (Let (expr_of a.now) (expr_of b.now)) (bound_in last scope.now.args.now env.old.items) fuel.old)) }
     ensures env { OnOk result (env.new.items ≡ env.old.items) }
     ensures grown { IsGrown pool.old pool.new }
+    ensures made { AreMade scope.now.spec.now made.new pool.new }
 {
-    let x = enter(scope, a, env, room, fuel, pool)?;
+    let x = enter(scope, a, env, room, fuel, pool, made)?;
     env.push(x)?;
-    let y = enter(scope, b, env, room, fuel, pool)?;
+    let y = enter(scope, b, env, room, fuel, pool, made)?;
     let _ = env.pop();
     Ok(y)
 }
@@ -298,14 +351,19 @@ fn with(
     room: u32,
     fuel: &mut u32,
     pool: &mut Pool,
+    made: &mut MadeTerms,
 ) -> Result<Live, Stop>
-    requires { AreKnown (length pool.old) (bindings scope.now.args.now env.old.items) }
-    ensures value { (last : List Value) → IsGrown pool.new last → IsReached last result fuel.new (limited (step_of scope.now.spec.now (value_within scope.now.spec.now room) (With (expr_of a.now) (cases_of cases.now)) (bound_in last scope.now.args.now env.old.items) fuel.old)) }
+    requires known { AreKnown (length pool.old) (bindings scope.now.args.now env.old.items) }
+    requires made { AreMade scope.now.spec.now made.old pool.old }
+    ensures value { (last : List Value) → IsGrown pool.new last →
+        IsReached last result fuel.new (limited (step_of scope.now.spec.now (value_within scope.now.spec.now room)
+        (With (expr_of a.now) (cases_of cases.now)) (bound_in last scope.now.args.now env.old.items) fuel.old)) }
     ensures env { OnOk result (env.new.items ≡ env.old.items) }
     ensures grown { IsGrown pool.old pool.new }
+    ensures made { AreMade scope.now.spec.now made.new pool.new }
 {
-    let x = enter(scope, a, env, room, fuel, pool)?;
-    first_match(scope, x, cases, env, room, fuel, pool)
+    let x = enter(scope, a, env, room, fuel, pool, made)?;
+    first_match(scope, x, cases, env, room, fuel, pool, made)
 }
 
 // the first case whose pattern matches, else the default
@@ -318,18 +376,23 @@ fn first_match(
     room: u32,
     fuel: &mut u32,
     pool: &mut Pool,
+    made: &mut MadeTerms,
 ) -> Result<Live, Stop>
     requires usable { IsUsable pool.old x }
     requires known { AreKnown (length pool.old) (bindings scope.now.args.now env.old.items) }
-    ensures value { (last : List Value) → IsGrown pool.new last → IsReached last result fuel.new (first_case scope.now.spec.now (value_within scope.now.spec.now room) (value_in last x) (cases_of cases.now) (bound_in last scope.now.args.now env.old.items) fuel.old) }
+    requires made { AreMade scope.now.spec.now made.old pool.old }
+    ensures value { (last : List Value) → IsGrown pool.new last →
+        IsReached last result fuel.new (first_case scope.now.spec.now (value_within scope.now.spec.now room)
+        (value_in last x) (cases_of cases.now) (bound_in last scope.now.args.now env.old.items) fuel.old) }
     ensures env { OnOk result (env.new.items ≡ env.old.items) }
     ensures grown { IsGrown pool.old pool.new }
+    ensures made { AreMade scope.now.spec.now made.new pool.new }
 {
     let count = env.len();
     let mut rest = cases;
     while let CaseList::More(pattern, e, next) = rest {
         if matches(scope.alloc, scope.spec, &pattern.tree, x, pool, env)? {
-            let y = enter(scope, e, env, room, fuel, pool)?;
+            let y = enter(scope, e, env, room, fuel, pool, made)?;
             env.truncate(count);
             return Ok(y);
         }
@@ -337,7 +400,7 @@ fn first_match(
         rest = next;
     }
     match rest {
-        CaseList::Default(e) => enter(scope, e, env, room, fuel, pool),
+        CaseList::Default(e) => enter(scope, e, env, room, fuel, pool, made),
         _ => Err(Stop::Fault(FaultKind::NoMatch)),
     }
 }
@@ -351,16 +414,25 @@ fn row(
     room: u32,
     fuel: &mut u32,
     pool: &mut Pool,
+    made: &mut MadeTerms,
 ) -> Result<Vec<Live>, Stop>
-    requires { AreKnown (length pool.old) (bindings scope.now.args.now env.old.items) }
-    ensures value { (last : List Value) → IsGrown pool.new last → MatchResult result (λ v. AreReached last v.items fuel.new (row_reached (value_within scope.now.spec.now room) [] (exprs_of parts.now) (bound_in last scope.now.args.now env.old.items) fuel.old)) (λ s. IsHalted s fuel.new (row_reached (value_within scope.now.spec.now room) [] (exprs_of parts.now) (bound_in last scope.now.args.now env.old.items) fuel.old)) }
+    requires known { AreKnown (length pool.old) (bindings scope.now.args.now env.old.items) }
+    requires made { AreMade scope.now.spec.now made.old pool.old }
+    ensures value { (last : List Value) → IsGrown pool.new last → MatchResult result
+        (λ v. AreReached last v.items fuel.new
+        (row_reached (value_within scope.now.spec.now room) [] (exprs_of parts.now)
+        (bound_in last scope.now.args.now env.old.items) fuel.old))
+        (λ s. IsHalted s fuel.new
+        (row_reached (value_within scope.now.spec.now room) [] (exprs_of parts.now)
+        (bound_in last scope.now.args.now env.old.items) fuel.old)) }
     ensures env { OnOk result (env.new.items ≡ env.old.items) }
     ensures grown { IsGrown pool.old pool.new }
+    ensures made { AreMade scope.now.spec.now made.new pool.new }
 {
     let mut values = Vec::new(scope.alloc);
     let mut rest = parts;
     while let ExprList::More(e, next) = rest {
-        values.push(enter(scope, e, env, room, fuel, pool)?)?;
+        values.push(enter(scope, e, env, room, fuel, pool, made)?)?;
         rest = next;
     }
     Ok(values)
@@ -368,7 +440,8 @@ fn row(
 
 // a literal
 fn constant(alloc: Global, literal: &Literal, pool: &mut Pool) -> Result<Live, Stop>
-    ensures value { (last : List Value) (left : ℕ) → IsGrown pool.new last → IsReached last result left (limited (Gives (literal_of literal.now) left)) }
+    ensures value { (last : List Value) (left : ℕ) → IsGrown pool.new last →
+        IsReached last result left (limited (Gives (literal_of literal.now) left)) }
     ensures grown { IsGrown pool.old pool.new }
 {
     match literal {
@@ -397,7 +470,8 @@ fn binding(scope: &Scope, env: &[Live], k: u32) -> Option<Live>
 #[tactic(auto, using(crate::proofs::Bindings::bound_at, crate::proofs::Bindings::known_at))]
 fn named(scope: &Scope, env: &[Live], k: u32, pool: &Pool) -> Result<Live, Stop>
     requires { AreKnown (length pool.now) (bindings scope.now.args.now env.now) }
-    ensures { (last : List Value) (left : ℕ) → IsGrown pool.now last → IsReached last result left (limited (Gives (unwrap_or (slice_get (bound_in last scope.now.args.now env.now) k) untyped) left)) }
+    ensures { (last : List Value) (left : ℕ) → IsGrown pool.now last → IsReached last result left
+        (limited (Gives (unwrap_or (slice_get (bound_in last scope.now.args.now env.now) k) untyped) left)) }
 {
     match binding(scope, env, k) {
         Some(Live::Truth(b)) => Ok(Live::Truth(b)),
@@ -407,11 +481,29 @@ fn named(scope: &Scope, env: &[Live], k: u32, pool: &Pool) -> Result<Live, Stop>
     }
 }
 
-// `[p]` and `<p>`
-fn made_of(scope: &Scope, kind: Made, p: PhylumId, pool: &mut Pool) -> Result<Live, Stop>
-    ensures value { (last : List Value) (left : ℕ) → IsGrown pool.new last → IsReached last result left (limited (Gives (made_value scope.now.spec.now kind p) left)) }
+// `[p]` and `<p>`. A value over a limit is not kept: a specification that has one is refused where it is loaded.
+#[tactic(auto, using(crate::proofs::MadeLater::made_later, crate::proofs::MadeLater::made_more))]
+fn made_of(
+    scope: &Scope,
+    kind: Made,
+    p: PhylumId,
+    pool: &mut Pool,
+    made: &mut MadeTerms,
+) -> Result<Live, Stop>
+    requires { AreMade scope.now.spec.now made.old pool.old }
+    ensures value { (last : List Value) (left : ℕ) → IsGrown pool.new last →
+        IsReached last result left (limited (Gives (made_value scope.now.spec.now kind p) left)) }
     ensures grown { IsGrown pool.old pool.new }
+    ensures made { AreMade scope.now.spec.now made.new pool.new }
 {
-    let value = made(scope.alloc, scope.spec, kind, p)?;
-    put(&value, pool)
+    if let Some(id) = made.number(kind, p) {
+        return read(id, pool);
+    }
+    let value = value_of_made(scope.alloc, scope.spec, kind, p)?;
+    if !value.is_within() {
+        return Err(Stop::Fault(FaultKind::Size));
+    }
+    let id = pool.put(&value)?;
+    made.keep(kind, p, id);
+    read(id, pool)
 }

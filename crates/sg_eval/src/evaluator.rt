@@ -6,18 +6,20 @@ ghost use Rattle.sg_kinds.specs.Evaluation.{Reached, outcome_in};
 ghost use Rattle.sg_kinds.specs.Outcome.{outcome, outcome_of};
 ghost use Rattle.sg_eval.specs.Journal.{now_of, total_of};
 ghost use Rattle.sg_eval.specs.Applied.{IsApplied};
+ghost use Rattle.sg_eval.specs.MadeTerms.{AreMade};
 ghost use Rattle.sg_eval.specs.Lives.{IsReached, clipped};
 
 use crate::eval::{Scope, enter};
 use crate::journal::{Instance, Journal};
 use crate::live::{Live, Stop};
+use crate::made::MadeTerms;
 use sg_kinds::ids::{ExprId, RuleId, ValueId};
 use sg_kinds::marks::FaultKind;
 use sg_kinds::memory::NoMemory;
-use sg_pool::pool::Pool;
 use sg_kinds::row::item;
 use sg_kinds::spec::Spec;
 use sg_kinds::value::Value;
+use sg_pool::pool::Pool;
 use std::alloc::Global;
 use std::marker::Model;
 
@@ -64,29 +66,34 @@ impl Evaluator {
         &self.spec
     }
 
-    /// Notes `who` in the journal and answers the number of the rule's outcome on the values of these numbers. It is the only
-    /// call that evaluates an equation.
+    /// Notes `who` in the journal and answers the number of the rule's outcome on the values of these numbers. It is
+    /// the only call that evaluates an equation. It keeps the numbers of the made terms that it needs.
     pub fn run(
         &self,
         rule: RuleId,
         args: &[ValueId],
         who: Instance,
         pool: &mut Pool,
+        made: &mut MadeTerms,
         journal: &mut Journal,
     ) -> Result<ValueId, NoMemory>
         requires rule { rule < length self.now.rules }
         requires who { who.rule ≡ rule }
         requires args { All (λ k. k < length pool.old) args.now }
-        ensures outcome { (r : Rule) → slice_get self.now.rules rule ≡ Some r → IfOk result (λ id. Stands pool.new id (outcome self.now r (map (value_at pool.old) args.now))) }
+        requires made { AreMade self.now made.old pool.old }
+        ensures outcome { (r : Rule) → slice_get self.now.rules rule ≡ Some r →
+            IfOk result (λ id. Stands pool.new id (outcome self.now r (map (value_at pool.old) args.now))) }
         ensures noted { OnOk result (now_of journal.new ≡ now_of journal.old ++ who ∷ []) }
-        ensures err { OnErr result ((now_of journal.new ≡ now_of journal.old) ⊎ (now_of journal.new ≡ now_of journal.old ++ who ∷ [])) }
+        ensures err { OnErr result
+            ((now_of journal.new ≡ now_of journal.old) ⊎ (now_of journal.new ≡ now_of journal.old ++ who ∷ [])) }
         ensures total { total_of journal.new ≡ total_of journal.old }
         ensures grown { IsGrown pool.old pool.new }
+        ensures made { AreMade self.now made.new pool.new }
     {
         journal.note(who)?;
         let spec = &self.spec;
         let rule = item(spec.rules.as_slice(), rule.number as usize);
-        evaluate(self.alloc, spec, rule.expr, args, pool)
+        evaluate(self.alloc, spec, rule.expr, args, pool, made)
     }
 
     /// The outcome of the expression of a transformation or of an input production on these values, of which each is the
@@ -101,23 +108,29 @@ impl Evaluator {
         for value in bound {
             numbers.push(clip(value, &mut pool)?)?;
         }
-        let id = self.apply_in(e, &numbers, &mut pool)?;
+        let mut made = MadeTerms::new(self.alloc, &self.spec)?;
+        let id = self.apply_in(e, &numbers, &mut pool, &mut made)?;
         Ok(pool.value(self.alloc, id)?)
     }
 
-    /// As `apply`, but on numbers of a pool, and the outcome is put there.
+    /// As `apply`, but on numbers of a pool, where the outcome is put. It keeps the numbers of the made terms that it
+    /// needs.
     pub fn apply_in(
         &self,
         e: ExprId,
         bound: &[ValueId],
         pool: &mut Pool,
+        made: &mut MadeTerms,
     ) -> Result<ValueId, NoMemory>
         requires applied { IsApplied self.now e }
         requires bound { All (λ k. k < length pool.old) bound.now }
-        ensures outcome { IfOk result (λ id. Stands pool.new id (outcome_of self.now e (map (value_at pool.old) bound.now))) }
+        requires made { AreMade self.now made.old pool.old }
+        ensures outcome { IfOk result
+            (λ id. Stands pool.new id (outcome_of self.now e (map (value_at pool.old) bound.now))) }
         ensures grown { IsGrown pool.old pool.new }
+        ensures made { AreMade self.now made.new pool.new }
     {
-        evaluate(self.alloc, &self.spec, e, bound, pool)
+        evaluate(self.alloc, &self.spec, e, bound, pool, made)
     }
 }
 
@@ -134,23 +147,28 @@ fn clip(v: &Value, pool: &mut Pool) -> Result<ValueId, NoMemory>
 }
 
 // the number of the outcome of an expression on the values of these numbers
+#[tactic(auto, using(crate::proofs::MadeLater::made_later))]
 fn evaluate(
     alloc: Global,
     spec: &Spec,
     e: ExprId,
     args: &[ValueId],
     pool: &mut Pool,
+    made: &mut MadeTerms,
 ) -> Result<ValueId, NoMemory>
-    requires { All (λ k. k < length pool.old) args.now }
-    ensures outcome { IfOk result (λ id. Stands pool.new id (outcome_of spec.now e (map (value_at pool.old) args.now))) }
+    requires args { All (λ k. k < length pool.old) args.now }
+    requires made { AreMade spec.now made.old pool.old }
+    ensures outcome { IfOk result
+        (λ id. Stands pool.new id (outcome_of spec.now e (map (value_at pool.old) args.now))) }
     ensures grown { IsGrown pool.old pool.new }
+    ensures made { AreMade spec.now made.new pool.new }
 {
     match spec.exprs.place(e.number) {
         Some(expr) => {
             let scope = Scope { alloc, spec, args };
             let mut env = Vec::new(alloc);
             let mut fuel = FUEL;
-            let reached = enter(&scope, &expr.tree, &mut env, NESTING, &mut fuel, pool);
+            let reached = enter(&scope, &expr.tree, &mut env, NESTING, &mut fuel, pool, made);
             settled(reached, pool)
         }
         None => pool.put_fault(FaultKind::NoMatch),
@@ -159,7 +177,8 @@ fn evaluate(
 
 // the number of an answer's value
 fn settled(reached: Result<Live, Stop>, pool: &mut Pool) -> Result<ValueId, NoMemory>
-    ensures ok { (r : Reached) (left : ℕ) → IsReached pool.old reached left r → IfOk result (λ id. Stands pool.new id (outcome_in r)) }
+    ensures ok { (r : Reached) (left : ℕ) → IsReached pool.old reached left r →
+        IfOk result (λ id. Stands pool.new id (outcome_in r)) }
     ensures grown { IsGrown pool.old pool.new }
 {
     match reached {

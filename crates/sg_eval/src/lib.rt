@@ -6,6 +6,7 @@ mod evaluator;
 mod journal;
 pub mod laws;
 mod live;
+pub mod made;
 mod numbers;
 mod operators;
 mod patterns;

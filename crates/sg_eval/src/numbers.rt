@@ -10,7 +10,8 @@ use sg_kinds::marks::{FaultKind, Sign};
 
 /// The outcome of an operator on two numbers.
 pub fn arithmetic(sign: Sign, x: i64, y: i64) -> Result<Live, Stop>
-    ensures { (last : List Value) (left : ℕ) → IsReached last result left (limited (Gives (arithmetic_of sign x y) left)) }
+    ensures { (last : List Value) (left : ℕ) →
+        IsReached last result left (limited (Gives (arithmetic_of sign x y) left)) }
 {
     match sign {
         Sign::Add => in_range(x.checked_add(y)),
@@ -28,7 +29,8 @@ pub fn arithmetic(sign: Sign, x: i64, y: i64) -> Result<Live, Stop>
 
 // a number, or the fault that it is out of range
 fn in_range(z: Option<i64>) -> Result<Live, Stop>
-    ensures { (last : List Value) (left : ℕ) → IsReached last result left (limited (Gives (number_or_overflow z) left)) }
+    ensures { (last : List Value) (left : ℕ) →
+        IsReached last result left (limited (Gives (number_or_overflow z) left)) }
 {
     match z {
         Some(z) => Ok(Live::Number(z)),
@@ -58,7 +60,8 @@ fn remainder(x: i64, y: i64) -> Result<Live, Stop>
 
 /// The number with the other sign.
 pub fn negated(x: i64) -> Result<Live, Stop>
-    ensures { (last : List Value) (left : ℕ) → IsReached last result left (limited (Gives (in_range_of (neg_ℤ x)) left)) }
+    ensures { (last : List Value) (left : ℕ) →
+        IsReached last result left (limited (Gives (in_range_of (neg_ℤ x)) left)) }
 {
     in_range(x.checked_neg())
 }
@@ -68,7 +71,8 @@ const BEYOND: u64 = 9_223_372_036_854_775_808;
 
 /// The number that a text writes: an optional `-` and one or more digits.
 pub fn converted(text: &[u8]) -> Option<i64>
-    ensures { MatchOption result (converted_of (integer text.now) ≡ Fault Convert) (λ z. converted_of (integer text.now) ≡ Number z) }
+    ensures { MatchOption result
+        (converted_of (integer text.now) ≡ Fault Convert) (λ z. converted_of (integer text.now) ≡ Number z) }
 {
     let Some((first, digits)) = text.split_first() else {
         return None;
@@ -89,7 +93,8 @@ pub fn converted(text: &[u8]) -> Option<i64>
 
 // the number that one or more digits write; None where they write none, or one that is over 2^63
 fn natural(digits: &[u8]) -> Option<u64>
-    ensures { MatchOption result ((m : ℕ) → natural_of digits.now ≡ Some m → 2 ^ 63 < m) (λ n. natural_of digits.now ≡ Some n) }
+    ensures { MatchOption result
+        ((m : ℕ) → natural_of digits.now ≡ Some m → 2 ^ 63 < m) (λ n. natural_of digits.now ≡ Some n) }
 {
     if digits.is_empty() {
         return None;

@@ -15,7 +15,8 @@ use std::alloc::Global;
 /// A form with one operand, on its value.
 pub fn applied(alloc: Global, f: Unary, x: Live, pool: &mut Pool) -> Result<Live, Stop>
     requires { IsUsable pool.old x }
-    ensures value { (last : List Value) (left : ℕ) → IsGrown pool.new last → IsReached last result left (limited (Gives (applied_of f (value_in last x)) left)) }
+    ensures value { (last : List Value) (left : ℕ) → IsGrown pool.new last →
+        IsReached last result left (limited (Gives (applied_of f (value_in last x)) left)) }
     ensures grown { IsGrown pool.old pool.new }
 {
     match f {
@@ -47,7 +48,8 @@ pub fn applied(alloc: Global, f: Unary, x: Live, pool: &mut Pool) -> Result<Live
 pub fn combined(alloc: Global, sign: Sign, x: Live, y: Live, pool: &mut Pool) -> Result<Live, Stop>
     requires x { IsUsable pool.old x }
     requires y { IsUsable pool.old y }
-    ensures value { (last : List Value) (left : ℕ) → IsGrown pool.new last → IsReached last result left (limited (Gives (combined_of sign (value_in last x) (value_in last y)) left)) }
+    ensures value { (last : List Value) (left : ℕ) → IsGrown pool.new last →
+        IsReached last result left (limited (Gives (combined_of sign (value_in last x) (value_in last y)) left)) }
     ensures grown { IsGrown pool.old pool.new }
 {
     match sign {

@@ -7,14 +7,14 @@ ghost use Rattle.sg_kinds.specs.Evaluation.{bound_by, bound_by_all};
 ghost use Rattle.sg_eval.specs.Lives.{value_in, IsKnown, is_tree_of, IsMatched};
 
 use crate::live::Live;
-use crate::trees::made;
-use sg_pool::entry::Entry;
+use crate::trees::value_of_made;
 use sg_kinds::ids::{OpId, ValueId};
 use sg_kinds::memory::NoMemory;
 use sg_kinds::pattern::{Literal, PatternList, PatternTree};
-use sg_pool::pool::Pool;
 use sg_kinds::spec::Spec;
 use sg_kinds::value::{Value, ValueNode};
+use sg_pool::entry::Entry;
+use sg_pool::pool::Pool;
 use std::alloc::Global;
 
 /// Whether a value matches a pattern. What its variables are bound to is put behind `bound`, from left to right.
@@ -28,7 +28,9 @@ pub fn matches(
     bound: &mut Vec<Live>,
 ) -> Result<bool, NoMemory>
     requires { IsKnown (length pool.now) x }
-    ensures { IfOk result (λ b. IsMatched pool.now (bound_by spec.now (pattern_of pattern.now) (value_in pool.now x)) bound.old.items bound.new.items b) }
+    ensures { IfOk result
+        (λ b. IsMatched pool.now (bound_by spec.now (pattern_of pattern.now) (value_in pool.now x))
+        bound.old.items bound.new.items b) }
 {
     match pattern {
         PatternTree::Literal(literal) => Ok(is_literal(literal, x, pool)),
@@ -38,7 +40,7 @@ pub fn matches(
             Ok(true)
         }
         PatternTree::Made(kind, p) => {
-            let value = made(alloc, spec, *kind, *p)?;
+            let value = value_of_made(alloc, spec, *kind, *p)?;
             Ok(is_value(&value, x, pool))
         }
         PatternTree::Operator(op, parts) => match children(*op, x, pool) {
@@ -59,7 +61,9 @@ fn all_match(
     bound: &mut Vec<Live>,
 ) -> Result<bool, NoMemory>
     requires known { All (λ k. k < length pool.now) kids.now }
-    ensures { IfOk result (λ b. IsMatched pool.now (bound_by_all spec.now (patterns_of patterns.now) (row_of (map (value_at pool.now) kids.now))) bound.old.items bound.new.items b) }
+    ensures { IfOk result
+        (λ b. IsMatched pool.now (bound_by_all spec.now (patterns_of patterns.now)
+        (row_of (map (value_at pool.now) kids.now))) bound.old.items bound.new.items b) }
 {
     match patterns {
         PatternList::End => Ok(kids.is_empty()),
@@ -145,7 +149,8 @@ fn are_values_at(vs: &[Value], ids: &[ValueId], pool: &Pool) -> bool
 // the children of a tree of this operator
 fn children<'a>(op: OpId, x: Live, pool: &'a Pool) -> Option<&'a [ValueId]>
     requires { IsKnown (length pool.now) x }
-    ensures value { MatchOption result (is_tree_of op (value_in pool.now x) ≡ false) (λ kids. value_in pool.now x ≡ tree_over pool.now op kids.now) }
+    ensures value { MatchOption result
+        (is_tree_of op (value_in pool.now x) ≡ false) (λ kids. value_in pool.now x ≡ tree_over pool.now op kids.now) }
     ensures known { IfSome result (λ kids. All (λ k. k < length pool.now) kids.now) }
 {
     let Live::Kept(number) = x else {

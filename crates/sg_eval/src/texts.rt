@@ -10,17 +10,18 @@ ghost use Rattle.sg_eval.specs.Lives.{IsReached, is_settled, is_chars};
 
 use crate::live::{Live, Stop};
 use crate::numbers::converted;
-use sg_pool::entry::Entry;
 use sg_kinds::ids::ValueId;
 use sg_kinds::marks::FaultKind;
-use sg_pool::pool::Pool;
 use sg_kinds::text::Text;
 use sg_kinds::value::SIZE_LIMIT;
+use sg_pool::entry::Entry;
+use sg_pool::pool::Pool;
 use std::alloc::Global;
 
 /// The text of these bytes.
 pub fn text(bytes: Vec<u8>, pool: &mut Pool) -> Result<Live, Stop>
-    ensures value { (last : List Value) (left : ℕ) → IsGrown pool.new last → IsReached last result left (limited (Gives (Chars bytes.items) left)) }
+    ensures value { (last : List Value) (left : ℕ) → IsGrown pool.new last →
+        IsReached last result left (limited (Gives (Chars bytes.items) left)) }
     ensures grown { IsGrown pool.old pool.new }
 {
     if bytes.len() >= SIZE_LIMIT as usize {
@@ -33,7 +34,8 @@ pub fn text(bytes: Vec<u8>, pool: &mut Pool) -> Result<Live, Stop>
 // the text of a number; None where it has another value
 fn text_at(number: usize, pool: &Pool) -> Option<&Text>
     requires { IsTrue (is_settled (value_at pool.now number)) }
-    ensures { MatchOption result (is_chars (value_at pool.now number) ≡ false) (λ s. value_at pool.now number ≡ Chars s.now) }
+    ensures { MatchOption result
+        (is_chars (value_at pool.now number) ≡ false) (λ s. value_at pool.now number ≡ Chars s.now) }
 {
     match pool.entry(ValueId { number }) {
         Entry::Text(text) => Some(text),
@@ -45,7 +47,8 @@ fn text_at(number: usize, pool: &Pool) -> Option<&Text>
 pub fn joined(alloc: Global, x: usize, y: usize, pool: &mut Pool) -> Result<Live, Stop>
     requires x { IsTrue (is_settled (value_at pool.old x)) }
     requires y { IsTrue (is_settled (value_at pool.old y)) }
-    ensures value { (last : List Value) (left : ℕ) → IsGrown pool.new last → IsReached last result left (limited (Gives (combined Join (value_at pool.old x) (value_at pool.old y)) left)) }
+    ensures value { (last : List Value) (left : ℕ) → IsGrown pool.new last →
+        IsReached last result left (limited (Gives (combined Join (value_at pool.old x) (value_at pool.old y)) left)) }
     ensures grown { IsGrown pool.old pool.new }
 {
     let (Some(front), Some(back)) = (text_at(x, pool), text_at(y, pool)) else {
@@ -60,7 +63,8 @@ pub fn joined(alloc: Global, x: usize, y: usize, pool: &mut Pool) -> Result<Live
 /// The number that a text writes.
 pub fn number(number: usize, pool: &Pool) -> Result<Live, Stop>
     requires { IsTrue (is_settled (value_at pool.now number)) }
-    ensures { (last : List Value) (left : ℕ) → IsReached last result left (limited (Gives (applied TextToNumber (value_at pool.now number)) left)) }
+    ensures { (last : List Value) (left : ℕ) →
+        IsReached last result left (limited (Gives (applied TextToNumber (value_at pool.now number)) left)) }
 {
     let Some(text) = text_at(number, pool) else {
         return Err(Stop::Fault(FaultKind::NoMatch));
@@ -73,7 +77,8 @@ pub fn number(number: usize, pool: &Pool) -> Result<Live, Stop>
 
 /// The digits of a number, behind `-` where it is negative.
 pub fn digits(alloc: Global, n: i64, pool: &mut Pool) -> Result<Live, Stop>
-    ensures value { (last : List Value) (left : ℕ) → IsGrown pool.new last → IsReached last result left (limited (Gives (Chars (signed_decimal n)) left)) }
+    ensures value { (last : List Value) (left : ℕ) → IsGrown pool.new last →
+        IsReached last result left (limited (Gives (Chars (signed_decimal n)) left)) }
     ensures grown { IsGrown pool.old pool.new }
 {
     let digits = n.to_string(alloc)?;
@@ -84,7 +89,8 @@ pub fn digits(alloc: Global, n: i64, pool: &mut Pool) -> Result<Live, Stop>
 /// How many bytes a text has.
 pub fn length(number: usize, pool: &Pool) -> Result<Live, Stop>
     requires { IsTrue (is_settled (value_at pool.now number)) }
-    ensures { (last : List Value) (left : ℕ) → IsReached last result left (limited (Gives (applied TextLength (value_at pool.now number)) left)) }
+    ensures { (last : List Value) (left : ℕ) →
+        IsReached last result left (limited (Gives (applied TextLength (value_at pool.now number)) left)) }
 {
     let Some(text) = text_at(number, pool) else {
         return Err(Stop::Fault(FaultKind::NoMatch));

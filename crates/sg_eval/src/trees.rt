@@ -8,21 +8,22 @@ ghost use Rattle.sg_kinds.specs.Evaluation.{Gives, limited, made_value};
 ghost use Rattle.sg_eval.specs.Lives.{value_in, IsUsable, AreUsable, IsReached};
 
 use crate::live::{Live, Stop};
-use sg_pool::entry::Entry;
 use sg_kinds::ids::{OpId, PhylumId, ValueId};
 use sg_kinds::marks::{FaultKind, Made};
 use sg_kinds::memory::NoMemory;
-use sg_pool::pool::{Pool, PoolFault};
 use sg_kinds::spec::Spec;
 use sg_kinds::term::{Term, TermNode};
 use sg_kinds::value::{DEPTH_LIMIT, Kids, SIZE_LIMIT, Value};
+use sg_pool::entry::Entry;
+use sg_pool::pool::{Pool, PoolFault};
 use std::alloc::Global;
 
 /// The number of what stands for a value.
 pub fn interned(l: Live, pool: &mut Pool) -> Result<ValueId, NoMemory>
     requires { IsUsable pool.old l }
     ensures below { IfOk result (λ id. id < length pool.new) }
-    ensures value { (last : List Value) → IsGrown pool.new last → IfOk result (λ id. value_at last id ≡ value_in last l) }
+    ensures value { (last : List Value) → IsGrown pool.new last →
+        IfOk result (λ id. value_at last id ≡ value_in last l) }
     ensures grown { IsGrown pool.old pool.new }
 {
     match l {
@@ -35,7 +36,8 @@ pub fn interned(l: Live, pool: &mut Pool) -> Result<ValueId, NoMemory>
 /// The tree of an operator over these children.
 pub fn tree(alloc: Global, op: OpId, kids: &[Live], pool: &mut Pool) -> Result<Live, Stop>
     requires { AreUsable pool.old kids.now }
-    ensures value { (last : List Value) (left : ℕ) → IsGrown pool.new last → IsReached last result left (limited (Gives (Tree op (row_of (map (value_in last) kids.now))) left)) }
+    ensures value { (last : List Value) (left : ℕ) → IsGrown pool.new last →
+        IsReached last result left (limited (Gives (Tree op (row_of (map (value_in last) kids.now))) left)) }
     ensures grown { IsGrown pool.old pool.new }
 {
     let mut numbers = Vec::with_capacity(alloc, kids.len())?;
@@ -73,7 +75,7 @@ fn values_of(alloc: Global, terms: &[Term]) -> Result<Kids, NoMemory>
 }
 
 /// The value of `[p]` or `<p>`.
-pub fn made(alloc: Global, spec: &Spec, made: Made, p: PhylumId) -> Result<Value, NoMemory>
+pub fn value_of_made(alloc: Global, spec: &Spec, made: Made, p: PhylumId) -> Result<Value, NoMemory>
     ensures { IfOk result (λ v. v ≡ made_value spec.now made p) }
 {
     let t = match made {
@@ -86,7 +88,8 @@ pub fn made(alloc: Global, spec: &Spec, made: Made, p: PhylumId) -> Result<Value
 /// The value of a number.
 pub fn read(id: ValueId, pool: &Pool) -> Result<Live, Stop>
     requires { id < length pool.now }
-    ensures { (last : List Value) (left : ℕ) → IsGrown pool.now last → IsReached last result left (limited (Gives (value_at last id) left)) }
+    ensures { (last : List Value) (left : ℕ) → IsGrown pool.now last →
+        IsReached last result left (limited (Gives (value_at last id) left)) }
 {
     match pool.entry(id) {
         Entry::Bool(b) => Ok(Live::Truth(*b)),
@@ -100,16 +103,4 @@ pub fn read(id: ValueId, pool: &Pool) -> Result<Live, Stop>
             }
         }
     }
-}
-
-/// A value, put into the pool.
-pub fn put(v: &Value, pool: &mut Pool) -> Result<Live, Stop>
-    ensures value { (last : List Value) (left : ℕ) → IsGrown pool.new last → IsReached last result left (limited (Gives v.now left)) }
-    ensures grown { IsGrown pool.old pool.new }
-{
-    if !v.is_within() {
-        return Err(Stop::Fault(FaultKind::Size));
-    }
-    let id = pool.put(v)?;
-    read(id, pool)
 }

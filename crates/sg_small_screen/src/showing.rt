@@ -7,6 +7,7 @@ ghost use Rattle.sg_small_screen.specs.Upward.{text_up, evs_up};
 
 use crate::page::{block, page_of};
 use crate::visit::{Tour, visit};
+use sg_eval::made::MadeTerms;
 use sg_eval::{Evaluator, Journal};
 use sg_kinds::memory::NoMemory;
 use sg_pool::pool::Pool;
@@ -76,7 +77,8 @@ fn toured_cells(tour: &Tour, journal: &mut Journal, term: &Term) -> Result<Text,
     ensures total { total_of journal.new ≡ total_of journal.old }
 {
     let mut pool = Pool::new(tour.alloc)?;
+    let mut made = MadeTerms::new(tour.alloc, tour.evaluator.spec())?;
     let mut next = 0;
-    let found = visit(tour, &mut pool, journal, &mut next, term)?;
+    let found = visit(tour, &mut pool, &mut made, journal, &mut next, term)?;
     Ok(found.cells)
 }

@@ -7,6 +7,7 @@ ghost use Rattle.sg_kinds.specs.Specification.{attrs_of};
 ghost use Rattle.sg_kinds.specs.Instances.{below};
 ghost use Rattle.sg_kinds.specs.declared.marks.FaultKind.TheVariants.{Fuel};
 ghost use Rattle.sg_eval.specs.Journal.{now_of, total_of};
+ghost use Rattle.sg_eval.specs.MadeTerms.{AreMade};
 ghost use Rattle.sg_small_spec.specs.Showable.{IsShowable};
 ghost use Rattle.sg_small_screen.specs.Cells.{value_text, items_text, items_of};
 ghost use Rattle.sg_small_screen.specs.Upward.{own_rule, occurrence_in, no_slot, own_slots, slots_up, all_slots_up, node_text, text_up, all_texts_up, equations_below, slot_count, evs_up, all_evs_up};
@@ -14,6 +15,7 @@ ghost use Rattle.sg_small_screen.specs.Found.{slots_in, all_slots_in, texts_of, 
 
 use crate::cells::{Shown, goes_on, node_cells, write_value};
 use crate::found::{Found, Slots, occurrence};
+use sg_eval::made::MadeTerms;
 use sg_eval::{Evaluator, Instance, Journal};
 use sg_forest::NodeId;
 use sg_kinds::ids::{OpId, PhylumId, RuleId, ValueId};
@@ -118,9 +120,11 @@ fn arguments(
 }
 
 // the number of a slot's value, by what was found of the children
+#[tactic(auto, using(sg_eval::proofs::MadeLater::made_later))]
 fn evaluate_slot(
     tour: &Tour,
     pool: &mut Pool,
+    made: &mut MadeTerms,
     journal: &mut Journal,
     node: &Visited,
     slot: u32,
@@ -128,8 +132,10 @@ fn evaluate_slot(
 ) -> Result<ValueId, NoMemory>
     requires same { tour.now.evaluator.now ≡ tour.now.spec.now }
     requires known { AreKnown (length pool.old) kids.now }
+    requires made { AreMade tour.now.evaluator.now made.old pool.old }
     ensures value { IfOk result (λ id. Stands pool.new id (own_slots tour.now.spec.now node.now.op (all_slots_in pool.old kids.now) slot)) }
     ensures grown { IsGrown pool.old pool.new }
+    ensures made { AreMade tour.now.evaluator.now made.new pool.new }
     ensures evaluated { OnOk result (length (now_of journal.new) ≡ length (now_of journal.old) + equations_of (own_rule tour.now.spec.now node.now.op slot)) }
     ensures at_most { length (now_of journal.new) ≤ length (now_of journal.old) + equations_of (own_rule tour.now.spec.now node.now.op slot) }
     ensures total { total_of journal.new ≡ total_of journal.old }
@@ -145,22 +151,25 @@ fn evaluate_slot(
         slot,
         rule: number,
     };
-    tour.evaluator.run(number, &args, who, pool, journal)
+    tour.evaluator.run(number, &args, who, pool, made, journal)
 }
 
 // the numbers of the values of a node's slots, each evaluated once
 fn evaluate(
     tour: &Tour,
     pool: &mut Pool,
+    made: &mut MadeTerms,
     journal: &mut Journal,
     node: &Visited,
     kids: &[Found],
 ) -> Result<Vec<ValueId>, NoMemory>
     requires same { tour.now.evaluator.now ≡ tour.now.spec.now }
     requires known { AreKnown (length pool.old) kids.now }
+    requires made { AreMade tour.now.evaluator.now made.old pool.old }
     ensures values { IfOk result (λ v. map (value_at pool.new) v.items ≡ map (own_slots tour.now.spec.now node.now.op (all_slots_in pool.old kids.now)) (below (slot_count tour.now.spec.now node.now.op))) }
     ensures known { IfOk result (λ v. All (λ k. k < length pool.new) v.items) }
     ensures grown { IsGrown pool.old pool.new }
+    ensures made { AreMade tour.now.evaluator.now made.new pool.new }
     ensures evaluated { OnOk result (length (now_of journal.new) ≡ length (now_of journal.old) + equations_below tour.now.spec.now node.now.op (slot_count tour.now.spec.now node.now.op)) }
     ensures at_most { length (now_of journal.new) ≤ length (now_of journal.old) + equations_below tour.now.spec.now node.now.op (slot_count tour.now.spec.now node.now.op) }
     ensures total { total_of journal.new ≡ total_of journal.old }
@@ -168,7 +177,7 @@ fn evaluate(
     let count = slot_count(tour.spec, node.op)?;
     let mut numbers = Vec::with_capacity(tour.alloc, count as usize)?;
     for slot in 0..count {
-        let number = evaluate_slot(tour, pool, journal, node, slot, kids)?;
+        let number = evaluate_slot(tour, pool, made, journal, node, slot, kids)?;
         numbers.push(number)?;
     }
     Ok(numbers)
@@ -198,9 +207,11 @@ fn shown_cells(
 }
 
 // what is found of a node, by what was found of its children
+#[tactic(auto, using(sg_eval::proofs::MadeLater::made_later))]
 fn visit_node(
     tour: &Tour,
     pool: &mut Pool,
+    made: &mut MadeTerms,
     journal: &mut Journal,
     node: &Visited,
     kids: &[Found],
@@ -208,15 +219,17 @@ fn visit_node(
     requires same { tour.now.evaluator.now ≡ tour.now.spec.now }
     requires showable { IsShowable tour.now.spec.now }
     requires known { AreKnown (length pool.old) kids.now }
+    requires made { AreMade tour.now.evaluator.now made.old pool.old }
     ensures cells { IfOk result (λ f. f.cells ≡ node_text tour.now.spec.now node.now.op node.now.scheme node.now.elided node.now.goes_on (all_slots_in pool.old kids.now) (texts_of kids.now)) }
     ensures slots { IfOk result (λ f. slots_in pool.new f.slots ≡ own_slots tour.now.spec.now node.now.op (all_slots_in pool.old kids.now)) }
     ensures known { IfOk result (λ f. IsKnown (length pool.new) f.slots) }
     ensures grown { IsGrown pool.old pool.new }
+    ensures made { AreMade tour.now.evaluator.now made.new pool.new }
     ensures evaluated { OnOk result (length (now_of journal.new) ≡ length (now_of journal.old) + equations_below tour.now.spec.now node.now.op (slot_count tour.now.spec.now node.now.op)) }
     ensures at_most { length (now_of journal.new) ≤ length (now_of journal.old) + equations_below tour.now.spec.now node.now.op (slot_count tour.now.spec.now node.now.op) }
     ensures total { total_of journal.new ≡ total_of journal.old }
 {
-    let numbers = evaluate(tour, pool, journal, node, kids)?;
+    let numbers = evaluate(tour, pool, made, journal, node, kids)?;
     let rest = pool.put_fault(FaultKind::Fuel)?;
     let slots = Slots {
         numbers: Row::new(numbers),
@@ -251,19 +264,23 @@ fn visit_leaf(alloc: Global, pool: &mut Pool, v: &Value) -> Result<Found, NoMemo
 
 /// Visits a term, `next` being the number of its root in preorder.
 #[cycle(visit)]
+#[tactic(auto, using(sg_eval::proofs::MadeLater::made_later))]
 pub fn visit(
     tour: &Tour,
     pool: &mut Pool,
+    made: &mut MadeTerms,
     journal: &mut Journal,
     next: &mut usize,
     term: &Term,
 ) -> Result<Found, NoMemory>
     requires same { tour.now.evaluator.now ≡ tour.now.spec.now }
     requires showable { IsShowable tour.now.spec.now }
+    requires made { AreMade tour.now.evaluator.now made.old pool.old }
     ensures cells { IfOk result (λ f. f.cells ≡ text_up tour.now.spec.now term.now) }
     ensures slots { IfOk result (λ f. slots_in pool.new f.slots ≡ slots_up tour.now.spec.now term.now) }
     ensures known { IfOk result (λ f. IsKnown (length pool.new) f.slots) }
     ensures grown { IsGrown pool.old pool.new }
+    ensures made { AreMade tour.now.evaluator.now made.new pool.new }
     ensures evaluated { OnOk result (length (now_of journal.new) ≡ length (now_of journal.old) + evs_up tour.now.spec.now term.now) }
     ensures at_most { length (now_of journal.new) ≤ length (now_of journal.old) + evs_up tour.now.spec.now term.now }
     ensures total { total_of journal.new ≡ total_of journal.old }
@@ -276,7 +293,7 @@ pub fn visit(
                 Some(after) => after,
                 None => return Err(NoMemory),
             };
-            let found = visit_all(tour, pool, journal, next, kids)?;
+            let found = visit_all(tour, pool, made, journal, next, kids)?;
             let node = Visited {
                 op: *op,
                 scheme: *scheme,
@@ -284,7 +301,7 @@ pub fn visit(
                 goes_on: goes_on(kids),
                 number,
             };
-            visit_node(tour, pool, journal, &node, &found)
+            visit_node(tour, pool, made, journal, &node, &found)
         }
     }
 }
@@ -295,23 +312,26 @@ pub fn visit(
 fn visit_all(
     tour: &Tour,
     pool: &mut Pool,
+    made: &mut MadeTerms,
     journal: &mut Journal,
     next: &mut usize,
     kids: &[Term],
 ) -> Result<Vec<Found>, NoMemory>
     requires same { tour.now.evaluator.now ≡ tour.now.spec.now }
     requires showable { IsShowable tour.now.spec.now }
+    requires made { AreMade tour.now.evaluator.now made.old pool.old }
     ensures texts { IfOk result (λ fs. texts_of fs.items ≡ all_texts_up tour.now.spec.now (kids_of kids.now)) }
     ensures slots { IfOk result (λ fs. all_slots_in pool.new fs.items ≡ all_slots_up tour.now.spec.now (kids_of kids.now)) }
     ensures known { IfOk result (λ fs. AreKnown (length pool.new) fs.items) }
     ensures grown { IsGrown pool.old pool.new }
+    ensures made { AreMade tour.now.evaluator.now made.new pool.new }
     ensures evaluated { OnOk result (length (now_of journal.new) ≡ length (now_of journal.old) + all_evs_up tour.now.spec.now (kids_of kids.now)) }
     ensures at_most { length (now_of journal.new) ≤ length (now_of journal.old) + all_evs_up tour.now.spec.now (kids_of kids.now) }
     ensures total { total_of journal.new ≡ total_of journal.old }
 {
     let mut found = Vec::with_capacity(tour.alloc, kids.len())?;
     for kid in kids {
-        let one = visit(tour, pool, journal, next, kid)?;
+        let one = visit(tour, pool, made, journal, next, kid)?;
         found.push(one)?;
     }
     Ok(found)

@@ -2,6 +2,7 @@
 use crate::language::language;
 use crate::loading::loaded;
 use crate::outcome_rows::parts;
+use sg_eval::made::MadeTerms;
 use sg_eval::{Evaluator, Instance, Journal};
 use sg_forest::NodeId;
 use sg_kinds::ids::RuleId;
@@ -137,8 +138,9 @@ fn ran(
     let right = pool.put_number(1).expect(rt, "a number");
     assert!(rt; (who.rule.number as usize) < evaluator.spec().rules.len());
     assert!(rt; left.number < pool.len() && right.number < pool.len());
+    let mut made = MadeTerms::new(rt.alloc(), evaluator.spec()).expect(rt, "made terms");
     let id = evaluator
-        .run(who.rule, &[left, right], who, &mut pool, journal)
+        .run(who.rule, &[left, right], who, &mut pool, &mut made, journal)
         .expect(rt, "an outcome");
     assert!(rt; id.number < pool.len());
     pool.value(rt.alloc(), id).expect(rt, "a value")

@@ -13,6 +13,7 @@ use Rattle.sg_eval.specs.declared.live.Live.TheVariants as live
 use Rattle.sg_eval.specs.declared.live.Stop.TheVariants as stop
 use Rattle.sg_eval.proofs.Steps.{entered, goes, stopped, stopped_limited, then_reached, reached_limited, halted, row_goes, chooses_nothing, connects_nothing, connects_second, connects_first, row_stops, row_steps, usable_push, body_there, no_function, no_body, with_body, case_taken, case_passed, take_front}
 use Rattle.sg_eval.proofs.Bindings.{known_on, known_with, bound_more, all_usable_known, usable_known}
+use Rattle.sg_eval.proofs.MadeLater.{made_later}
 use Rattle.sg_eval.proofs.eval.+eval.Goals as goal
 
 pub enter-returns-clause-value : goal.enter-returns-clause-value
@@ -25,7 +26,7 @@ pub single-applied-requires : goal.single-applied-requires
 single-applied-requires t c = (c.in_ok-x.ensures.value c.enter.new.pool (grown_itself c.enter.new.pool)).1
 
 pub binary-enter-requires-2 : goal.binary-enter-requires-2
-binary-enter-requires-2 t c = (search rules, known_on _ _ _ _ _ c.enter.ensures.grown c.in_ok-x.ensures.env c.requires)
+binary-enter-requires-2 t c = (search rules, (known_on _ _ _ _ _ c.enter.ensures.grown c.in_ok-x.ensures.env c.requires.known, c.enter.ensures.made))
 
 pub binary-combined-requires-clause-y : goal.binary-combined-requires-clause-y
 binary-combined-requires-clause-y t c = (c.in_ok-y.ensures.value c.enter-2.new.pool (grown_itself c.enter-2.new.pool)).1
@@ -45,7 +46,7 @@ cons-returns-in_err-y-clause-value t c = λ last g.
     (stopped_limited last c.in_err-y.field-0.0 _ _ (stopped last c.in_err-y.field-0.0 _ _ _ y))
 
 pub cons-enter-requires-2 : goal.cons-enter-requires-2
-cons-enter-requires-2 t c = (search rules, known_on _ _ _ _ _ c.enter.ensures.grown c.in_ok-x.ensures.env c.requires)
+cons-enter-requires-2 t c = (search rules, (known_on _ _ _ _ _ c.enter.ensures.grown c.in_ok-x.ensures.env c.requires.known, c.enter.ensures.made))
 
 pub cons-tree-requires : goal.cons-tree-requires
 cons-tree-requires t c = ((c.in_ok-x.ensures.value c.enter-2.new.pool c.enter-2.ensures.grown).1, ((c.in_ok-y.ensures.value c.enter-2.new.pool (grown_itself c.enter-2.new.pool)).1, tt))
@@ -87,7 +88,7 @@ call-returns-in_default-place-clause-value t c = λ last g.
     (subst (λ k. slice_get c.args.scope.now.spec.now.exprs k ≡ None) (ap (λ (f : Function). f.body) c.function.view_is) c.in_default-place.ensures)))
 
 pub call-enter-requires : goal.call-enter-requires
-call-enter-requires t c = (search rules, all_usable_known c.row.new.pool c.in_ok-args.args.items (c.in_ok-args.ensures.value c.row.new.pool (grown_itself c.row.new.pool)).1)
+call-enter-requires t c = (search rules, (all_usable_known c.row.new.pool c.in_ok-args.args.items (c.in_ok-args.ensures.value c.row.new.pool (grown_itself c.row.new.pool)).1, c.row.ensures.made))
 
 pub call-returns-clause-value : goal.call-returns-clause-value
 call-returns-clause-value t c = λ last g.
@@ -100,8 +101,11 @@ call-returns-clause-value t c = λ last g.
 pub bind-enter-requires-2 : goal.bind-enter-requires-2
 bind-enter-requires-2 t c = (
   search rules,
-  known_with c.args.pool.now c.enter.new.pool c.args.scope.now.args.now c.args.env.now.items (c.in_ok-x.x ∷ []) _ c.enter.ensures.grown
-      (c.in_ok-push.ensures.items ∙ ap (λ l. l ++ c.in_ok-x.x ∷ []) c.in_ok-x.ensures.env) c.requires (usable_known c.enter.new.pool c.in_ok-x.x (c.in_ok-x.ensures.value c.enter.new.pool (grown_itself c.enter.new.pool)).1, tt),
+  (
+    known_with c.args.pool.now c.enter.new.pool c.args.scope.now.args.now c.args.env.now.items (c.in_ok-x.x ∷ []) _ c.enter.ensures.grown
+        (c.in_ok-push.ensures.items ∙ ap (λ l. l ++ c.in_ok-x.x ∷ []) c.in_ok-x.ensures.env) c.requires.known (usable_known c.enter.new.pool c.in_ok-x.x (c.in_ok-x.ensures.value c.enter.new.pool (grown_itself c.enter.new.pool)).1, tt),
+    c.enter.ensures.made,
+  ),
 )
 
 pub bind-returns-clause-value : goal.bind-returns-clause-value
@@ -121,13 +125,14 @@ choice-returns-in_default t c = record {
       then_reached last c.in_ok-chosen.field-0 c.enter.new.fuel _ _ (Err (stop.Fault NoMatch)) c.enter.new.fuel u (ap limited (chooses_nothing last c.in_ok-chosen.field-0 _ _ c.enter.new.fuel u.1 c.in_default.not-Truth));
   env = tt;
   grown = c.enter.ensures.grown;
+  made = c.enter.ensures.made;
 }
 
 pub choice-enter-requires-then-chosen : goal.choice-enter-requires-then-chosen
-choice-enter-requires-then-chosen t c = (search rules, known_on _ _ _ _ _ c.enter.ensures.grown c.in_ok-chosen.ensures.env c.requires)
+choice-enter-requires-then-chosen t c = (search rules, (known_on _ _ _ _ _ c.enter.ensures.grown c.in_ok-chosen.ensures.env c.requires.known, c.enter.ensures.made))
 
 pub choice-enter-requires-else-chosen : goal.choice-enter-requires-else-chosen
-choice-enter-requires-else-chosen t c = (search rules, known_on _ _ _ _ _ c.enter.ensures.grown c.in_ok-chosen.ensures.env c.requires)
+choice-enter-requires-else-chosen t c = (search rules, (known_on _ _ _ _ _ c.enter.ensures.grown c.in_ok-chosen.ensures.env c.requires.known, c.enter.ensures.made))
 
 pub choice-returns-then-chosen-clause-value : goal.choice-returns-then-chosen-clause-value
 choice-returns-then-chosen-clause-value t c = λ last g.
@@ -150,10 +155,11 @@ logical-returns-in_default t c = record {
       then_reached last c.in_ok-x.x c.enter.new.fuel _ _ (Err (stop.Fault NoMatch)) c.enter.new.fuel u (ap limited (connects_nothing last c.args.how c.in_ok-x.x _ c.enter.new.fuel u.1 c.in_default.not-Truth));
   env = tt;
   grown = c.enter.ensures.grown;
+  made = c.enter.ensures.made;
 }
 
 pub logical-enter-requires-then-needs_second : goal.logical-enter-requires-then-needs_second
-logical-enter-requires-then-needs_second t c = (search rules, known_on _ _ _ _ _ c.enter.ensures.grown c.in_ok-x.ensures.env c.requires)
+logical-enter-requires-then-needs_second t c = (search rules, (known_on _ _ _ _ _ c.enter.ensures.grown c.in_ok-x.ensures.env c.requires.known, c.enter.ensures.made))
 
 pub logical-returns-then-needs_second-clause-value : goal.logical-returns-then-needs_second-clause-value
 logical-returns-then-needs_second-clause-value t c = λ last g.
@@ -170,10 +176,13 @@ logical-returns-else-needs_second-clause-value t c = λ last g.
     (ap limited (connects_first c.args.how c.in-Truth.first _ c.enter.new.fuel (sym c.if-needs_second.ensures)), tt)
 
 pub with-first_match-requires : goal.with-first_match-requires
-with-first_match-requires t c = (search rules, ((c.in_ok-x.ensures.value c.enter.new.pool (grown_itself c.enter.new.pool)).1, known_on _ _ _ _ _ c.enter.ensures.grown c.in_ok-x.ensures.env c.requires))
+with-first_match-requires t c = (
+  search rules,
+  ((c.in_ok-x.ensures.value c.enter.new.pool (grown_itself c.enter.new.pool)).1, (known_on _ _ _ _ _ c.enter.ensures.grown c.in_ok-x.ensures.env c.requires.known, c.enter.ensures.made)),
+)
 
 pub row-enter-requires : goal.row-enter-requires
-row-enter-requires t c = (search rules, known_on _ _ _ _ _ c.loop-rest.invariant.grown c.loop-rest.invariant.same_env c.requires)
+row-enter-requires t c = (search rules, (known_on _ _ _ _ _ c.loop-rest.invariant.grown c.loop-rest.invariant.same_env c.requires.known, c.loop-rest.invariant.made))
 
 pub row-returns-in_err-enter-clause-value : goal.row-returns-in_err-enter-clause-value
 row-returns-in_err-enter-clause-value t c = λ last g.
@@ -189,6 +198,7 @@ row-returns-in_err-enter-clause-value t c = λ last g.
 
 pub row-loop-rest-preserved : goal.row-loop-rest-preserved
 row-loop-rest-preserved t c = record {
+  made = c.enter.ensures.made;
   same_env = c.in_ok-enter.ensures.env ∙ c.loop-rest.invariant.same_env;
   grown = grown_twice _ _ _ c.loop-rest.invariant.grown c.enter.ensures.grown;
   usable = λ last g. subst (AreUsable last) (sym c.in_ok-push.ensures.items) (usable_push last c.loop-rest.values.items c.in_ok-enter.field-0 (c.loop-rest.invariant.usable last (grown_twice _ _ _ c.enter.ensures.grown g)) (c.in_ok-enter.ensures.value last g).1);
@@ -212,8 +222,11 @@ pub first_match-enter-requires : goal.first_match-enter-requires
 first_match-enter-requires t c =
     let m = c.in_ok-matches.ensures in (
       search rules,
-      known_with c.args.pool.now c.loop-rest.pool c.args.scope.now.args.now c.args.env.now.items m.more _ (grown_same _ _ c.loop-rest.invariant.same_pool)
-          (m.pushed ∙ ap (λ l. l ++ m.more) c.loop-rest.invariant.same_env) c.requires.known m.known,
+      (
+        known_with c.args.pool.now c.loop-rest.pool c.args.scope.now.args.now c.args.env.now.items m.more _ (grown_same _ _ c.loop-rest.invariant.same_pool)
+            (m.pushed ∙ ap (λ l. l ++ m.more) c.loop-rest.invariant.same_env) c.requires.known m.known,
+        c.loop-rest.invariant.made,
+      ),
     )
 
 pub first_match-returns-in_err-y-clause-value : goal.first_match-returns-in_err-y-clause-value
@@ -255,6 +268,7 @@ first_match-loop-rest-preserved t c =
     let known = usable_known c.args.pool.now c.args.x c.requires.usable in
     let m = subst (λ b. IsMatched c.loop-rest.pool (bound_by spec (pattern_of c.pattern.inside.tree) (value_in c.loop-rest.pool c.args.x)) c.loop-rest.env.items c.matches.new.bound.items b) c.if-branch.false c.in_ok-matches.ensures in
     record {
+      made = c.loop-rest.invariant.made;
       same_env =
           let k = c.len-count.ensures in
           let n : c.len-count.result ≡ length c.args.env.now.items = omega (arith, k, c.args.env.now.ok.0) in
@@ -267,3 +281,22 @@ first_match-loop-rest-preserved t c =
           (case_passed spec inside c.args.pool.now c.loop-rest.pool last args c.args.env.now.items c.loop-rest.env.items c.matches.new.bound.items c.args.x c.in-More.pattern (pattern_of c.pattern.inside.tree) (expr_of c.in-More.e.value) (cases_of c.in-More.next.value) c.args.fuel.now c.loop-rest.fuel _
           c.loop-rest.invariant.same_pool c.loop-rest.invariant.same_env c.loop-rest.invariant.same_fuel c.pattern.view_is known (subst (λ p. IsGrown p last) (sym c.loop-rest.invariant.same_pool) g) is m);
     }
+
+-- what is kept of made terms, where the pool has grown since
+pub step-returns-in-Literal-clause-made : goal.step-returns-in-Literal-clause-made
+step-returns-in-Literal-clause-made t c = made_later _ _ _ _ c.requires.made c.constant.ensures.grown
+
+pub single-returns-clause-made : goal.single-returns-clause-made
+single-returns-clause-made t c = made_later _ _ _ _ c.enter.ensures.made c.applied.ensures.grown
+
+pub binary-returns-clause-made : goal.binary-returns-clause-made
+binary-returns-clause-made t c = made_later _ _ _ _ c.enter-2.ensures.made c.combined.ensures.grown
+
+pub cons-returns-clause-made : goal.cons-returns-clause-made
+cons-returns-clause-made t c = made_later _ _ _ _ c.enter-2.ensures.made c.tree.ensures.grown
+
+pub apply-returns-clause-made : goal.apply-returns-clause-made
+apply-returns-clause-made t c = made_later _ _ _ _ c.row.ensures.made c.tree.ensures.grown
+
+pub step-returns-in-Call-clause-value : goal.step-returns-in-Call-clause-value
+step-returns-in-Call-clause-value t c = λ last g. rw c.in-Call.is (c.call.ensures.value last g)

@@ -4,6 +4,7 @@ use Rattle.sg_pool.specs.Pools.{IsGrown}
 use Rattle.sg_kinds.specs.ExprView.{exprs_of, cases_of}
 use Rattle.sg_kinds.specs.Evaluation.{value_within, row_reached, first_case}
 use Rattle.sg_eval.specs.Lives.{value_in, bound_in, AreUsable}
+use Rattle.sg_eval.specs.MadeTerms.{AreMade}
 use Rattle.sg_eval.proofs.eval.+eval.Given as goal
 
 abbrev pub decreases-enter : goal.decreases-enter
@@ -48,6 +49,7 @@ decreases-row l = 4 * l.room + 1
 -- the values so far, and what is left of the row
 abbrev pub invariant-row-loop-rest : goal.invariant-row-loop-rest
 invariant-row-loop-rest l = record {
+  made : AreMade l.scope.spec.now l.made l.pool;
   same_env : l.env.items ≡ l.initial.env.items;
   grown : IsGrown l.initial.pool l.pool;
   usable : (last : List Value) → IsGrown l.pool last → AreUsable last l.values.items;
@@ -59,6 +61,7 @@ invariant-row-loop-rest l = record {
 -- the cases so far do not match
 abbrev pub invariant-first_match-loop-rest : goal.invariant-first_match-loop-rest
 invariant-first_match-loop-rest l = record {
+  made : AreMade l.scope.spec.now l.made l.pool;
   same_env : l.env.items ≡ l.initial.env.items;
   same_pool : l.pool ≡ l.initial.pool;
   same_fuel : l.fuel ≡ l.initial.fuel;

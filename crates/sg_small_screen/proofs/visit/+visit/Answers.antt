@@ -41,6 +41,7 @@ visit_all-loop-kid-preserved t c =
     let i = c.loop-kid.invariant in
     let o = c.in_ok-one in
     record {
+      made = c.visit.ensures.made;
       grown = grown_twice c.args.pool.now c.loop-kid.pool c.visit.new.pool i.grown o.ensures.grown;
       found = visited_next spec kids c.loop-kid.pool c.visit.new.pool c.loop-kid.found.items c.push.new.self.items c.loop-kid.kid-index c.kid-item.result o.one i.found o.ensures.grown c.loop-kid-test.true c.kid-item.is
           o.ensures.cells o.ensures.slots o.ensures.known c.in_ok-push.ensures.items;

@@ -8,6 +8,7 @@ use Rattle.sg_small_screen.proofs.visit.evaluate.Goals as goal
 
 pub loop-slot-init : goal.loop-slot-init
 loop-slot-init c = record {
+  made = c.requires.made;
   grown = grown_itself c.args.pool.now;
   values = ap (map (value_at c.args.pool.now)) c.in_ok-numbers.ensures.items;
   known = all_none (length c.args.pool.now) c.in_ok-numbers.numbers.items c.in_ok-numbers.ensures.items;
@@ -47,6 +48,7 @@ loop-slot-preserved c =
     let vs = c.evaluate_slot.new.pool in
     let i = c.loop-slot.invariant in
     record {
+      made = c.evaluate_slot.ensures.made;
       grown = grown_twice first us vs i.grown c.evaluate_slot.ensures.grown;
       values = slot_more spec op kids first us vs c.loop-slot.numbers.items c.push.new.self.items c.loop-slot.slot c.in_ok-number.number i.grown c.evaluate_slot.ensures.grown c.requires.known i.known i.values
           c.in_ok-number.ensures.value c.in_ok-push.ensures.items;
