@@ -5,7 +5,14 @@ NAME is a function below, with `-` for `_`. Without a size it takes that of its 
 """
 import sys
 
-TREE = "root t;\nt : T();\n"
+
+def operator(phylum, name, arguments):
+    """An operator, and how its nodes are shown: its arguments beside each other."""
+    places = " ".join(["@"] * len(arguments)) or f'"{name}"'
+    return f"{phylum} : {name}({' '.join(arguments)});\n{phylum} : {name} [ @ : {places} ];\n"
+
+
+TREE = "root t;\n" + operator("t", "T", [])
 
 
 def nonterminals(names):
@@ -71,8 +78,8 @@ def left_chain_back(size=400):
 def statements(size=1000):
     """The shape of C, about so many productions: levels of binary operators over unary and primary expressions, and
     statements, in families of 47."""
-    rows, names, families = [], ["unit", "list"], max(1, (size + 46) // 47)
-    rows += [production("unit", "list"), production("list", "list", "stmt0"), production("list", "stmt0")]
+    rows, names, families = [], ["unit", "items"], max(1, size // 47)
+    rows += [production("unit", "items"), production("items", "items", "stmt0"), production("items", "stmt0")]
     for f in range(families):
         names += [f"stmt{f}", f"args{f}", f"unary{f}", f"primary{f}"]
         stmt, args, unary, primary = f"stmt{f}", f"args{f}", f"unary{f}", f"primary{f}"
@@ -93,7 +100,7 @@ def statements(size=1000):
         rows.append(production(stmt, f"'while{f}'", "'('", top, "')'", stmt))
         rows.append(production(stmt, f"'do{f}'", stmt, f"'while{f}'", "'('", top, "')'", "';'"))
         rows.append(production(stmt, f"'return{f}'", top, "';'"))
-        rows.append(production(stmt, f"'{{{f}'", "list", "'}'"))
+        rows.append(production(stmt, f"'{{{f}'", "items", "'}'"))
         if f + 1 < families:
             rows.append(production(stmt, f"'next{f}'", f"stmt{f + 1}"))
     return grammar(names, rows, "unit")
@@ -106,10 +113,10 @@ def phyla(order, attrs):
     inherited one the synthesized one before: so each dependency goes up the chain, the next comes down, and so on.
     """
     size, half = len(order), attrs // 2
-    text = ["root p;\np : P(q0);\n"]
+    text = ["root p;\n", operator("p", "P", ["q0"])]
     equations = ["q0.i0 = 0;", *(f"q0.i{k} = q0.s{k - 1};" for k in range(1, half))]
     for n in order:
-        text.append(f"q{n} : Q{n}({f'q{n + 1}' if n + 1 < size else ''});\n")
+        text.append(operator(f"q{n}", f"Q{n}", [f"q{n + 1}"] if n + 1 < size else []))
         inherited = " ".join(f"inherited INT i{k};" for k in range(half))
         synthesized = " ".join(f"synthesized INT s{k};" for k in range(half))
         text.append(f"q{n} {{ {inherited} {synthesized} }};\n")
@@ -140,16 +147,17 @@ def phyla_chain_mixed(size=511, attrs=32):
 
 
 def operators(size=200, args=14):
-    """Operators of one phylum with 32 attributes: each has some 500 vertices, and all attributes of an occurrence depend
-    on those of the one before it."""
+    """Operators of one phylum with 32 attributes: each has some 500 vertices, and all attributes of an occurrence
+    depend on those of the one before it."""
     half = 16
     inherited = " ".join(f"inherited INT i{k};" for k in range(half))
     synthesized = " ".join(f"synthesized INT s{k};" for k in range(half))
-    text = ["root p;\np : P(q);\nq : Q();\n", f"q {{ {inherited} {synthesized} }};\n"]
+    text = ["root p;\n", operator("p", "P", ["q"]), operator("q", "Q", [])]
+    text.append(f"q {{ {inherited} {synthesized} }};\n")
     text.append("p : P { " + " ".join(f"q.i{k} = {'0' if k == 0 else f'q.s{k - 1}'};" for k in range(half)) + " };\n")
     text.append("q : Q { " + " ".join(f"$$.s{k} = $$.i{k};" for k in range(half)) + " };\n")
     for n in range(size):
-        text.append(f"q : O{n}({' '.join(['q'] * args)});\n")
+        text.append(operator("q", f"O{n}", ["q"] * args))
         rows = []
         for k in range(half):
             rows += [f"q${at}.i{k} = {'$$.i' if at == 2 else f'q${at - 1}.s'}{k};" for at in range(2, args + 2)]
@@ -161,9 +169,9 @@ def operators(size=200, args=14):
 
 def declarations(size=1 << 20):
     """Functions with long bodies, up to this many bytes."""
-    text = ["root p;\np : P();\np { synthesized INT v; };\np : P { $$.v = f0(1, 2); };\n"]
+    text = ["root p;\n", operator("p", "P", []), "p { synthesized INT v; };\np : P { $$.v = f0(1, 2); };\n"]
     count = 1000
-    room = (size - len(text[0])) // count
+    room = (size - sum(map(len, text))) // count
     for n in range(count):
         head, tail = f"INT f{n}(INT a, INT b) {{ a", " };\n"
         body, k = [], 0

@@ -1,14 +1,14 @@
 #!/usr/bin/env python3
 """times.py PROGRAM [SHAPE..]: prints what `PROGRAM check` takes on each shape, at half of its size and at the whole.
 
-The time is the least of three runs, or of one where that takes over two seconds; the memory is the most that was resident.
+The time is in processor seconds, the least of three runs, or of one where that takes over two; the memory is the most
+that was resident.
 """
 import inspect
 import os
 import subprocess
 import sys
 import tempfile
-import time
 
 import shapes
 
@@ -16,14 +16,13 @@ LIMIT = 120
 
 
 def run(program, file):
-    """Runs the program once, and returns its output, the seconds and the MiB that it took."""
-    began = time.monotonic()
+    """Runs the program once, and returns its output, the processor seconds and the MiB that it took."""
     child = subprocess.Popen(["timeout", str(LIMIT), program, "check", file], stdout=subprocess.PIPE)
     said = child.stdout.read().decode(errors="replace").strip()
     _, status, used = os.wait4(child.pid, 0)
     child.returncode = os.waitstatus_to_exitcode(status)
     said = "stopped" if child.returncode == 124 else said
-    return said, time.monotonic() - began, used.ru_maxrss / 1024
+    return said, used.ru_utime + used.ru_stime, used.ru_maxrss / 1024
 
 
 def measure(program, file):
