@@ -1,0 +1,11 @@
+pub mod Equations
+pub mod Nodes
+pub mod Bearers
+pub mod Ways
+pub mod Closed
+pub mod Stepped
+pub mod Outside
+pub mod Solved
+pub mod Visiting
+pub mod Rows
+pub mod FewVisits

@@ -1,0 +1,4 @@
+pub mod Planned
+pub mod Segments
+pub mod Stepping
+pub mod Reading

@@ -1,0 +1,8 @@
+//! Plans as attribution reads them, and the laws by which it follows them.
+#![tactic(auto)]
+
+pub mod laws;
+mod reading;
+mod vertices;
+
+pub use reading::{readers, steps, visit_count, visit_of};
