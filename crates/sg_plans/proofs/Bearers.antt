@@ -1,7 +1,7 @@
 -- Equations of a term and what they define find each other.
-use Rattle.std.specs.Prelude.{◌≡◌, ℕ, zero, suc, ◌+◌, ◌<◌, Bool, true, false, not, cond, List, [], ◌∷◌, length, Option, None, Some, slice_get, unwrap_or, option_map, Contains}
-use Rattle.std.proofs.Common.{refl, sym, ap, ◌∙◌, subst, arith, inl, inr}
-use Rattle.std.proofs.lemmas.Bool.{false≢true, not_from_true, not_from_false}
+use Rattle.std.specs.Prelude.{◌≡◌, ℕ, zero, suc, Bool, true, false, not, cond, [], ◌∷◌, Option, None, Some, slice_get, unwrap_or, option_map}
+use Rattle.std.proofs.Common.{refl, sym, ap, ◌∙◌, subst, inl, inr}
+use Rattle.std.proofs.lemmas.Bool.{false≢true}
 use Rattle.std.proofs.lemmas.List.Elements.{All-contains}
 use Rattle.std.proofs.lemmas.Option.{none-some}
 use Rattle.sg_kinds.specs.declared.spec.Spec.{Spec}
@@ -9,14 +9,14 @@ use Rattle.sg_kinds.specs.declared.spec.Rules.{Rules}
 use Rattle.sg_kinds.specs.declared.spec.Rule.{Rule}
 use Rattle.sg_kinds.specs.declared.spec.Occurrence.{Occurrence}
 use Rattle.sg_kinds.specs.Values.{Value}
-use Rattle.sg_kinds.specs.Terms.{Term, Leaf}
+use Rattle.sg_kinds.specs.Terms.{Term}
 use Rattle.sg_kinds.specs.Fits.{Fits}
 use Rattle.sg_kinds.specs.Sound.{IsSound}
-use Rattle.sg_kinds.specs.Specification.{args_of, phylum_of, is_inherited, rules_of}
+use Rattle.sg_kinds.specs.Specification.{args_of, is_inherited, rules_of}
 use Rattle.sg_kinds.specs.Places.{Place, sub}
-use Rattle.sg_kinds.specs.Nets.{Net, Reference, NodeLabel, Operation, Holding, phylum_at, referred, label_of, net_of}
+use Rattle.sg_kinds.specs.Nets.{Net, Reference, Operation, Holding, phylum_at, referred, label_of, net_of}
 use Rattle.sg_kinds.specs.Instances.{Site, rule_for, rule_under, site_at, site_above, is_inherited_at, site_of}
-use Rattle.sg_kinds.specs.Dependencies.{phylum_there, occurrence}
+use Rattle.sg_kinds.specs.Dependencies.{occurrence}
 use Rattle.sg_kinds.specs.Keys.{operation, operator_in}
 use Rattle.sg_orders.specs.LiveSites.{IsLive}
 use Rattle.sg_orders.specs.Proper.{is_inherited_there, is_owed, IsOwed, AreProper}
@@ -25,7 +25,7 @@ use Rattle.sg_orders.proofs.KeysFall.{IsSiteAt, site_found}
 use Rattle.sg_orders.proofs.SoundRules.{sound_range, sound_proper}
 use Rattle.sg_plans.specs.Segments.{bearer}
 use Rattle.sg_plans.proofs.Equations.{rule_is, owed_rule, leaf_inherits_nothing}
-use Rattle.sg_plans.proofs.Nodes.{IsNodeAt, IsNode, node_label, not_held, leaf_fits, leaf_or_node, fitting_phylum, node_at}
+use Rattle.sg_plans.proofs.Nodes.{IsNodeAt, node_label, not_held, leaf_fits, leaf_or_node, fitting_phylum, node_at}
 
 -- an equation that is found bears what it is found for
 pub record IsFound (rules : Rules) (t : Term) (a : Reference Place) (i : Site Place) : Type 0 where
@@ -93,7 +93,7 @@ module _ (spec : Spec) (t : Term) (root : ℕ) (sound : IsSound spec) (fits : Fi
       by : (k slot : ℕ) → is_owed rules (operator_in t u) k slot ≡ true → site_at rules.rules net u (occurrence k slot) ≡ Some (record { node = u; rule = r }) → site_of rules net (referred net u (occurrence k slot)) ≡ Some (record { node = u; rule = r })
       by zero slot own at =
           let no : is_inherited_at rules net (record { node = u; slot = slot }) ≡ false =
-              ap (λ l. unwrap_or (option_map (λ p. is_inherited rules.phyla p slot) (phylum_at rules.ops l)) false) is ∙ not_true (is_inherited_there rules (operator_in t u) 0 slot) own in
+          ap (λ l. unwrap_or (option_map (λ p. is_inherited rules.phyla p slot) (phylum_at rules.ops l)) false) is ∙ not_true (is_inherited_there rules (operator_in t u) 0 slot) own in
           ap (λ b. cond b (site_above rules.rules net slot (net.up u)) (site_at rules.rules net u (occurrence 0 slot))) no ∙ at
         where
           not_true : (b : Bool) → not b ≡ true → b ≡ false

@@ -1,17 +1,16 @@
 -- What an equation names is a leaf's, or inherited, or stands before it in the plan of each node on the way up.
-use Rattle.std.specs.Prelude.{◌≡◌, ℕ, zero, suc, ◌+◌, ◌<◌, ◌≤◌, ◌⊎◌, Bool, true, false, not, List, [], ◌∷◌, ◌++◌, length, Option, Some, slice_get, slice_index, unwrap_or, option_map, All, Contains}
-use Rattle.std.proofs.Common.{refl, sym, ap, ◌∙◌, subst, get_or, arith, inl, inr, append_assoc}
+use Rattle.std.specs.Prelude.{◌≡◌, ℕ, zero, suc, ◌<◌, ◌≤◌, ◌⊎◌, Bool, true, false, not, List, [], ◌∷◌, ◌++◌, Some, slice_get, slice_index, unwrap_or, option_map, All, Contains}
+use Rattle.std.proofs.Common.{refl, sym, ap, ◌∙◌, subst, arith, inl, inr, append_assoc}
 use Rattle.std.proofs.lemmas.List.Elements.{All-contains}
-use Rattle.std.proofs.lemmas.Option.{same_Some}
 use Rattle.sg_kinds.specs.declared.spec.Spec.{Spec}
 use Rattle.sg_kinds.specs.declared.spec.Rules.{Rules}
 use Rattle.sg_kinds.specs.declared.spec.Rule.{Rule}
 use Rattle.sg_kinds.specs.declared.spec.Occurrence.{Occurrence}
 use Rattle.sg_kinds.specs.Terms.{Term}
 use Rattle.sg_kinds.specs.Specification.{args_of, phylum_of, is_inherited, rules_of}
-use Rattle.sg_kinds.specs.Places.{Place, sub}
-use Rattle.sg_kinds.specs.Nets.{Net, Reference, Operation, phylum_at, referred, label_of, net_of}
-use Rattle.sg_kinds.specs.Instances.{Site, attr_count, site_of}
+use Rattle.sg_kinds.specs.Places.{Place}
+use Rattle.sg_kinds.specs.Nets.{Net, Reference, phylum_at, referred, net_of}
+use Rattle.sg_kinds.specs.Instances.{Site, site_of}
 use Rattle.sg_kinds.specs.Dependencies.{IsAttr, phylum_there, occurrence}
 use Rattle.sg_kinds.specs.Keys.{operation, operator_in}
 use Rattle.sg_kinds.specs.declared.plans.Plans.{Plans}
@@ -27,9 +26,9 @@ use Rattle.sg_orders.proofs.Sound.{attr_vertex}
 use Rattle.sg_orders.proofs.ValidFacts.{valid_timed}
 use Rattle.sg_plans.specs.Planned.{IsPlanned}
 use Rattle.sg_plans.specs.Segments.{position_at, visit_at, position_of, IsOfVisit, IsGivenBy, IsTaken, IsLeafSlot}
-use Rattle.sg_plans.proofs.Bearers.{ranges, owed_site, live_node, live_op, IsOwnSite}
-use Rattle.sg_plans.proofs.Nodes.{IsNodeAt, IsNode, leaf_or_node, node_at, below_at, fitting_phylum, node_on_way}
-use Rattle.sg_plans.proofs.Ways.{position_joins, positions_rise, visits_rise, visit_low, visit_high}
+use Rattle.sg_plans.proofs.Bearers.{ranges, owed_site, live_node, live_op}
+use Rattle.sg_plans.proofs.Nodes.{IsNodeAt, IsNode, leaf_or_node, node_at, below_at, node_on_way}
+use Rattle.sg_plans.proofs.Ways.{position_joins, positions_rise, visits_rise, visit_low}
 
 -- a reference whose equation stands before position q in the plan of the node at u
 pub record IsBefore (rules : Rules) (plans : Plans) (t : Term) (u : Place) (q : ℕ) (a : Reference Place) : Type 0 where

@@ -1,10 +1,10 @@
 -- What a sound specification's equations are: each that is owed is there, once, and leaves have none.
-use Rattle.std.specs.Prelude.{◌≡◌, ℕ, zero, suc, ◌+◌, ◌<◌, ◌≤◌, ◌&&◌, Bool, true, false, not, nat_eq, cond, List, [], ◌∷◌, length, map, filter, find, count_by, Option, None, Some, slice_get, option_map, unwrap_or, is_some, Contains}
+use Rattle.std.specs.Prelude.{◌≡◌, ℕ, zero, suc, ◌+◌, ◌<◌, ◌≤◌, ◌&&◌, Bool, true, false, not, nat_eq, cond, List, [], ◌∷◌, length, map, find, count_by, Option, None, Some, slice_get, option_map, unwrap_or, is_some, Contains}
 use Rattle.std.proofs.Common.{refl, sym, ap, ◌∙◌, subst, get_or, arith, inl, inr, length-append}
 use Rattle.std.proofs.lemmas.Bool.{cases_order, false≢true, and_from, and_parts, eq-eqb, eqb-true, false_from_ne_true}
 use Rattle.std.proofs.lemmas.List.{length-map, get_or_default}
 use Rattle.std.proofs.lemmas.List.Sums.{sum_by-cons}
-use Rattle.std.proofs.lemmas.Option.{same_Some, slice_get-get_or}
+use Rattle.std.proofs.lemmas.Option.{slice_get-get_or}
 use Rattle.sg_kinds.specs.declared.marks.Shape.TheVariants.{Truths, Numbers, Texts, Lexemes, Ordinary, Optional, Listed, OptionalListed}
 use Rattle.sg_kinds.specs.declared.spec.Rules.{Rules}
 use Rattle.sg_kinds.specs.declared.spec.Rule.{Rule}
@@ -20,7 +20,7 @@ use Rattle.sg_kinds.specs.Dependencies.{phylum_there, occurrence}
 use Rattle.sg_kinds.specs.Sound as sound
 use Rattle.sg_kinds.specs.Sound.{HasShapes, HasRules, IsValue, IsShaped, is_operator_of, operators_of}
 use Rattle.sg_kinds.specs.Typing.{attr_types, slots_there, slot_type}
-use Rattle.sg_orders.specs.Proper.{is_inherited_there, is_owed, AreApart, AreProper}
+use Rattle.sg_orders.specs.Proper.{is_owed, AreApart, AreProper}
 use Rattle.sg_orders.specs.Vertices.{IsVertex, locals_there}
 use Rattle.sg_orders.proofs.Below.{length-below, get_or-below}
 use Rattle.sg_orders.proofs.Directs.{op_there}

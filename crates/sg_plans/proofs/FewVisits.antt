@@ -1,6 +1,6 @@
 -- A phylum has at most one visit more than it has attributes, since each but the last gives one.
 use Rattle.std.specs.Prelude.{◌≡◌, ◌≢◌, ℕ, zero, suc, ◌+◌, ◌-◌, ◌<◌, ◌≤◌, ◌^◌, List, [], ◌∷◌, length, Option, None, Some, slice_index, All, AllPairs, MatchOption}
-use Rattle.std.proofs.Common.{refl, sym, ap, ◌∙◌, subst, get_or, arith}
+use Rattle.std.proofs.Common.{refl, ap, subst, get_or, arith}
 use Rattle.sg_kinds.specs.declared.plans.Plans.{Plans}
 use Rattle.sg_kinds.specs.declared.spec.Rules.{Rules}
 use Rattle.sg_kinds.specs.Specification.{attrs_of, phylum_of}
@@ -42,12 +42,12 @@ module _ (rules : Rules) (X : ℕ) (layer : ℕ → ℕ) (plans : Plans) (are : 
           let all = chosen n (omega (arith, is)) in
           let count = all.count in
           let apart : AllPairs ◌≢◌ all.attrs = λ i j d less low same.
-              let one = all.given i d (omega (arith, less, low, count)) in
-              let other = all.given j d (omega (arith, low, count)) in
-              let v = one.visit in
-              let w = other.visit in
-              let e = ap (slice_index (row_at plans.visits X)) same in
-              omega (arith, v, w, e, less, low, count) in
+          let one = all.given i d (omega (arith, less, low, count)) in
+          let other = all.given j d (omega (arith, low, count)) in
+          let v = one.visit in
+          let w = other.visit in
+          let e = ap (slice_index (row_at plans.visits X)) same in
+          omega (arith, v, w, e, less, low, count) in
           let low : All (λ a. a < length (attrs_of rules.phyla X)) all.attrs = λ k d under. (all.given k d (omega (arith, under, count))).there in
           let few = distinct_few (length (attrs_of rules.phyla X)) all.attrs apart low in
           omega (arith, few, count, is)

@@ -1,7 +1,6 @@
 -- The nodes of a fitting term, their children and what is above them.
 use Rattle.std.specs.Prelude.{◌≡◌, ℕ, zero, suc, ◌<◌, ◌⊎◌, Bool, true, false, List, [], ◌∷◌, ◌++◌, length, Option, None, Some, slice_get, unwrap_or, option_map, option_and_then, MatchOption}
 use Rattle.std.proofs.Common.{refl, sym, ap, ◌∙◌, subst, inl, inr}
-use Rattle.std.proofs.lemmas.Bool.{false≢true}
 use Rattle.std.proofs.lemmas.Option.{none-some, same_Some, slice_get_within}
 use Rattle.sg_kinds.specs.declared.marks.Shape.TheVariants.{Truths, Numbers, Texts, Lexemes, Ordinary, Optional, Listed, OptionalListed}
 use Rattle.sg_kinds.specs.declared.spec.Spec.{Spec}
@@ -13,7 +12,7 @@ use Rattle.sg_kinds.specs.Fits.{MayHold, Fits, AllFit}
 use Rattle.sg_kinds.specs.declared.marks.Shape.{Shape}
 use Rattle.sg_kinds.specs.Specification.{args_of, phylum_of, has_shape, is_leaf_shape}
 use Rattle.sg_kinds.specs.Places.{Place, child, sub}
-use Rattle.sg_kinds.specs.Nets.{NodeLabel, Operation, Holding, Missing, phylum_at, label_of}
+use Rattle.sg_kinds.specs.Nets.{Operation, Holding, Missing, phylum_at, label_of}
 use Rattle.sg_kinds.specs.Keys.{operation, operator_in}
 pub use Rattle.sg_plans.specs.Segments.{IsNodeAt}
 

@@ -1,6 +1,6 @@
 -- What is put at a place changes no node outside it.
 use Rattle.std.specs.Prelude.{◌≡◌, ℕ, zero, suc, ◌⊎◌, List, [], ◌∷◌, ◌++◌, Option, None, Some, slice_get, option_and_then}
-use Rattle.std.proofs.Common.{refl, sym, ap, ◌∙◌, subst, arith, inl, inr, append_assoc}
+use Rattle.std.proofs.Common.{refl, sym, ap, ◌∙◌, arith, inl, inr, append_assoc}
 use Rattle.std.proofs.lemmas.Bool.{cases_order}
 use Rattle.std.proofs.lemmas.List.{append-nil}
 use Rattle.sg_kinds.specs.declared.spec.Rules.{Rules}
@@ -63,9 +63,9 @@ inside_or_same t (k ∷ u) s v = by (sub t u) refl (λ x. inside_or_same t u x v
         let split = last_of h w in
         let below : v ≡ (split.0 ++ split.1 ∷ []) ++ u = is ∙ ap (λ xs. xs ++ u) split.2 in
         let other : (split.1 ≡ k → ⊥) → label_of (sub (put t u (with_child n k s)) v) ≡ label_of (sub t v) = λ no.
-            ap (λ x. label_of (sub (put t u (with_child n k s)) x)) below
-            ∙ ap label_of (sub_put_inside t u (split.0 ++ split.1 ∷ []) n (with_child n k s) at ∙ below_stays n k split.1 split.0 s no ∙ sym (sub_within t u (split.0 ++ split.1 ∷ []) n at))
-            ∙ ap (λ x. label_of (sub t x)) (sym below) in
+        ap (λ x. label_of (sub (put t u (with_child n k s)) x)) below
+        ∙ ap label_of (sub_put_inside t u (split.0 ++ split.1 ∷ []) n (with_child n k s) at ∙ below_stays n k split.1 split.0 s no ∙ sym (sub_within t u (split.0 ++ split.1 ∷ []) n at))
+        ∙ ap (λ x. label_of (sub t x)) (sym below) in
         elim (cases_order split.1 k) [
           | inl same ↦ inl (split.0, below ∙ append_assoc split.0 (split.1 ∷ []) u ∙ ap (λ l. split.0 ++ l ∷ u) same)
           | inr (inl less) ↦ inr (other (λ e. omega (arith, less, e)))

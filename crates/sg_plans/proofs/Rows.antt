@@ -1,7 +1,7 @@
 -- What the readers of plans read.
-use Rattle.std.specs.Prelude.{◌≡◌, ◌↔◌, ℕ, zero, suc, ◌<◌, ◌≤◌, ◌^◌, ◌&&◌, Bool, true, false, max, cond, nat_eq, List, [], ◌∷◌, length, map, find, Option, None, Some, slice_get, option_map, unwrap_or, is_some, All, Contains}
-use Rattle.std.proofs.Common.{refl, sym, ap, ◌∙◌, subst, get_or, arith, inl, inr}
-use Rattle.std.proofs.lemmas.Bool.{false≢true, and_parts, and_from, eq-eqb, eqb-true, cases_lt}
+use Rattle.std.specs.Prelude.{◌≡◌, ◌↔◌, ℕ, suc, ◌<◌, Bool, true, false, cond, nat_eq, List, [], ◌∷◌, length, map, find, Option, None, Some, slice_get, option_map, unwrap_or, is_some, All, Contains}
+use Rattle.std.proofs.Common.{refl, sym, ap, ◌∙◌, subst, get_or, arith}
+use Rattle.std.proofs.lemmas.Bool.{false≢true, and_parts, and_from, eq-eqb, eqb-true}
 use Rattle.std.proofs.lemmas.List.Elements.{All-contains, filter_passes}
 use Rattle.std.proofs.lemmas.Option.{none-some, same_Some, slice_get_within, get_or_from_slice_get}
 use Rattle.sg_kinds.specs.declared.plans.Plans.{Plans}
@@ -10,10 +10,10 @@ use Rattle.sg_kinds.specs.declared.spec.Rule.{Rule}
 use Rattle.sg_kinds.specs.declared.spec.Occurrence.{Occurrence}
 use Rattle.sg_kinds.specs.Instances.{below}
 use Rattle.sg_kinds.specs.ValidPlans.{AreValid, vertices, names, readers_of}
-use Rattle.sg_kinds.specs.Visits.{row_at, vertex, greatest}
+use Rattle.sg_kinds.specs.Visits.{row_at, vertex}
 use Rattle.sg_kinds.proofs.Elementary.{some_there, slice_get-Contains}
 use Rattle.sg_orders.specs.Vertices.{IsVertex, AreInRange}
-use Rattle.sg_orders.proofs.Below.{length-below, get_or-below, length-map-below, get_or-map-below}
+use Rattle.sg_orders.proofs.Below.{length-below, get_or-below, get_or-map-below}
 use Rattle.sg_orders.proofs.Numbers.{same_vertex}
 use Rattle.sg_orders.proofs.Seating.{filter_has}
 use Rattle.sg_orders.proofs.Sought.{found_at}
@@ -83,5 +83,5 @@ module _ (rules : Rules) (ranges : AreInRange rules) (op : ℕ) (o : Occurrence)
         let all = below (length rules.rules) in
         let at : get_or all r 0 ≡ r = get_or-below (length rules.rules) r 0 low in
         let found = filter_has test all r 0 (omega (arith, low, length-below (length rules.rules))) (ap test at ∙ reader_to r is) in
-        (found.0, found.1, found.2 r ∙ at)
+        (found.0, found.1, found.2 r ∙ at),
   )

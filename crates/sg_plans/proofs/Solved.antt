@@ -1,6 +1,6 @@
 -- From-scratch values solve the equations of a term, and the visits of its root give all of them.
-use Rattle.std.specs.Prelude.{◌≡◌, ℕ, ◌≤◌, true, false, List, [], length, map, slice_get, Option, None, Some, option_map, unwrap_or, All, MatchOption}
-use Rattle.std.proofs.Common.{refl, sym, ap, ◌∙◌, subst}
+use Rattle.std.specs.Prelude.{◌≡◌, ℕ, ◌≤◌, false, List, [], length, map, slice_get, Option, None, Some, option_map, unwrap_or, All, MatchOption}
+use Rattle.std.proofs.Common.{refl, sym, ap, ◌∙◌}
 use Rattle.std.proofs.lemmas.Bool.{false≢true}
 use Rattle.std.proofs.lemmas.List.{append-nil}
 use Rattle.std.proofs.lemmas.Option.{same_Some}
@@ -12,9 +12,9 @@ use Rattle.sg_kinds.specs.Values.{Value}
 use Rattle.sg_kinds.specs.Terms.{Term}
 use Rattle.sg_kinds.specs.Fits.{Fits}
 use Rattle.sg_kinds.specs.Sound.{IsSound}
-use Rattle.sg_kinds.specs.Specification.{attrs_of, is_inherited, is_way_inherited, rules_of}
+use Rattle.sg_kinds.specs.Specification.{is_inherited, is_way_inherited, rules_of}
 use Rattle.sg_kinds.specs.Places.{Place, sub}
-use Rattle.sg_kinds.specs.Nets.{Reference, NodeLabel, Operation, Holding, Missing, phylum_at, label_of, net_of}
+use Rattle.sg_kinds.specs.Nets.{Reference, NodeLabel, Operation, Holding, Missing, label_of, net_of}
 use Rattle.sg_kinds.specs.Instances.{Site, args_at, site_of}
 use Rattle.sg_kinds.specs.FromScratch.{leaf_or, site_value, value_in}
 use Rattle.sg_kinds.specs.Outcome.{outcome}
@@ -47,11 +47,14 @@ module _ (spec : Spec) (plans : Plans) (t : Term) (planned : IsPlanned spec plan
 
   -- each instance is of a visit of the root
   pub root_gives : (a : Reference Place) (i : Site Place) → site_of (rules_of spec) (net_of t) a ≡ Some i → (j : ℕ) × IsGivenBy (rules_of spec) plans t [] j a
-  root_gives a i is = (visit_at (rules_of spec) plans t i.node [] (position_of (rules_of spec) plans i), record {
-    site = i;
-    found = is;
-    of_visit = record { live = (found (rules_of spec) t a i is).live; way = i.node; below = sym (append-nil i.node); visit = refl };
-  })
+  root_gives a i is = (
+    visit_at (rules_of spec) plans t i.node [] (position_of (rules_of spec) plans i),
+    record {
+      site = i;
+      found = is;
+      of_visit = record { live = (found (rules_of spec) t a i is).live; way = i.node; below = sym (append-nil i.node); visit = refl };
+    },
+  )
 
 -- the root takes nothing where its phylum has no inherited attribute, as the specification's root has none
 pub root_takes_nothing : (spec : Spec) (plans : Plans) (t : Term) (X : ℕ) → Fits spec t X → ((slot : ℕ) → is_inherited spec.phyla X slot ≡ false) → (j : ℕ) (a : Reference Place) → IsTaken (rules_of spec) plans t [] j a → ⊥

@@ -1,5 +1,5 @@
 -- The steps of a visit: what they evaluate, and what is there as each begins.
-use Rattle.std.specs.Prelude.{◌≡◌, ℕ, suc, ◌-◌, ◌<◌, ◌≤◌, ◌⊎◌, List, [], ◌∷◌, ◌++◌, length, Option, None, Some, slice_get, unwrap_or, false, MatchOption, Contains}
+use Rattle.std.specs.Prelude.{◌≡◌, ℕ, suc, ◌-◌, ◌<◌, ◌≤◌, List, [], ◌∷◌, ◌++◌, length, Some, slice_get, unwrap_or, MatchOption, Contains}
 use Rattle.std.proofs.Common.{refl, sym, ap, ◌∙◌, subst, arith, inl, inr, append_assoc}
 use Rattle.std.proofs.lemmas.Bool.{cases_lt, cases_order, false≢true}
 use Rattle.std.proofs.lemmas.Option.{none-some, same_Some, slice_get-get_or, slice_get_past, slice_get_within, get_or_from_slice_get}
@@ -10,11 +10,11 @@ use Rattle.sg_kinds.specs.declared.spec.Rules.{Rules}
 use Rattle.sg_kinds.specs.declared.spec.Rule.{Rule}
 use Rattle.sg_kinds.specs.declared.spec.Occurrence.{Occurrence}
 use Rattle.sg_kinds.specs.Terms.{Term}
-use Rattle.sg_kinds.specs.Specification.{args_of, phylum_of, has_shape, is_leaf_shape, rules_of}
+use Rattle.sg_kinds.specs.Specification.{args_of, phylum_of, rules_of}
 use Rattle.sg_kinds.specs.Fits.{Fits}
 use Rattle.sg_kinds.specs.Places.{Place, sub}
 use Rattle.sg_kinds.specs.Nets.{Net, Reference, Operation, referred, label_of, net_of}
-use Rattle.sg_kinds.specs.Instances.{Site, site_of}
+use Rattle.sg_kinds.specs.Instances.{Site}
 use Rattle.sg_kinds.specs.Keys.{operation, operator_in}
 use Rattle.sg_kinds.specs.ValidPlans.{IsStepAt, AreStepsOf}
 use Rattle.sg_kinds.specs.declared.plans.Plans.{Plans}
@@ -22,16 +22,16 @@ use Rattle.sg_kinds.specs.Visits.{row_at, belongs, seat, position_in, visit_coun
 use Rattle.sg_kinds.proofs.Elementary.{slice_get-Contains}
 use Rattle.sg_orders.specs.LiveSites.{IsLive}
 use Rattle.sg_orders.specs.Vertices.{AreInRange}
-use Rattle.sg_orders.proofs.StepFacts.{IsEvalAt, IsVisitAt, eval_at, visit_at, step_of_eval, step_of_visit, one_position}
+use Rattle.sg_orders.proofs.StepFacts.{IsVisitAt, eval_at, visit_at, step_of_eval, step_of_visit, one_position}
 use Rattle.sg_plans.specs.Planned.{IsPlanned}
 use Rattle.sg_plans.specs.Segments as segments
 use Rattle.sg_plans.specs.Segments.{position_at, position_of, IsOfVisit, IsGivenBy, IsTaken}
-use Rattle.sg_plans.specs.Stepping.{steps_of, IsOfStep, IsGivenBefore, IsReady, leaf, taken, earlier, before}
+use Rattle.sg_plans.specs.Stepping.{steps_of, IsOfStep, IsReady, leaf, taken, earlier, before}
 use Rattle.sg_plans.proofs.Bearers.{ranges, live_node}
 use Rattle.sg_plans.proofs.Closed as named
 use Rattle.sg_plans.proofs.Closed.{IsNamed, IsBefore, given_from, taken_before, given_before}
 use Rattle.sg_plans.proofs.Equations.{no_leaf_operator}
-use Rattle.sg_plans.proofs.Nodes.{IsNodeAt, IsNode, node_label, leaf_fits, leaf_or_node, node_at, below_at, node_on_way}
+use Rattle.sg_plans.proofs.Nodes.{IsNodeAt, IsNode, leaf_fits, leaf_or_node, node_at, below_at, node_on_way}
 use Rattle.sg_plans.proofs.Ways.{position_joins, one_way, visits_rise, visit_low, visit_high}
 
 -- the last step of a way down is its first from above

@@ -31,7 +31,8 @@ pub record IsGivenBefore (rules : Rules) (plans : Plans) (t : Term) (u : Place) 
   pub found : site_of rules (net_of t) a ≡ Some site
   pub of_step : IsOfStep rules plans t u step site
 
--- what is there as step m of visit j of the node at u begins: leaves, what the visit takes, and what was given by earlier visits of the node or earlier steps
+-- what is there as step m of visit j of the node at u begins: leaves' slots, what the visit takes, and what earlier visits
+-- or steps gave
 pub data IsReady (rules : Rules) (plans : Plans) (t : Term) (u : Place) (j m : ℕ) (a : Reference Place) : Type 0 where
   leaf : IsLeafSlot t a → IsReady rules plans t u j m a
   taken : IsTaken rules plans t u j a → IsReady rules plans t u j m a

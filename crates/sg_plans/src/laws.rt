@@ -24,8 +24,8 @@ ghost use Rattle.sg_plans.specs.Planned.{IsPlanned};
 ghost use Rattle.sg_plans.specs.Segments.{HasVisit, IsGivenBy, IsLeafSlot, IsNodeAt, IsOfVisit, IsOutside, IsTaken, bearer, visit_at};
 ghost use Rattle.sg_plans.specs.Stepping.{IsGivenBefore, IsOfStep, IsReady, steps_of};
 
-/// An equation of a term is what is found for the reference that it defines, which is no leaf's slot, and what is found for a
-/// reference is an equation of the term that defines it.
+/// An equation of a term is what is found for the reference that it defines, which is no leaf's slot, and what is
+/// found for a reference is an equation of the term that defines it.
 #[tactic(auto, using(crate::proofs::Bearers::bearer_found, crate::proofs::Bearers::bearer_no_leaf, crate::proofs::Bearers::found_bears))]
 pub fn bearers()
     ensures found { (spec : Spec) (t : Term) (root : ℕ) → IsSound spec → Fits spec t root → (i : Site Place) →
@@ -43,7 +43,8 @@ pub fn solves()
     ensures equation { (spec : Spec) (plans : Plans) (t : Term) → IsPlanned spec plans t → (i : Site Place) →
         IsLive (rules_of spec) t i →
         value_in spec t (bearer t i) ≡ outcome spec i.rule (map (value_in spec t) (args_at (net_of t) i)) }
-    ensures leaf { (spec : Spec) (plans : Plans) (t : Term) → IsPlanned spec plans t → (a : Reference Place) (p : ℕ) (v : Value) →
+    ensures leaf { (spec : Spec) (plans : Plans) (t : Term) → IsPlanned spec plans t →
+        (a : Reference Place) (p : ℕ) (v : Value) →
         label_of (sub t a.node) ≡ Holding p v → value_in spec t a ≡ v }
 {}
 
@@ -53,39 +54,46 @@ pub fn one_visit()
         IsLive rules t i → i.node ≡ w ++ u → (j : ℕ) × IsOfVisit rules plans t u j i }
     ensures one { (rules : Rules) (plans : Plans) (t : Term) (u : Place) (j k : ℕ) (i : Site Place) →
         IsOfVisit rules plans t u j i → IsOfVisit rules plans t u k i → j ≡ k }
-    ensures there { (spec : Spec) (plans : Plans) (t : Term) → IsPlanned spec plans t → (u : Place) (j : ℕ) (i : Site Place) →
+    ensures there { (spec : Spec) (plans : Plans) (t : Term) → IsPlanned spec plans t →
+        (u : Place) (j : ℕ) (i : Site Place) →
         IsOfVisit (rules_of spec) plans t u j i → HasVisit (rules_of spec) plans t u j }
 {}
 
 /// The visits of a node never fall as positions of a node at it or below it rise.
 #[tactic(auto, using(crate::proofs::Visiting::visits_rise))]
 pub fn visits_rise()
-    ensures { (spec : Spec) (plans : Plans) (t : Term) → IsPlanned spec plans t → (w u : Place) → IsNodeAt t (w ++ u) →
+    ensures { (spec : Spec) (plans : Plans) (t : Term) → IsPlanned spec plans t →
+        (w u : Place) → IsNodeAt t (w ++ u) →
         (q r : ℕ) → q ≤ r → visit_at (rules_of spec) plans t w u q ≤ visit_at (rules_of spec) plans t w u r }
 {}
 
 /// What an equation of a visit names is a leaf's slot, or the visit takes it, or it or an earlier one gives it.
 #[tactic(auto, using(crate::proofs::Closed::closed))]
 pub fn visits_are_closed()
-    ensures { (spec : Spec) (plans : Plans) (t : Term) → IsPlanned spec plans t → (u : Place) (j : ℕ) (i : Site Place) →
+    ensures { (spec : Spec) (plans : Plans) (t : Term) → IsPlanned spec plans t →
+        (u : Place) (j : ℕ) (i : Site Place) →
         IsOfVisit (rules_of spec) plans t u j i → (o : Occurrence) → Contains i.rule.args o →
-        IsLeafSlot t (referred (net_of t) i.node o) ⊎ IsTaken (rules_of spec) plans t u j (referred (net_of t) i.node o) ⊎
+        IsLeafSlot t (referred (net_of t) i.node o) ⊎
+        IsTaken (rules_of spec) plans t u j (referred (net_of t) i.node o) ⊎
         ((h : ℕ) × (h ≤ j) × IsGivenBy (rules_of spec) plans t u h (referred (net_of t) i.node o)) }
 {}
 
-/// The steps of a visit evaluate exactly its equations, each in one step. A step evaluates an equation of the node's operator,
-/// or a visit that a child has.
+/// The steps of a visit evaluate exactly its equations, each in one step. A step evaluates an equation of the node's
+/// operator, or a visit that a child has.
 #[tactic(auto, using(crate::proofs::Visiting::step_some, crate::proofs::Visiting::step_row, crate::proofs::Visiting::step_child))]
 pub fn steps_are_exact()
-    ensures some { (spec : Spec) (plans : Plans) (t : Term) → IsPlanned spec plans t → (u : Place) (j : ℕ) (i : Site Place) →
+    ensures some { (spec : Spec) (plans : Plans) (t : Term) → IsPlanned spec plans t →
+        (u : Place) (j : ℕ) (i : Site Place) →
         IsOfVisit (rules_of spec) plans t u j i → (m : ℕ) × (s : PlanStep) ×
         (slice_get (steps_of plans (operator_in t u) j) m ≡ Some s) × IsOfStep (rules_of spec) plans t u s i }
     ensures row { (spec : Spec) (plans : Plans) (t : Term) → IsPlanned spec plans t → (u : Place) (j : ℕ) →
         HasVisit (rules_of spec) plans t u j → j - 1 < length (row_at plans.steps (operator_in t u)) }
-    ensures within { (spec : Spec) (plans : Plans) (t : Term) → IsPlanned spec plans t → (u : Place) (j m : ℕ) (s : PlanStep) →
+    ensures within { (spec : Spec) (plans : Plans) (t : Term) → IsPlanned spec plans t →
+        (u : Place) (j m : ℕ) (s : PlanStep) →
         HasVisit (rules_of spec) plans t u j → slice_get (steps_of plans (operator_in t u) j) m ≡ Some s →
         (i : Site Place) → IsOfStep (rules_of spec) plans t u s i → IsOfVisit (rules_of spec) plans t u j i }
-    ensures once { (spec : Spec) (plans : Plans) (t : Term) → IsPlanned spec plans t → (u : Place) (j m n : ℕ) (s r : PlanStep) →
+    ensures once { (spec : Spec) (plans : Plans) (t : Term) → IsPlanned spec plans t →
+        (u : Place) (j m n : ℕ) (s r : PlanStep) →
         HasVisit (rules_of spec) plans t u j → slice_get (steps_of plans (operator_in t u) j) m ≡ Some s →
         slice_get (steps_of plans (operator_in t u) j) n ≡ Some r → (i : Site Place) →
         IsOfStep (rules_of spec) plans t u s i → IsOfStep (rules_of spec) plans t u r i → m ≡ n }
@@ -97,8 +105,8 @@ pub fn steps_are_exact()
         HasVisit (rules_of spec) plans t (k ∷ u) i }
 {}
 
-/// The first steps of a visit give what the first of them gave and what the next one gives, and all of them what the visit
-/// gives.
+/// The first steps of a visit give what the first of them gave and what the next one gives, and all of them what the
+/// visit gives.
 pub fn steps_give()
     ensures nothing { (rules : Rules) (plans : Plans) (t : Term) (u : Place) (j : ℕ) (a : Reference Place) →
         IsGivenBefore rules plans t u j 0 a → ⊥ }
@@ -106,7 +114,8 @@ pub fn steps_give()
         slice_get (steps_of plans (operator_in t u) j) m ≡ Some s → (a : Reference Place) →
         IsGivenBefore rules plans t u j (m + 1) a → IsGivenBefore rules plans t u j m a ⊎
         ((i : Site Place) × (site_of rules (net_of t) a ≡ Some i) × IsOfStep rules plans t u s i) }
-    ensures all { (spec : Spec) (plans : Plans) (t : Term) → IsPlanned spec plans t → (u : Place) (j : ℕ) (a : Reference Place) →
+    ensures all { (spec : Spec) (plans : Plans) (t : Term) → IsPlanned spec plans t →
+        (u : Place) (j : ℕ) (a : Reference Place) →
         IsGivenBy (rules_of spec) plans t u j a →
         IsGivenBefore (rules_of spec) plans t u j (length (steps_of plans (operator_in t u) j)) a }
     ensures only { (spec : Spec) (plans : Plans) (t : Term) → IsPlanned spec plans t → (u : Place) (j m : ℕ) →
@@ -114,8 +123,8 @@ pub fn steps_give()
         IsGivenBefore (rules_of spec) plans t u j m a → IsGivenBy (rules_of spec) plans t u j a }
 {}
 
-/// As a step of a visit begins, what it needs is there: each argument of its equation, or what the child's visit takes and
-/// what the child's visits before it gave.
+/// As a step of a visit begins, what it needs is there: each argument of its equation, or what the child's visit
+/// takes and what the child's visits before it gave.
 pub fn steps_are_ready()
     ensures argument { (spec : Spec) (plans : Plans) (t : Term) → IsPlanned spec plans t → (u : Place) (j m r : ℕ) →
         HasVisit (rules_of spec) plans t u j → slice_get (steps_of plans (operator_in t u) j) m ≡ Some (Eval r) →
@@ -123,17 +132,21 @@ pub fn steps_are_ready()
         IsReady (rules_of spec) plans t u j m (referred (net_of t) u o) }
     ensures taken { (spec : Spec) (plans : Plans) (t : Term) → IsPlanned spec plans t → (u : Place) (j m k i : ℕ) →
         HasVisit (rules_of spec) plans t u j → slice_get (steps_of plans (operator_in t u) j) m ≡ Some (Visit k i) →
-        (a : Reference Place) → IsTaken (rules_of spec) plans t (k ∷ u) i a → IsReady (rules_of spec) plans t u j m a }
+        (a : Reference Place) → IsTaken (rules_of spec) plans t (k ∷ u) i a →
+        IsReady (rules_of spec) plans t u j m a }
     ensures given { (spec : Spec) (plans : Plans) (t : Term) → IsPlanned spec plans t → (u : Place) (j m k i h : ℕ) →
-        HasVisit (rules_of spec) plans t u j → slice_get (steps_of plans (operator_in t u) j) m ≡ Some (Visit k i) → h < i →
-        (a : Reference Place) → IsGivenBy (rules_of spec) plans t (k ∷ u) h a → IsReady (rules_of spec) plans t u j m a }
+        HasVisit (rules_of spec) plans t u j →
+        slice_get (steps_of plans (operator_in t u) j) m ≡ Some (Visit k i) → h < i →
+        (a : Reference Place) → IsGivenBy (rules_of spec) plans t (k ∷ u) h a →
+        IsReady (rules_of spec) plans t u j m a }
 {}
 
-/// The visits of the root give every reference that has an equation, and take nothing where its phylum has no inherited
-/// attribute, as a specification's root has none.
+/// The visits of the root give every reference that has an equation, and take nothing where its phylum has no
+/// inherited attribute, as a specification's root has none.
 #[tactic(auto, using(crate::proofs::Solved::root_takes_nothing, crate::proofs::Solved::root_inherits_nothing))]
 pub fn roots()
-    ensures all { (spec : Spec) (plans : Plans) (t : Term) → IsPlanned spec plans t → (a : Reference Place) (i : Site Place) →
+    ensures all { (spec : Spec) (plans : Plans) (t : Term) → IsPlanned spec plans t →
+        (a : Reference Place) (i : Site Place) →
         site_of (rules_of spec) (net_of t) a ≡ Some i → (j : ℕ) × IsGivenBy (rules_of spec) plans t [] j a }
     ensures nothing { (spec : Spec) (plans : Plans) (t : Term) (X : ℕ) → Fits spec t X →
         ((slot : ℕ) → is_inherited spec.phyla X slot ≡ false) → (j : ℕ) (a : Reference Place) →

@@ -9,8 +9,8 @@ use sg_kinds::ids::{OpId, PhylumId};
 use sg_kinds::row::item;
 use sg_kinds::spec::{Occurrence, Spec};
 
-/// The number of a vertex of an operator, by which plans hold its readers: the attributes of its occurrences from left to
-/// right, in declaration order, then its locals, counted from 0.
+/// The number of a vertex of an operator, by which plans hold its readers: the attributes of its occurrences from
+/// left to right, in declaration order, then its locals, counted from 0.
 pub fn vertex_of(spec: &Spec, op: OpId, o: Occurrence) -> usize
     requires range { AreInRange (rules_of spec.now) }
     requires there { IsVertex (rules_of spec.now) op o }

@@ -1,7 +1,6 @@
 use Rattle.std.specs.Prelude.{◌≡◌, length, Some, slice_get}
 use Rattle.std.proofs.Common.{sym, ap, ◌∙◌, arith}
 use Rattle.sg_kinds.specs.Specification.{rules_of}
-use Rattle.sg_kinds.specs.Visits.{row_at}
 use Rattle.sg_plans.proofs.FewVisits.{few_rows}
 use Rattle.sg_plans.proofs.Rows.{row_is}
 use Rattle.sg_plans.proofs.reading.visit_count.Goals as goal
