@@ -8,12 +8,13 @@ use Rattle.sg_kinds.specs.declared.spec.Occurrence.{Occurrence}
 use Rattle.sg_kinds.specs.declared.spec.Rule.{Rule}
 use Rattle.sg_ast.specs.Declarations.{Decl, Equation, Equations}
 use Rattle.sg_ast.specs.declared.decl.Target.{Target}
+use Rattle.sg_names.specs.Lookups.{operator_at}
 use Rattle.sg_names.specs.declared.table.Table.{Table}
 use Rattle.sg_typing.specs.Bodies.{expr_count}
 use Rattle.sg_typing.specs.declared.bodies.TypedExpr.{TypedExpr}
 use Rattle.sg_equations.specs.declared.targets.Defined.{Defined}
 use Rattle.sg_equations.specs.RulesOf.{ruled, rules_from, rules_under, rules_at, rules_in}
-use Rattle.sg_equations.specs.Targets.{operator_of, target_of, defined_as, defined_by, defined_under, defined_at, defined_in}
+use Rattle.sg_equations.specs.Targets.{target_of, defined_as, defined_by, defined_under, defined_at, defined_in}
 use Rattle.sg_equations.proofs.Counts.{count_map}
 
 abbrev pub rule_key : Rule → ℕ × Occurrence
@@ -40,7 +41,7 @@ under_keys t exprs k es None = refl
 under_keys t exprs k es (Some op) = from_keys t exprs op k es
 
 at_keys : (t : Table) (exprs : List TypedExpr) (k : ℕ) (d : Decl) → map rule_key (rules_at t exprs k d) ≡ map defined_key (defined_at t d)
-at_keys t exprs k (Equations p op locals es) = under_keys t exprs k es (operator_of t p op)
+at_keys t exprs k (Equations p op locals es) = under_keys t exprs k es (operator_at t p op)
 at_keys t exprs k d = refl
 
 pub in_keys : (t : Table) (exprs : List TypedExpr) (k : ℕ) (ds : List Decl) → map rule_key (rules_in t exprs k ds) ≡ map defined_key (defined_in t ds)

@@ -3,7 +3,6 @@ use Rattle.std.proofs.Common.{◌≡◌, refl, sym, ap, subst, ◌∙◌, arith,
 use Rattle.std.specs.Prelude.{option_map, option_and_then, unwrap_or}
 use Rattle.std.specs.List.{AllByRecursion}
 use Rattle.std.proofs.lemmas.List.{append-nil, length-map}
-use Rattle.std.proofs.lemmas.List.Elements.{recursion_from_All}
 use Rattle.std.proofs.lemmas.Option.{slice_get-map}
 use Rattle.sg_kinds.specs.Specification.{attrs_of, phylum_of}
 use Rattle.sg_kinds.specs.Sound.{is_rule_typed}
@@ -19,7 +18,7 @@ use Rattle.sg_ast.specs.declared.decl.Target.{Target}
 use Rattle.sg_ast.specs.declared.decl.Target.TheVariants as written
 use Rattle.sg_ast.specs.declared.name.Name.{Name}
 use Rattle.sg_names.specs.Drafted.{HasTable, drafted}
-use Rattle.sg_names.specs.Lookups.{local, phylum_named, operator_named}
+use Rattle.sg_names.specs.Lookups.{local, phylum_named, operator_at}
 use Rattle.sg_names.specs.Names.{if_of, op_named}
 use Rattle.sg_names.specs.declared.table.Table.{Table}
 use Rattle.sg_names.proofs.DraftedLaws.{slot_kept, types_kept}
@@ -28,7 +27,8 @@ use Rattle.sg_types.specs.Bindings.{OfEquation, own_slots}
 use Rattle.sg_typing.specs.Bodies.{equation_typed, equation_mismatch, exprs_at, exprs_in, expr_count, mismatch_at_decl, first_mismatch, target_type}
 use Rattle.sg_typing.specs.Bodies as bodies
 use Rattle.sg_types.specs.Expressions.{recorded}
-use Rattle.sg_typing.specs.Written.{AreWritten, HasLists, IsWritten}
+use Rattle.sg_ast.specs.Written.{AreWritten, IsWritten}
+use Rattle.sg_typing.specs.Written.{HasLists}
 use Rattle.sg_typing.specs.declared.bodies.TypedExpr.{TypedExpr}
 use Rattle.sg_typing.proofs.ArgsTyped.{args_typed}
 use Rattle.sg_typing.proofs.BodyTyped.{body_kept}
@@ -36,7 +36,7 @@ use Rattle.sg_typing.proofs.ExprTyped.{right}
 use Rattle.sg_typing.proofs.RecordTyped.{neither}
 use Rattle.sg_typing.proofs.TableFacts.{equation_outside}
 use Rattle.sg_equations.specs.RulesOf.{args_of, ruled, rules_from, rules_under, rules_at, rules_in}
-use Rattle.sg_equations.specs.Targets.{attr_count, operator_of, target_of, own}
+use Rattle.sg_equations.specs.Targets.{attr_count, target_of, own}
 
 -- what an equation defines has the type that its target has
 target_is : (t : Table) (op P : ℕ) (target : Target) (o : Occurrence) → phylum_of t.ops op ≡ Some P → target_of t op target ≡ Some o → target_type t op target ≡ slot_type (drafted t) op o.at o.slot
@@ -53,7 +53,7 @@ target_is t op P (written.Local n) o there h = by (local t op n.text) refl h
         ap (λ n. slot_type (drafted t) op 0 (n + k)) count ∙ ap (λ (x : Occurrence). slot_type (drafted t) op x.at x.slot) same
 
 -- an operator that is one of a phylum has a phylum
-operator_there : (t : Table) (p op : Name) (n : ℕ) → operator_of t p op ≡ Some n → (P : ℕ) × (phylum_of t.ops n ≡ Some P)
+operator_there : (t : Table) (p op : Name) (n : ℕ) → operator_at t p op ≡ Some n → (P : ℕ) × (phylum_of t.ops n ≡ Some P)
 operator_there t p op n h = by (phylum_named t p.text) h
   where
     there : (X : ℕ) (m : ℕ) (o : Option ℕ) → phylum_of t.ops m ≡ o → cond (unwrap_or (option_map (nat_eq X) o) false) (Some m) None ≡ Some n → (P : ℕ) × (phylum_of t.ops n ≡ Some P)
@@ -127,14 +127,14 @@ module _ (t : Table) (spec : Spec) (table : HasTable t spec) (lists : HasLists t
       by others (Some o) means = (one_typed op P k e o there ok.0 parts.0 (stand_head k (equation_typed t op e) (map (equation_typed t op) es ++ rest) h) means, others)
 
   at_typed : (k : ℕ) (d : Decl) (rest : List TypedExpr) → IsWritten d → mismatch_at_decl t d ≡ None → Stand k (exprs_at t d ++ rest) → AreTyped (rules_at t exprs k d)
-  at_typed k (Equations p op locals es) rest ok fits h = by (operator_of t p op) refl
+  at_typed k (Equations p op locals es) rest ok fits h = by (operator_at t p op) refl
     where
-      by : (o : Option ℕ) → operator_of t p op ≡ o → AreTyped (rules_under t exprs k es o)
+      by : (o : Option ℕ) → operator_at t p op ≡ o → AreTyped (rules_under t exprs k es o)
       by None e = tt
       by (Some n) e =
           let same : bodies.operator t p op ≡ n = ap (λ (o : Option ℕ). unwrap_or o 0) e in
           let P = operator_there t p op n e in
-          from_typed n P.0 k es rest P.1 (recursion_from_All (λ (q : Equation). AreWritten q.expr) es ok)
+          from_typed n P.0 k es rest P.1 ok
           (subst (λ m. first (equation_mismatch t m) es ≡ None) same fits) (subst (λ m. Stand k (map (equation_typed t m) es ++ rest)) same h)
   at_typed k d rest ok fits h = tt
 

@@ -2,7 +2,7 @@
 use Rattle.std.proofs.Common.{◌≡◌, sym, ap, subst, ◌∙◌, ℕ, ◌<◌, true, List, map, length, None, slice_get, zero-add}
 use Rattle.std.specs.Prelude.{IsTrue}
 use Rattle.std.specs.List.{All, count_by}
-use Rattle.std.proofs.lemmas.List.Elements.{All-from_recursion, All-same, All-weaker, recursion_from_All}
+use Rattle.std.proofs.lemmas.List.Elements.{All-from_recursion, All-same, All-weaker}
 use Rattle.sg_kinds.specs.Dependencies.{occurrence}
 use Rattle.sg_kinds.specs.Instances.{defines}
 use Rattle.sg_kinds.specs.Sound.{HasRules, is_owed, is_rule_typed}
@@ -13,7 +13,8 @@ use Rattle.sg_names.specs.Drafted.{HasTable, drafted}
 use Rattle.sg_names.specs.declared.table.Table.{Table}
 use Rattle.sg_names.proofs.DraftedLaws.{ops_count, owed_kept}
 use Rattle.sg_typing.specs.Bodies.{exprs_in, first_mismatch}
-use Rattle.sg_typing.specs.Written.{HasLists, IsWritten}
+use Rattle.sg_ast.specs.Written.{HaveWritten}
+use Rattle.sg_typing.specs.Written.{HasLists}
 use Rattle.sg_typing.specs.declared.bodies.TypedExpr.{TypedExpr}
 use Rattle.sg_equations.specs.Complete.{incomplete}
 use Rattle.sg_equations.specs.RulesOf.{rules_in}
@@ -22,7 +23,7 @@ use Rattle.sg_equations.proofs.Completed.{defined_owed, defined_once}
 use Rattle.sg_equations.proofs.RuleKeys.{in_keys, same_all, same_count}
 use Rattle.sg_equations.proofs.RuleTypes.{in_typed}
 
-module _ (t : Table) (ds : List Decl) (spec : Spec) (table : HasTable t spec) (lists : HasLists t) (places : length t.op_places ≡ length t.ops) (written : All IsWritten ds)
+module _ (t : Table) (ds : List Decl) (spec : Spec) (table : HasTable t spec) (lists : HasLists t) (places : length t.op_places ≡ length t.ops) (written : HaveWritten ds)
     (rules : spec.rules ≡ rules_in t (exprs_in t ds) 0 ds) (exprs : spec.exprs ≡ map (λ (x : TypedExpr). x.expr) (exprs_in t ds)) (fits : first_mismatch t ds ≡ None) (complete : incomplete t ds ≡ None) where
   once : (op k slot : ℕ) → op < length spec.ops → is_owed spec op k slot ≡ true → count_by (defines op (occurrence k slot)) spec.rules ≡ 1
   once op k slot low owed =
@@ -40,7 +41,7 @@ module _ (t : Table) (ds : List Decl) (spec : Spec) (table : HasTable t spec) (l
   typed_all : All (λ (r : Rule). IsTrue (is_rule_typed spec r)) (rules_in t (exprs_in t ds) 0 ds)
   typed_all =
       All-from_recursion (λ (r : Rule). IsTrue (is_rule_typed spec r)) (rules_in t (exprs_in t ds) 0 ds)
-      (in_typed t spec table lists (exprs_in t ds) exprs 0 ds (recursion_from_All IsWritten ds written) fits (λ i. ap (λ n. slice_get (exprs_in t ds) n) (zero-add i)))
+      (in_typed t spec table lists (exprs_in t ds) exprs 0 ds written fits (λ i. ap (λ n. slice_get (exprs_in t ds) n) (zero-add i)))
 
   pub rules_sound : HasRules spec
   rules_sound = record {

@@ -6,7 +6,7 @@ use Rattle.sg_ast.specs.Declarations.{Decl, Equation, Equations}
 use Rattle.sg_names.specs.declared.table.Table.{Table}
 use Rattle.sg_typing.specs.declared.bodies.TypedExpr.{TypedExpr}
 use Rattle.sg_typing.specs.Bodies.{expr_count}
-use Rattle.sg_equations.specs.Targets.{operator_of, target_of}
+use Rattle.sg_equations.specs.Targets.{target_of}
 
 -- what an expression of the record names
 abbrev pub args_of : List TypedExpr → ℕ → List Occurrence
@@ -27,7 +27,7 @@ rules_under t exprs k es None = []
 rules_under t exprs k es (Some op) = rules_from t exprs op k es
 
 abbrev pub rules_at : Table → List TypedExpr → ℕ → Decl → List Rule
-rules_at t exprs k (Equations p op locals es) = rules_under t exprs k es (operator_of t p op)
+rules_at t exprs k (Equations p op locals es) = rules_under t exprs k es (operator_at t p op)
 rules_at t exprs k d = []
 
 -- declarations, before which there are k expressions

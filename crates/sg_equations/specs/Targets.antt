@@ -1,19 +1,14 @@
 -- What equations define.
-use Rattle.std.specs.Prelude.{ℕ, ◌+◌, ◌^◌, ◌<◌, List, [], ◌∷◌, length, flat_map, Option, Some, None, option_map, option_and_then, unwrap_or}
+use Rattle.std.specs.Prelude.{ℕ, ◌+◌, ◌^◌, ◌<◌, List, [], ◌∷◌, length, flat_map, Option, Some, None, option_map, unwrap_or}
 use Rattle.sg_kinds.specs.Specification.{attrs_of, locals_of, phylum_of}
 use Rattle.sg_kinds.specs.declared.spec.Occurrence.{Occurrence}
+use Rattle.sg_ast.specs.Parts.{target_place}
 use Rattle.sg_ast.specs.declared.decl.Target.{Target}
 use Rattle.sg_ast.specs.declared.decl.Target.TheVariants as written
-use Rattle.sg_ast.specs.declared.name.Name.{Name}
 use Rattle.sg_ast.specs.Declarations.{Decl, Equation, Equations}
 use Rattle.sg_names.specs.declared.table.Table.{Table}
-use Rattle.sg_names.specs.Lookups.{phylum_named, operator_named, local, reference}
-use Rattle.sg_typing.specs.Shown.{target_place}
+use Rattle.sg_names.specs.Lookups.{operator_at, local, reference}
 use Rattle.sg_equations.specs.declared.targets.Defined.{Defined}
-
--- the operator of a phylum, both by name
-abbrev pub operator_of : Table → Name → Name → Option ℕ
-operator_of t p op = option_and_then (λ X. operator_named t X op.text) (phylum_named t p.text)
 
 -- locals stand behind the attributes of the left side
 abbrev pub attr_count : Table → ℕ → ℕ
@@ -45,7 +40,7 @@ defined_under t es None = []
 defined_under t es (Some op) = flat_map (defined_by t op) es
 
 abbrev pub defined_at : Table → Decl → List Defined
-defined_at t (Equations p op locals es) = defined_under t es (operator_of t p op)
+defined_at t (Equations p op locals es) = defined_under t es (operator_at t p op)
 defined_at t d = []
 
 abbrev pub defined_in : Table → List Decl → List Defined

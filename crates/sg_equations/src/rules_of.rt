@@ -7,7 +7,7 @@ ghost use Rattle.sg_equations.specs.Targets.{IsNarrow, target_of as meaning};
 
 use crate::completeness::incomplete;
 use crate::narrow::is_narrow;
-use crate::targets::{operator_of, target_of};
+use crate::targets::target_of;
 use sg_ast::decl::{Decl, Equation};
 use sg_kinds::fault::SpecFault;
 use sg_kinds::ids::{ExprId, OpId};
@@ -98,7 +98,7 @@ fn add_decl(
     ensures { OnOk result (rules.new.items ≡ rules.old.items ++ spec.rules_at names.now exprs.now k (tree_of decl.now)) }
 {
     if let Decl::Equations(phylum, op, _, equations) = decl
-        && let Some(op) = operator_of(names, phylum, op)
+        && let Some(op) = names.operator_at(phylum, op)
     {
         add_rules(alloc, names, exprs, op, k, equations, rules)?;
     }

@@ -4,13 +4,11 @@ ghost use Rattle.sg_ast.specs.View.{trees_of, tree_of, equation_of};
 ghost use Rattle.sg_equations.specs.Targets as spec;
 
 use sg_ast::decl::{Decl, Equation, Target};
-use sg_ast::name::Name;
 use sg_kinds::fault::Position;
 use sg_kinds::ids::OpId;
 use sg_kinds::memory::NoMemory;
 use sg_kinds::spec::Occurrence;
 use sg_names::names::Names;
-use sg_typing::target_place;
 use std::alloc::Global;
 
 /// What an equation defines: an occurrence of an attribute, or a local, of an operator; and the place of its target.
@@ -19,13 +17,6 @@ pub struct Defined {
     pub op: OpId,
     pub target: Occurrence,
     pub place: Position,
-}
-
-/// The operator of a phylum, both by name.
-pub fn operator_of(names: &Names, phylum: &Name, op: &Name) -> Option<OpId>
-    ensures { result ≡ spec.operator_of names.now phylum.now op.now }
-{
-    names.operator_named(names.phylum_named(&phylum.text)?, &op.text)
 }
 
 pub(crate) fn target_of(names: &Names, op: OpId, target: &Target) -> Option<Occurrence>
@@ -54,7 +45,7 @@ fn add_defined(
 {
     for equation in equations {
         if let Some(target) = target_of(names, op, &equation.target) {
-            let place = target_place(&equation.target);
+            let place = equation.target.place();
             defined.push(Defined { op, target, place })?;
         }
     }
@@ -70,7 +61,7 @@ pub fn targets_in(alloc: Global, decls: &[Decl], names: &Names) -> Result<Vec<De
     let mut defined = Vec::new(alloc);
     for decl in decls {
         if let Decl::Equations(phylum, op, _, equations) = decl
-            && let Some(op) = operator_of(names, phylum, op)
+            && let Some(op) = names.operator_at(phylum, op)
         {
             add_defined(names, op, equations, &mut defined)?;
         }

@@ -13,19 +13,17 @@ use Rattle.sg_names.specs.declared.table.Table.{Table}
 use Rattle.sg_resolve.specs.Resolved.{resolve_fault}
 use Rattle.sg_typing.specs.Checked.{first_fault}
 use Rattle.sg_equations.specs.Complete.{incomplete}
-use Rattle.sg_schemes.specs.Shown.{no_scheme}
-use Rattle.sg_schemes.specs.Places.{scheme_kids}
-use Rattle.sg_schemes.specs.Strings.{scheme_text}
 use Rattle.sg_record.specs.Entries.{entry_twice, entry_type}
-use Rattle.sg_record.specs.Premises.{HaveWritten}
+use Rattle.sg_ast.specs.Written.{HaveWritten}
 use Rattle.sg_record.specs.Record.{record_of}
 use Rattle.std.specs.Prelude.{All, Result, Ok, Err, IfOk, OnOk}
-use Rattle.sg_load.specs.FirstFault.{HasNoFaultOf, HaveNoFault, early_phases, shown_phases, late_phases, schemes_fault, entries_fault}
+use Rattle.sg_load.specs.FirstFault.{HasNoFaultOf, HaveNoFault, early_phases, shown_phases, late_phases, entries_fault}
 use Rattle.sg_load.specs.FirstFault.Phase.{Names, Types, Equations}
 use Rattle.sg_load.specs.Verdict.Verdict.{Refused, Accepted}
 use Rattle.sg_load.specs.Only.{IsTheSpec, IsTheFault, IsTheJudgement}
 use Rattle.sg_load.proofs.FirstLaws.{here, later, later_all, none_both, accepted, refused, the_computed, none_computed}
 use Rattle.sg_load.proofs.Phases.{none_of}
+use Rattle.sg_load.proofs.SchemesFaults.{schemes_right}
 use Rattle.sg_load.proofs.SoundSpec.{sound}
 
 -- what one clause says of a value, where another one holds for it
@@ -41,18 +39,10 @@ last (Some f) = refl
 second : (a b : Option SpecFault) → a ≡ None → b ≡ or_else a (or_else b None)
 second a b e = sym (ap (λ (o : Option SpecFault). or_else o (or_else b None)) e ∙ last b)
 
-third : (a b c : Option SpecFault) → a ≡ None → or_else b c ≡ or_else a (or_else b (or_else c None))
-third a b c e = sym (ap (λ (o : Option SpecFault). or_else o (or_else b (or_else c None))) e ∙ ap (or_else b) (last c))
-
 pub second_entries : (ds : List Decl) (t : Table) (x : Option SpecFault) → t ≡ names_of ds → x ≡ entry_twice t ds → x ≡ None → entry_type t ds ≡ entries_fault ds
 second_entries ds t x same is none =
     ap (λ (u : Table). entry_type u ds) same ∙
     second (entry_twice (names_of ds) ds) (entry_type (names_of ds) ds) (sym (is ∙ ap (λ (u : Table). entry_twice u ds) same) ∙ none)
-
-pub second_schemes : (ds : List Decl) (t : Table) (x : Option SpecFault) → t ≡ names_of ds → x ≡ no_scheme t ds → x ≡ None → or_else (scheme_kids t ds) (scheme_text ds) ≡ schemes_fault ds
-second_schemes ds t x same is none =
-    ap (λ (u : Table). or_else (scheme_kids u ds) (scheme_text ds)) same ∙
-    third (no_scheme (names_of ds) ds) (scheme_kids (names_of ds) ds) (scheme_text ds) (sym (is ∙ ap (λ (u : Table). no_scheme u ds) same) ∙ none)
 
 pub kept_lexemes : (t : Table) (ds : List Decl) (rules : List Rule) (lexemes : List Lexeme) (spec : Spec) → spec ≡ record_of t ds rules lexemes → All (λ p. Matches p [] → ⊥) lexemes → HasLexemes spec
 unfolding record_of
@@ -98,4 +88,4 @@ module _ (ds : List Decl) (t : Table) (same : t ≡ names_of ds) (named : resolv
         unfolding record_of
         sound_record spec written the lexemes = subst IsSound (sym the.is.made)
             (sound ds the.is.lexemes written named (sym (ap (λ (u : Table). first_fault u ds) same) ∙ typed) (sym (ap (λ (u : Table). incomplete u ds) same) ∙ complete)
-            (none_of (schemes_fault ds) shown.0) (none_of (entries_fault ds) shown.1.1.0) the.is.patterns (subst HasLexemes the.is.made lexemes))
+            (schemes_right ds shown.0) (none_of (entries_fault ds) shown.1.1.0) the.is.patterns (subst HasLexemes the.is.made lexemes))

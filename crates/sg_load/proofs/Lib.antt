@@ -12,5 +12,6 @@ pub mod RecordApart
 pub mod RecordSchemes
 pub mod RecordCounts
 pub mod RecordNamed
+pub mod SchemesFaults
 pub mod SoundSpec
 pub mod Judging

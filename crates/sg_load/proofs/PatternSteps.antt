@@ -15,11 +15,12 @@ use Rattle.sg_ast.specs.declared.name.Quoted.{Quoted}
 use Rattle.sg_ast.specs.Declarations.{Decl, Root, Listed, Optional, Operators, LexemeOf, Attributes, Equations, Schemes, Function, Transform, Productions, Entry, Precedence}
 use Rattle.sg_ast.specs.declared.decl.Decl as written
 use Rattle.sg_ast.specs.View.{tree_of, trees_of}
-use Rattle.sg_load.specs.Patterns.{HasNoForm, IsFormFault, MatchesEmpty, IsEmptyFault, IsLexemeFault, IsOther, text_at, ArePatterns}
+use Rattle.sg_ast.specs.Parts.{lexeme_text}
+use Rattle.sg_load.specs.Patterns.{HasNoForm, IsFormFault, MatchesEmpty, IsEmptyFault, IsLexemeFault, IsOther, ArePatterns}
 use Rattle.sg_load.specs.PatternsSoFar.{IsAdded, first_empty, NoneBefore, IsFirstEmpty, ArePatternsOf}
 
 -- what declares no lexeme phylum has no text and no fault
-no_text : (d : Decl) → IsOther d → text_at d ≡ []
+no_text : (d : Decl) → IsOther d → lexeme_text d ≡ []
 no_text (Root n) o = refl
 no_text (Listed n) o = refl
 no_text (Optional l n) o = refl
@@ -53,8 +54,8 @@ no_fault (Precedence g ls p) o = (λ h. h, λ h. h)
 one_more : (ds : List Decl) (n : ℕ) (d : Decl) → slice_get ds n ≡ Some d → take (n + 1) ds ≡ take n ds ++ d ∷ []
 one_more ds n d there = take_more ds n d (slice_get_within ds n d there) ∙ ap (λ x. take n ds ++ x ∷ []) (get_or_from_slice_get ds n d d there)
 
-texts_more : (ds : List Decl) (n : ℕ) (d : Decl) → slice_get ds n ≡ Some d → flat_map text_at (take (n + 1) ds) ≡ flat_map text_at (take n ds) ++ text_at d
-texts_more ds n d there = ap (flat_map text_at) (one_more ds n d there) ∙ flat_map-append text_at (take n ds) (d ∷ []) ∙ ap (λ t. flat_map text_at (take n ds) ++ t) (append-nil (text_at d))
+texts_more : (ds : List Decl) (n : ℕ) (d : Decl) → slice_get ds n ≡ Some d → flat_map lexeme_text (take (n + 1) ds) ≡ flat_map lexeme_text (take n ds) ++ lexeme_text d
+texts_more ds n d there = ap (flat_map lexeme_text) (one_more ds n d there) ∙ flat_map-append lexeme_text (take n ds) (d ∷ []) ∙ ap (λ t. flat_map lexeme_text (take n ds) ++ t) (append-nil (lexeme_text d))
 
 none_more : (P : Decl → Type 0) (ds : List Decl) (n : ℕ) (d : Decl) → slice_get ds n ≡ Some d → (P d → ⊥) → NoneBefore P ds n → NoneBefore P ds (n + 1)
 none_more P ds n d there not before k e less at h = by (nat_lt k n) refl
@@ -89,9 +90,9 @@ only_more ss ps s p only one qs h =
 
 pub other : (ds : List Decl) (n : ℕ) (d : Decl) (ps : List Lexeme) (e : Option ℕ) → slice_get ds n ≡ Some d → IsOther d → ArePatternsOf ds n ps e → ArePatternsOf ds (n + 1) ps e
 other ds n d ps e there is so_far = record {
-  lexemes = let same : flat_map text_at (take (n + 1) ds) ≡ flat_map text_at (take n ds) = texts_more ds n d there ∙ ap (λ t. flat_map text_at (take n ds) ++ t) (no_text d is) ∙ append-nil (flat_map text_at (take n ds)) in
+  lexemes = let same : flat_map lexeme_text (take (n + 1) ds) ≡ flat_map lexeme_text (take n ds) = texts_more ds n d there ∙ ap (λ t. flat_map lexeme_text (take n ds) ++ t) (no_text d is) ∙ append-nil (flat_map lexeme_text (take n ds)) in
       subst (λ ss. ArePatterns ss ps) (sym same) so_far.lexemes;
-  only = let same : flat_map text_at (take (n + 1) ds) ≡ flat_map text_at (take n ds) = texts_more ds n d there ∙ ap (λ t. flat_map text_at (take n ds) ++ t) (no_text d is) ∙ append-nil (flat_map text_at (take n ds)) in
+  only = let same : flat_map lexeme_text (take (n + 1) ds) ≡ flat_map lexeme_text (take n ds) = texts_more ds n d there ∙ ap (λ t. flat_map lexeme_text (take n ds) ++ t) (no_text d is) ∙ append-nil (flat_map lexeme_text (take n ds)) in
       λ qs h. so_far.only qs (subst (λ ss. ArePatterns ss qs) same h);
   formed = none_more HasNoForm ds n d there (no_fault d is).0 so_far.formed;
   some = so_far.some;
@@ -128,9 +129,9 @@ added ds n nm s ps qs e b there new so_far =
     let P : List Lexeme → Type 0 = λ rs. ArePatternsOf ds (n + 1) rs (first_empty e b n) in
     subst P (sym new.last) (record {
       lexemes =
-          let more : ArePatterns (flat_map text_at (take n ds) ++ s ∷ []) (ps ++ new.pattern ∷ []) = patterns_more (flat_map text_at (take n ds)) ps s new.pattern so_far.lexemes new.form in
+          let more : ArePatterns (flat_map lexeme_text (take n ds) ++ s ∷ []) (ps ++ new.pattern ∷ []) = patterns_more (flat_map lexeme_text (take n ds)) ps s new.pattern so_far.lexemes new.form in
           subst (λ ss. ArePatterns ss (ps ++ new.pattern ∷ [])) (sym (texts_more ds n (LexemeOf nm s) there)) more;
-      only = λ rs h. only_more (flat_map text_at (take n ds)) ps s new.pattern so_far.only new.only rs (subst (λ ss. ArePatterns ss rs) (texts_more ds n (LexemeOf nm s) there) h);
+      only = λ rs h. only_more (flat_map lexeme_text (take n ds)) ps s new.pattern so_far.only new.only rs (subst (λ ss. ArePatterns ss rs) (texts_more ds n (LexemeOf nm s) there) h);
       formed = none_more HasNoForm ds n (LexemeOf nm s) there (λ h. h new.pattern new.form) so_far.formed;
       some = λ h. All-append (λ p. Matches p [] → ⊥) ps (new.pattern ∷ []) (so_far.some (none_before e b h)) (All-cons (λ p. Matches p [] → ⊥) new.pattern [] (not_empty e b h new.empty_is) (All-nil (λ p. Matches p [] → ⊥)));
       none = λ h. none_more MatchesEmpty ds n (LexemeOf nm s) there (λ m. not_empty e b h new.empty_is (matches_there nm s new.pattern new.form new.only m)) (so_far.none (none_before e b h));

@@ -6,8 +6,7 @@ use Rattle.sg_ast.specs.Expressions.{Expr}
 use Rattle.sg_ast.specs.Declarations.{Equation, Right, Decl, Root, Listed, Optional, Operators, LexemeOf, Attributes, Equations, Schemes, Function, Transform, Productions, Entry, Precedence}
 use Rattle.sg_ast.specs.Spelling.{Piece, sign, bar, comma, spell_expr, spell_pattern, spell_target, spell_equation, spell_local, spell_param, spell_part, spell_right, spell}
 use Rattle.sg_ast.specs.Grouped.{IsExpr, IsEquation, IsRight, IsTree}
-use Rattle.sg_typing.specs.Written.{AreWritten}
-use Rattle.sg_record.specs.Premises.{IsWritten}
+use Rattle.sg_ast.specs.Written.{AreWritten, IsWritten}
 use Rattle.sg_load.proofs.WrittenMarks.{AreTexts}
 use Rattle.sg_load.proofs.WrittenTrees.{parts, pattern_written, expr_written}
 

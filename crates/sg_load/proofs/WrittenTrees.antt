@@ -8,7 +8,7 @@ use Rattle.sg_ast.specs.Patterns as p
 use Rattle.sg_ast.specs.Expressions.{Expr, Exprs, Cases, Amount, Chars, Truth, Variable, Attribute, MadeOf, Paren, Single, Binary, Choice, Call, Let, With, NoExpr, AndExpr, NoCase, Default, Case}
 use Rattle.sg_ast.specs.Spelling.{Piece, sign, word, spell_pattern, spell_patterns, spell_more_patterns, spell_expr, spell_exprs, spell_more_exprs, spell_cases}
 use Rattle.sg_ast.specs.Grouped.{HasNumbers, HaveNumbers, IsGrouped, AreGrouped, HasGrouped}
-use Rattle.sg_typing.specs.Written.{HasValues, HaveValues, AreWritten, AreWrittenAll, AreWrittenCases}
+use Rattle.sg_ast.specs.Written.{HasValues, HaveValues, AreWritten, AreWrittenAll, AreWrittenCases}
 use Rattle.sg_load.proofs.WrittenText.{HasText}
 use Rattle.sg_load.proofs.WrittenMarks.{lexeme_in, AreTexts, both_parts}
 

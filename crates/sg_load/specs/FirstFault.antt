@@ -10,7 +10,7 @@ use Rattle.sg_names.specs.Names.{names_of}
 use Rattle.sg_resolve.specs.Resolved.{resolve_fault}
 use Rattle.sg_typing.specs.Checked.{first_fault}
 use Rattle.sg_equations.specs.Complete.{incomplete}
-use Rattle.sg_schemes.specs.Shown.{no_scheme}
+use Rattle.sg_schemes.specs.NoScheme.{IsNoScheme}
 use Rattle.sg_schemes.specs.Places.{scheme_kids}
 use Rattle.sg_schemes.specs.Strings.{scheme_text}
 use Rattle.sg_record.specs.Entries.{entry_twice, entry_type}
@@ -38,9 +38,11 @@ pub data Phase : Type 0 where
   Tables : Phase
   Order : Phase
 
--- missing schemes, then their places, then their strings
-abbrev pub schemes_fault : List Decl → Option SpecFault
-schemes_fault ds = first_of (no_scheme (names_of ds) ds ∷ scheme_kids (names_of ds) ds ∷ scheme_text ds ∷ [])
+-- a missing scheme, then their places, then their strings
+pub record IsSchemesFault (ds : List Decl) (f : Option SpecFault) : Type 0 where
+  pub missing : Option SpecFault
+  pub missing_is : IsNoScheme (names_of ds) ds missing
+  pub first : f ≡ first_of (missing ∷ scheme_kids (names_of ds) ds ∷ scheme_text ds ∷ [])
 
 -- second entries, then their types
 abbrev pub entries_fault : List Decl → Option SpecFault
@@ -69,7 +71,7 @@ abbrev pub IsFaultOf : List Decl → Phase → SpecFault → Type 0
 IsFaultOf ds Names f = resolve_fault ds ≡ Some f
 IsFaultOf ds Types f = first_fault (names_of ds) ds ≡ Some f
 IsFaultOf ds Equations f = incomplete (names_of ds) ds ≡ Some f
-IsFaultOf ds Schemes f = schemes_fault ds ≡ Some f
+IsFaultOf ds Schemes f = IsSchemesFault ds (Some f)
 IsFaultOf ds Lexemes f = IsLexemeFault ds f
 IsFaultOf ds Entries f = entries_fault ds ≡ Some f
 IsFaultOf ds Tables f = IsPrintedTable ds f

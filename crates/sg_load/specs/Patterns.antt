@@ -6,6 +6,7 @@ use Rattle.sg_kinds.specs.declared.fault.SpecFault.{SpecFault}
 use Rattle.sg_kinds.specs.declared.fault.SpecFault.TheVariants.{PatternForm, EmptyLexeme}
 use Rattle.sg_patterns.specs.Spelling.{IsPattern, deepest}
 use Rattle.sg_ast.specs.declared.name.Quoted.{Quoted}
+use Rattle.sg_ast.specs.Parts.{lexeme_text}
 use Rattle.sg_ast.specs.Declarations.{Decl, LexemeOf}
 use Rattle.sg_load.specs.Rows.{IsFirst, HasNone}
 
@@ -43,15 +44,11 @@ abbrev pub IsOther : Decl → Type 0
 IsOther (LexemeOf n s) = ⊥
 IsOther d = ⊤
 
--- the texts of the patterns, and each text with its pattern
-abbrev pub text_at : Decl → List Quoted
-text_at (LexemeOf n s) = s ∷ []
-text_at d = []
-
+-- each text with its pattern
 abbrev pub ArePatterns : List Quoted → List Lexeme → Type 0
 ArePatterns [] [] = ⊤
 ArePatterns (s ∷ ss) (p ∷ ps) = IsPattern deepest p s.text × ArePatterns ss ps
 ArePatterns ss ps = ⊥
 
 abbrev pub AreLexemes : List Decl → List Lexeme → Type 0
-AreLexemes ds ps = ArePatterns (flat_map text_at ds) ps
+AreLexemes ds ps = ArePatterns (flat_map lexeme_text ds) ps

@@ -9,7 +9,8 @@ ghost use Rattle.sg_kinds.specs.declared.spec.Rule.{Rule};
 ghost use Rattle.sg_load.specs.Trees.{trees_in};
 ghost use Rattle.sg_names.specs.Names.{names_of};
 ghost use Rattle.sg_names.specs.Shapes.{result_count};
-ghost use Rattle.sg_record.specs.Premises.{AreApart, HaveWritten};
+ghost use Rattle.sg_ast.specs.Written.{HaveWritten};
+ghost use Rattle.sg_record.specs.Premises.{AreApart};
 ghost use Rattle.sg_record.specs.Record.{record_of};
 ghost use Rattle.std.specs.Prelude.{◌≡◌, List, None, Ok};
 

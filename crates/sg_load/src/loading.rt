@@ -8,7 +8,7 @@ ghost use Rattle.sg_ast.specs.View.{trees_of};
 ghost use Rattle.sg_grammar.specs.Numbered.{grammar_of};
 ghost use Rattle.sg_names.specs.Names.{names_of};
 ghost use Rattle.sg_typing.specs.Checked.{typed_of};
-ghost use Rattle.sg_record.specs.Premises.{HaveWritten};
+ghost use Rattle.sg_ast.specs.Written.{HaveWritten};
 ghost use Rattle.sg_ast.specs.FirstFault.{or_else};
 ghost use Rattle.sg_schemes.specs.Places.{scheme_kids as kids_row};
 ghost use Rattle.sg_schemes.specs.Strings.{scheme_text as text_row};
@@ -80,7 +80,7 @@ fn schemes_fault(
     names: &Names,
 ) -> Result<Option<SpecFault>, NoMemory>
     requires names { names.now ≡ names_of (trees_of decls.now) }
-    ensures { IfOk result (λ f. f ≡ rows.schemes_fault (trees_of decls.now)) }
+    ensures { IfOk result (rows.IsSchemesFault (trees_of decls.now)) }
 {
     match no_scheme(alloc, names, decls)? {
         Some(fault) => Ok(Some(fault)),

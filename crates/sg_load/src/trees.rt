@@ -2,7 +2,7 @@
 ghost use Rattle.std.specs.Prelude.{◌≡◌, ◌≢◌, ◌≤◌, length, IfOk, IfErr, Ok, Err};
 ghost use Rattle.sg_text.specs.Lines.{line_at as line_of};
 ghost use Rattle.sg_ast.specs.View.{trees_of};
-ghost use Rattle.sg_record.specs.Premises.{HaveWritten};
+ghost use Rattle.sg_ast.specs.Written.{HaveWritten};
 ghost use Rattle.sg_load.specs.Trees.{token_fault as fault_of, trees_in};
 
 use sg_ast::decl::Decl;

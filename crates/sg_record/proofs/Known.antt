@@ -15,7 +15,7 @@ use Rattle.sg_names.specs.UnknownName.{unless_known, unknown_at, unknown_name}
 use Rattle.sg_names.specs.Uses.{Use, UsesPhylum, decl_uses}
 use Rattle.sg_names.proofs.TableMade.{phylum_place, nonterminal_place}
 use Rattle.sg_typing.specs.Bodies.{mismatch_at_decl, first_mismatch}
-use Rattle.sg_record.specs.Premises.{IsWritten, HaveWritten}
+use Rattle.sg_ast.specs.Written.{IsWritten, HaveWritten}
 use Rattle.sg_record.proofs.Lists.{some_there, each_weaker}
 
 pub known_is : (b : Bool) (n : Name) → unless_known b n ≡ None → b ≡ true

@@ -22,7 +22,7 @@ use Rattle.sg_names.specs.Names.{map_from, nonterminal_defined, nonterminals_in,
 use Rattle.sg_names.specs.Shapes.{has_one_result, result_count_at, result_count}
 use Rattle.sg_names.proofs.HeadLaws.{some_place}
 use Rattle.sg_typing.specs.Bodies.{expr_count}
-use Rattle.sg_record.specs.Premises.{IsWritten}
+use Rattle.sg_ast.specs.Written.{IsWritten}
 use Rattle.sg_record.specs.Record.{nonterminal_in, production, productions_in}
 use Rattle.sg_record.proofs.Known.{nonterminal_in_heads}
 use Rattle.sg_record.proofs.Lists.{any_left, any_right, bytes_to, each_append, each_at, equal_is, equal_to, find_there, position_there, same_bytes, some_there}

@@ -27,9 +27,9 @@ use Rattle.sg_types.specs.Bindings.{OfProduction}
 use Rattle.sg_typing.specs.Bodies as body
 use Rattle.sg_typing.specs.Bodies.{exprs_at, exprs_in, right_typed, right_mismatch}
 use Rattle.sg_types.specs.Expressions.{recorded}
-use Rattle.sg_typing.specs.Written.{AreWritten, HasLists}
+use Rattle.sg_ast.specs.Written.{AreWritten, IsWritten}
+use Rattle.sg_typing.specs.Written.{HasLists}
 use Rattle.sg_typing.proofs.BodyTyped.{body_kept}
-use Rattle.sg_record.specs.Premises.{IsWritten}
 use Rattle.sg_record.specs.Record.{production, productions_at, productions_in}
 use Rattle.sg_record.proofs.Aligned.{StandAt, each_given}
 use Rattle.sg_record.proofs.ExprThere.{typed_there}

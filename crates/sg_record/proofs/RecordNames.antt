@@ -21,7 +21,8 @@ use Rattle.sg_names.specs.Names.{map_from, nonterminal_defined, nonterminals_in,
 use Rattle.sg_names.specs.Shapes.{result_count}
 use Rattle.sg_names.proofs.HeadLaws.{some_place}
 use Rattle.sg_typing.specs.Bodies.{expr_count}
-use Rattle.sg_record.specs.Premises.{AreApart, IsWritten}
+use Rattle.sg_ast.specs.Written.{IsWritten}
+use Rattle.sg_record.specs.Premises.{AreApart}
 use Rattle.sg_record.specs.Record.{nonterminal_in, production, productions_in}
 use Rattle.sg_record.proofs.Known.{nonterminal_in_heads, place_is}
 use Rattle.sg_record.proofs.Lists.{any_left, any_right, bytes_to, each_weaker, equal_is, equal_to, some_there}

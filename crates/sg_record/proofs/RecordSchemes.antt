@@ -27,7 +27,7 @@ use Rattle.sg_ast.specs.FirstFault.{first}
 use Rattle.sg_ast.proofs.FirstLaws.{first-none}
 use Rattle.sg_names.specs.declared.table.Table.{Table}
 use Rattle.sg_names.specs.Drafted.{drafted, HasTable}
-use Rattle.sg_names.specs.Lookups.{phylum_named, operator_named, reference}
+use Rattle.sg_names.specs.Lookups.{phylum_named, operator_named, reference, operator_at}
 use Rattle.sg_names.specs.Names.{map_from, owned, op_named, if_of, names_of}
 use Rattle.sg_names.proofs.DraftedLaws.{args_kept, phylum_kept, slot_kept}
 use Rattle.sg_names.proofs.OpPlaces.{places_count}
@@ -35,14 +35,13 @@ use Rattle.sg_names.proofs.Owned.{owned_append}
 use Rattle.sg_schemes.specs.Places as places
 use Rattle.sg_schemes.specs.Places.{places_fault, operator_faults, phylum_faults, kids_fault, scheme_kids}
 use Rattle.sg_schemes.specs.NoScheme.{gives, LacksScheme, IsNoScheme, all_have, first_lacks}
-use Rattle.sg_schemes.specs.Shown.{operator_at, fault_at, no_scheme}
-use Rattle.sg_schemes.proofs.FirstMissing.{no_scheme_is}
+use Rattle.sg_schemes.specs.Shown.{fault_at}
 use Rattle.sg_types.specs.Bindings.{local_slot}
 use Rattle.sg_typing.specs.Bodies.{reference_type, target_type}
 use Rattle.sg_typing.specs.Bodies as body
 use Rattle.sg_typing.specs.Shown.{hidden, hidden_item, hidden_scheme, hidden_at, first_hidden, target_place}
 use Rattle.sg_typing.proofs.RecordTyped.{unless_is}
-use Rattle.sg_record.specs.Premises.{IsWritten}
+use Rattle.sg_ast.specs.Written.{IsWritten}
 use Rattle.sg_record.specs.Record.{first_slot, shown, item_of, scheme_of, schemes_under, schemes_at, schemes_of, with_scheme, with_schemes}
 use Rattle.sg_record.proofs.Lists.{each_append, each_both, each_flat, each_map, equal_is, equal_to, slice_get-map_from}
 
@@ -237,7 +236,7 @@ module _ (t : Table) (spec : Spec) (kept : HasTable t spec) where
 
 -- the schemes of the record fit their operators, and the operators of shown phyla have some
 pub record_schemes : (ds : List Decl) (spec : Spec) → HasTable (names_of ds) spec → spec.ops ≡ with_schemes (schemes_of (names_of ds) ds) (names_of ds).ops → Each IsWritten ds
-    → no_scheme (names_of ds) ds ≡ None → scheme_kids (names_of ds) ds ≡ None → first_hidden (names_of ds) ds ≡ None → HasSchemes spec
+    → IsNoScheme (names_of ds) ds None → scheme_kids (names_of ds) ds ≡ None → first_hidden (names_of ds) ds ≡ None → HasSchemes spec
 record_schemes ds spec kept made written none kids hid = record { shown = shown_have; schemes = schemes_fit }
   where
     schemes_fit : (op : ℕ) (o : Operator) → slice_get spec.ops op ≡ Some o → All (IsScheme spec op) o.schemes
@@ -258,5 +257,5 @@ record_schemes ds spec kept made written none kids hid = record { shown = shown_
         by : (b : Bool) → list_any (gives (names_of ds) op) ds ≡ b → 1 ≤ length o.schemes
         by true some = subst (λ (x : Operator). 1 ≤ length x.schemes) there.2 (given_has (names_of ds) op ds written some)
         by false lacks =
-            absurd (none_lacks (names_of ds) ds (places_count ds) (subst (IsNoScheme (names_of ds) ds) none (no_scheme_is (names_of ds) ds)) op there.0
+            absurd (none_lacks (names_of ds) ds (places_count ds) none op there.0
             (record { there = there.1; shown = is_shown; none = lacks }))

@@ -15,13 +15,14 @@ use Rattle.sg_names.specs.Names.{names_of}
 use Rattle.sg_names.specs.Shapes.{result_count}
 use Rattle.sg_names.specs.UnknownName.{unknown_name}
 use Rattle.sg_schemes.specs.Places.{scheme_kids}
-use Rattle.sg_schemes.specs.Shown.{no_scheme}
+use Rattle.sg_schemes.specs.NoScheme.{IsNoScheme}
 use Rattle.sg_typing.specs.Bodies.{first_mismatch}
 use Rattle.sg_typing.specs.Checked.{first_fault}
 use Rattle.sg_typing.specs.Shown.{first_hidden}
 use Rattle.sg_typing.proofs.ListsThere.{lists_there}
 use Rattle.sg_record.specs.Entries.{entry_twice, entry_type}
-use Rattle.sg_record.specs.Premises.{AreApart, HaveWritten}
+use Rattle.sg_ast.specs.Written.{HaveWritten}
+use Rattle.sg_record.specs.Premises.{AreApart}
 use Rattle.sg_record.specs.Record.{record_of}
 use Rattle.sg_record.proofs.FunctionsTyped.{functions_typed, params_usable}
 use Rattle.sg_record.proofs.Known.{decls_fine, decls_known}
@@ -68,7 +69,7 @@ module _ (ds : List Decl) (rules : List Rule) (lexemes : List Lexeme) (written :
         results = results_typed ds spec kept refl results fine;
       }
 
-  pub record_shown : no_scheme (names_of ds) ds ≡ None → scheme_kids (names_of ds) ds ≡ None → first_fault (names_of ds) ds ≡ None → HasShapes (record_of (names_of ds) ds rules lexemes) → HasSchemes (record_of (names_of ds) ds rules lexemes)
+  pub record_shown : IsNoScheme (names_of ds) ds None → scheme_kids (names_of ds) ds ≡ None → first_fault (names_of ds) ds ≡ None → HasShapes (record_of (names_of ds) ds rules lexemes) → HasSchemes (record_of (names_of ds) ds rules lexemes)
   unfolding record_of
   record_shown none kids typed shapes = record_schemes ds (record_of (names_of ds) ds rules lexemes) kept refl written none kids (no_hidden (names_of ds) ds typed)
 

@@ -28,7 +28,7 @@ use Rattle.sg_typing.proofs.BodyTyped.{body_kept}
 use Rattle.sg_typing.proofs.Kept.{pattern_kept}
 use Rattle.sg_typing.proofs.RecordTyped.{neither, known-append}
 use Rattle.sg_typing.proofs.TableFacts.{usable_is}
-use Rattle.sg_record.specs.Premises.{IsWritten}
+use Rattle.sg_ast.specs.Written.{IsWritten}
 use Rattle.sg_record.specs.Record.{phylum_in, transforms_at, transforms_in}
 use Rattle.sg_record.proofs.Aligned.{StandAt, each_given}
 use Rattle.sg_record.proofs.ExprThere.{typed_there}

@@ -10,10 +10,11 @@ ghost use Rattle.sg_names.specs.Shapes.{result_count};
 ghost use Rattle.sg_names.specs.UnknownName.{unknown_name};
 ghost use Rattle.sg_names.specs.declared.table.Table.{Table};
 ghost use Rattle.sg_record.specs.Entries.{entry_twice, entry_type};
-ghost use Rattle.sg_record.specs.Premises.{AreApart, HasNoSchemes, HaveWritten};
+ghost use Rattle.sg_ast.specs.Written.{HaveWritten};
+ghost use Rattle.sg_record.specs.Premises.{AreApart, HasNoSchemes};
 ghost use Rattle.sg_record.specs.Record.{record_of};
+ghost use Rattle.sg_schemes.specs.NoScheme.{IsNoScheme};
 ghost use Rattle.sg_schemes.specs.Places.{scheme_kids};
-ghost use Rattle.sg_schemes.specs.Shown.{no_scheme};
 ghost use Rattle.sg_typing.specs.Checked.{first_fault};
 
 /// The record has the names of its table, whose operators have no schemes.
@@ -32,7 +33,7 @@ pub fn records_are_typed()
 /// Operators of shown phyla have schemes, and each scheme fits its operator.
 pub fn records_have_schemes()
     ensures { (ds : List Decl) (rules : List Rule) (lexemes : List Lexeme) → HaveWritten ds →
-        no_scheme (names_of ds) ds ≡ None → scheme_kids (names_of ds) ds ≡ None → first_fault (names_of ds) ds ≡ None →
+        IsNoScheme (names_of ds) ds None → scheme_kids (names_of ds) ds ≡ None → first_fault (names_of ds) ds ≡ None →
         HasShapes (record_of (names_of ds) ds rules lexemes) → HasSchemes (record_of (names_of ds) ds rules lexemes) }
 {}
 

@@ -16,7 +16,6 @@ use sg_kinds::spec::{Item, Occurrence, Operator, Piece, Scheme};
 use sg_kinds::text::Text;
 use sg_names::groups::Groups;
 use sg_names::names::Names;
-use sg_schemes::shown::operator_at;
 use sg_types::bindings::local_slot;
 use std::alloc::Global;
 
@@ -140,7 +139,7 @@ fn add_schemes_at(
     ensures { OnOk result ((k : ℕ) → row_at found.new k ≡ row_at found.old k ++ owned (spec.schemes_at names.now (tree_of decl.now)) k) }
 {
     if let Decl::Schemes(phylum, op, None, schemes) = decl
-        && let Some(op) = operator_at(names, phylum, op)
+        && let Some(op) = names.operator_at(phylum, op)
     {
         add_schemes(alloc, names, found, op, schemes.as_slice())?;
     }

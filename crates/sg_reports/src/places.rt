@@ -4,6 +4,7 @@ ghost use Rattle.sg_ast.specs.View.{tree_of, trees_of, right_of};
 ghost use Rattle.sg_ast.specs.Declarations.{Right as RightTree};
 ghost use Rattle.sg_ast.specs.declared.decl.Alt.{Alt as AltTree};
 ghost use Rattle.sg_ast.specs.FirstFault.{first};
+ghost use Rattle.sg_ast.specs.Parts.{head_at, head_place, op_places_at};
 ghost use Rattle.sg_reports.specs.Places as spec;
 
 use sg_ast::decl::{Alt, Decl, Right};
@@ -46,7 +47,7 @@ fn push_rights(places: &mut Vec<Position>, rights: &[Right]) -> Result<(), NoMem
 
 /// Puts the places of a declaration's operators behind the others.
 fn push_operators_at(places: &mut Vec<Position>, decl: &Decl) -> Result<(), NoMemory>
-    ensures { OnOk result (places.new.items ≡ places.old.items ++ spec.op_places_at (tree_of decl.now)) }
+    ensures { OnOk result (places.new.items ≡ places.old.items ++ op_places_at (tree_of decl.now)) }
 {
     match decl {
         Decl::Operators(_, alts) => push_operators(places, alts.as_slice()),
@@ -109,7 +110,7 @@ pub(crate) fn production_places(alloc: Global, decls: &[Decl]) -> Result<Vec<Pos
 
 /// Where a declaration of productions of a nonterminal names it.
 fn head_at(name: &[u8], decl: &Decl) -> Option<Position>
-    ensures { result ≡ spec.head_at name.now (tree_of decl.now) }
+    ensures { result ≡ head_at name.now (tree_of decl.now) }
 {
     match decl {
         Decl::Productions(head, _) if head.text.as_slice() == name => Some(head.place),
@@ -119,7 +120,7 @@ fn head_at(name: &[u8], decl: &Decl) -> Option<Position>
 
 /// Where the first declaration of productions of a nonterminal names it.
 pub(crate) fn head_place(name: &[u8], decls: &[Decl]) -> Position
-    ensures { result ≡ spec.head_place name.now (trees_of decls.now) }
+    ensures { result ≡ head_place name.now (trees_of decls.now) }
 {
     for decl in decls {
         if let Some(place) = head_at(name, decl) {

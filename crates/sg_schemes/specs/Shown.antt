@@ -1,13 +1,12 @@
 -- The first operator of a shown phylum that has no scheme, as it is computed: passes over the operators put up the flags of the
 -- shown phyla, and declarations those of the operators that have schemes.
-use Rattle.std.specs.Prelude.{ℕ, zero, suc, max, Bool, true, false, not, ◌&&◌, if◌then◌else◌, List, [], ◌∷◌, length, replicate, slice_set, slice_index_or, Option, Some, None, slice_get, option_map, option_and_then}
+use Rattle.std.specs.Prelude.{ℕ, zero, suc, max, Bool, true, false, not, ◌&&◌, if◌then◌else◌, List, [], ◌∷◌, length, replicate, slice_set, slice_index_or, Option, Some, None, slice_get, option_map}
 use Rattle.sg_kinds.specs.declared.spec.Operator.{Operator}
 use Rattle.sg_kinds.specs.declared.fault.SpecFault.{SpecFault}
 use Rattle.sg_kinds.specs.declared.fault.SpecFault.TheVariants as fault
-use Rattle.sg_ast.specs.declared.name.Name.{Name}
 use Rattle.sg_ast.specs.Declarations.{Decl, Schemes}
 use Rattle.sg_names.specs.declared.table.Table.{Table}
-use Rattle.sg_names.specs.Lookups.{phylum_named, operator_named}
+use Rattle.sg_names.specs.Lookups.{operator_at}
 
 -- flags of phyla or operators, by their numbers
 abbrev pub flag : List Bool → ℕ → Bool
@@ -52,9 +51,6 @@ shown t = shown_among (width t) t.ops t.root
 abbrev pub give_to : List Bool → Option ℕ → List Bool
 give_to flags None = flags
 give_to flags (Some op) = slice_set flags op true
-
-abbrev pub operator_at : Table → Name → Name → Option ℕ
-operator_at t p op = option_and_then (λ k. operator_named t k op.text) (phylum_named t p.text)
 
 abbrev pub give : Table → List Bool → Decl → List Bool
 give t flags (Schemes p op None schemes) = give_to flags (operator_at t p op)

@@ -1,14 +1,12 @@
 //! Shown phyla, and operators without schemes.
 ghost use Rattle.std.specs.Prelude.{◌≡◌, ◌≤◌, ◌^◌, ◌↔◌, IsTrue, false, true, length, replicate, slice_set, slice_get, option_map, IfOk, OnOk};
 ghost use Rattle.sg_ast.specs.View.{tree_of, trees_of};
-ghost use Rattle.sg_names.specs.Lookups.{operator_named};
 ghost use Rattle.sg_schemes.specs.NoScheme.{IsNoScheme};
 ghost use Rattle.sg_schemes.specs.Shown as spec;
 
 use sg_ast::decl::Decl;
-use sg_ast::name::Name;
 use sg_kinds::fault::{Position, SpecFault};
-use sg_kinds::ids::{OpId, PhylumId};
+use sg_kinds::ids::PhylumId;
 use sg_kinds::memory::NoMemory;
 use sg_kinds::spec::Operator;
 use sg_names::names::Names;
@@ -138,20 +136,12 @@ fn shown(alloc: Global, table: &Table) -> Result<Vec<bool>, NoMemory>
     passes(alloc, count, table.ops.as_slice(), flags)
 }
 
-/// The operator of a phylum, by their names.
-pub fn operator_at(names: &Names, phylum: &Name, op: &Name) -> Option<OpId>
-    ensures { result ≡ spec.operator_at names.now phylum.now op.now }
-{
-    let phylum = names.phylum_named(&phylum.text)?;
-    names.operator_named(phylum, &op.text)
-}
-
 /// Gives an operator the schemes of a declaration, if they are of the ordinary view.
 fn give(flags: &mut [bool], names: &Names, decl: &Decl)
     ensures { flags.new ≡ spec.give names.now flags.old (tree_of decl.now) }
 {
     if let Decl::Schemes(phylum, op, None, _) = decl {
-        if let Some(op) = operator_at(names, phylum, op) {
+        if let Some(op) = names.operator_at(phylum, op) {
             set(flags, op.number as usize);
         }
     }
@@ -224,8 +214,7 @@ pub fn no_scheme(
     names: &Names,
     decls: &[Decl],
 ) -> Result<Option<SpecFault>, NoMemory>
-    ensures first { IfOk result (IsNoScheme names.now (trees_of decls.now)) }
-    ensures computed { IfOk result (λ f. f ≡ spec.no_scheme names.now (trees_of decls.now)) }
+    ensures { IfOk result (IsNoScheme names.now (trees_of decls.now)) }
 {
     computed(alloc, names, decls)
 }

@@ -11,7 +11,8 @@ use Rattle.sg_types.specs.declared.scope.Variable.{Variable}
 use Rattle.sg_types.specs.Bindings.{Owner}
 use Rattle.sg_types.specs.Expressions.{type_in, mismatch_in, mismatch_at, recorded}
 use Rattle.sg_types.specs.Types.{unless, fits_where}
-use Rattle.sg_typing.specs.Written.{AreWritten, HasLists, AreOutside, known}
+use Rattle.sg_ast.specs.Written.{AreWritten}
+use Rattle.sg_typing.specs.Written.{HasLists, AreOutside, known}
 use Rattle.sg_typing.proofs.Kept.{expr_kept}
 use Rattle.sg_typing.proofs.RecordTyped.{neither, unless_is}
 

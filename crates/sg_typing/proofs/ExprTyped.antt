@@ -36,7 +36,8 @@ use Rattle.sg_types.specs.Bindings.{Owner, outside, behind, reference_at, local_
 use Rattle.sg_types.specs.Patterns.{variables_of, variables_of_all}
 use Rattle.sg_types.specs.Patterns as pattern
 use Rattle.sg_types.specs.Expressions.{type_in, mismatch_in, mismatch_in_all, mismatch_in_cases, recorded, recorded_all, recorded_cases, where_wanted, at_infix, given, infix_in, prefix_type, prefix_of, params_in, at_cons, pair_in, called_in, called_type}
-use Rattle.sg_typing.specs.Written.{AreWritten, AreWrittenAll, AreWrittenCases, IsUsable, HasLists, AreOutside, IsCallable, AreCallable, is_builtin, known}
+use Rattle.sg_ast.specs.Written.{AreWritten, AreWrittenAll, AreWrittenCases}
+use Rattle.sg_typing.specs.Written.{IsUsable, HasLists, AreOutside, IsCallable, AreCallable, is_builtin, known}
 use Rattle.sg_typing.proofs.RecordTyped.{neither, unless_is, untyped_is, below_is, equal_to, known-append, pattern_typed}
 
 -- places in lists that are joined

@@ -10,7 +10,8 @@ use Rattle.sg_names.specs.Drafted.{drafted}
 use Rattle.sg_types.specs.Bindings.{Owner}
 use Rattle.sg_types.specs.Patterns as pattern
 use Rattle.sg_types.specs.Expressions.{type_in, mismatch_in, recorded}
-use Rattle.sg_typing.specs.Written.{HasValues, AreWritten, HasLists, AreOutside, known}
+use Rattle.sg_ast.specs.Written.{HasValues, AreWritten}
+use Rattle.sg_typing.specs.Written.{HasLists, AreOutside, known}
 use Rattle.sg_typing.proofs.RecordTyped.{pattern_typed}
 use Rattle.sg_typing.proofs.ExprTyped.{expr_type_kept, expr_has_type}
 use Rattle.sg_typing.proofs.TableFacts.{usable_is, callables_known}

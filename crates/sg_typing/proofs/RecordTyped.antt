@@ -18,7 +18,8 @@ use Rattle.sg_types.specs.declared.scope.Variable as scope
 use Rattle.sg_names.specs.Drafted.{drafted}
 use Rattle.sg_types.specs.Types.{unless, untyped, fits_where}
 use Rattle.sg_types.specs.Patterns.{is_wanted, takes_texts, is_operator_of, parts_of, mismatch_in, mismatch_in_all, variables_of, variables_of_all, recorded, recorded_all, signed}
-use Rattle.sg_typing.specs.Written.{HasValues, HaveValues, IsUsable, known}
+use Rattle.sg_ast.specs.Written.{HasValues, HaveValues}
+use Rattle.sg_typing.specs.Written.{IsUsable, known}
 
 -- options and tests
 pub neither : {A : Type 0} (a b : Option A) → or_else a b ≡ None → (a ≡ None) × (b ≡ None)

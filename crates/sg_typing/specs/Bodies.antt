@@ -14,7 +14,7 @@ use Rattle.sg_ast.specs.declared.name.Typed.{Typed}
 use Rattle.sg_ast.specs.declared.decl.Target.{Target}
 use Rattle.sg_ast.specs.declared.decl.Target.TheVariants as target
 use Rattle.sg_names.specs.declared.table.Table.{Table}
-use Rattle.sg_names.specs.Lookups.{phylum_named, operator_named, reference, symbol_attrs}
+use Rattle.sg_names.specs.Lookups.{phylum_named, operator_at, reference, symbol_attrs}
 use Rattle.sg_types.specs.declared.scope.Variable.{Variable}
 use Rattle.sg_typing.specs.declared.bodies.TypedExpr.{TypedExpr}
 use Rattle.sg_names.specs.Drafted.{drafted}
@@ -29,7 +29,7 @@ typed t w vs args e = record { expr = recorded t w vs e; of = unwrap_or (type_in
 
 -- the operator of a phylum, 0 where the names mean nothing
 abbrev pub operator : Table → Name → Name → ℕ
-operator t n op = unwrap_or (option_and_then (λ p. operator_named t p op.text) (phylum_named t n.text)) 0
+operator t n op = unwrap_or (operator_at t n op) 0
 
 -- the type of what an equation defines, or a scheme shows
 abbrev pub reference_type : Table → ℕ → Option Occurrence → Option ℕ

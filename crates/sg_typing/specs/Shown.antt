@@ -2,22 +2,15 @@
 use Rattle.std.specs.Prelude.{ℕ, List, Option, Some, None}
 use Rattle.sg_kinds.specs.Specification.{has_shape, is_leaf_shape}
 use Rattle.sg_kinds.specs.declared.fault.Position.{Position}
-use Rattle.sg_ast.specs.Chains.{occurrence_place}
 use Rattle.sg_ast.specs.Declarations.{Decl, Schemes}
 use Rattle.sg_ast.specs.FirstFault.{first}
-use Rattle.sg_ast.specs.declared.decl.Target.{Target}
-use Rattle.sg_ast.specs.declared.decl.Target.TheVariants as target
+use Rattle.sg_ast.specs.Parts.{target_place}
 use Rattle.sg_ast.specs.declared.decl.Item.{Item}
 use Rattle.sg_ast.specs.declared.decl.Item.TheVariants as item
 use Rattle.sg_ast.specs.declared.decl.SchemeDecl.{SchemeDecl}
 use Rattle.sg_names.specs.declared.table.Table.{Table}
 use Rattle.sg_types.specs.Types.{unless}
 use Rattle.sg_typing.specs.Bodies.{operator, target_type}
-
--- the first token of what is shown
-abbrev pub target_place : Target → Position
-target_place (target.Attribute r) = occurrence_place r.of
-target_place (target.Local n) = n.place
 
 -- the place of what has a type that does not show, or none
 abbrev pub hidden : Table → Position → Option ℕ → Option Position

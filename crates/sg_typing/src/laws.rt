@@ -13,7 +13,8 @@ ghost use Rattle.sg_names.specs.Drafted.{HasTable, drafted};
 ghost use Rattle.sg_typing.specs.Arguments.{args_in};
 ghost use Rattle.sg_types.specs.Expressions as expr;
 ghost use Rattle.sg_types.specs.Patterns.{mismatch_in, recorded, variables_of};
-ghost use Rattle.sg_typing.specs.Written.{HasValues, AreWritten, HasLists, AreOutside, known};
+ghost use Rattle.sg_ast.specs.Written.{HasValues, AreWritten};
+ghost use Rattle.sg_typing.specs.Written.{HasLists, AreOutside, known};
 
 /// A pattern without a mismatch binds its variables in the record too, each with its type.
 #[tactic(auto, using(crate::proofs::Kept::pattern_kept))]

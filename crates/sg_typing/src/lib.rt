@@ -9,4 +9,3 @@ mod shown;
 
 pub use bodies::{TypedExpr, expr_count};
 pub use checking::{Typed, check};
-pub use shown::target_place;

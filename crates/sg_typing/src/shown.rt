@@ -6,22 +6,12 @@ ghost use Rattle.sg_kinds.specs.Specification.{has_shape, is_leaf_shape};
 ghost use Rattle.sg_typing.specs.Shown as spec;
 
 use crate::bodies::{operator, target_type};
-use sg_ast::decl::{Decl, Item, SchemeDecl, Target};
+use sg_ast::decl::{Decl, Item, SchemeDecl};
 use sg_kinds::fault::Position;
 use sg_kinds::ids::{OpId, PhylumId};
 use sg_kinds::marks::Shape;
 use sg_names::names::Names;
 use sg_types::types::unless;
-
-/// The first token of what an equation defines or a scheme shows.
-pub fn target_place(target: &Target) -> Position
-    ensures { result ≡ spec.target_place target.now }
-{
-    match target {
-        Target::Attribute(reference) => reference.of.place(),
-        Target::Local(name) => name.place,
-    }
-}
 
 // whether values of a phylum are shown: of BOOL, INT, STR and the lexeme phyla
 fn is_leaf(names: &Names, phylum: PhylumId) -> bool
@@ -49,7 +39,7 @@ fn hidden_item(names: &Names, op: OpId, item: &Item) -> Option<Position>
     ensures { result ≡ spec.hidden_item names.now op item.now }
 {
     match item {
-        Item::Shows(target) => hidden(names, target_place(target), target_type(names, op, target)),
+        Item::Shows(target) => hidden(names, target.place(), target_type(names, op, target)),
         Item::Writes(_) | Item::Child(_) | Item::Separates(_) => None,
     }
 }

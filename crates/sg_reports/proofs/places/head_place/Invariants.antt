@@ -1,6 +1,6 @@
 use Rattle.std.proofs.Common.{◌≡◌, drop}
 use Rattle.sg_ast.specs.View.{trees_of}
-use Rattle.sg_reports.specs.Places.{head_place}
+use Rattle.sg_ast.specs.Parts.{head_place}
 use Rattle.sg_reports.proofs.places.head_place.Given as goal
 
 abbrev pub invariant-loop-decl : goal.invariant-loop-decl

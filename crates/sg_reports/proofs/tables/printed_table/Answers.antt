@@ -4,7 +4,7 @@ use Rattle.sg_kinds.specs.declared.fault.Position.{Position}
 use Rattle.sg_kinds.specs.declared.fault.SpecFault.TheVariants as fault
 use Rattle.sg_ast.specs.Declarations.{Decl}
 use Rattle.sg_ast.specs.View.{trees_of}
-use Rattle.sg_reports.specs.Places.{head_place}
+use Rattle.sg_ast.specs.Parts.{head_place}
 use Rattle.sg_reports.specs.Symbols.{symbol_in, name_of}
 use Rattle.sg_reports.specs.Tables.{symbol_name, printed_table}
 use Rattle.sg_reports.proofs.tables.printed_table.Goals as goal
