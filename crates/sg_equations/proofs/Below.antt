@@ -4,6 +4,7 @@ use Rattle.std.proofs.lemmas.Bool.Decides.{nat_tests}
 use Rattle.std.proofs.lemmas.List.Folds.{list_any-append}
 use Rattle.std.specs.List.{list_any}
 use Rattle.sg_kinds.specs.Instances.{below}
+use Rattle.sg_kinds.proofs.Elementary.{or_right}
 use Rattle.sg_ast.specs.FirstFault.{or_else, first}
 use Rattle.sg_ast.proofs.FirstLaws.{first-append}
 
@@ -13,10 +14,6 @@ below_more i = ap below (let e : i + 1 ≡ suc i = omega arith in e)
 pub any_more : (p : ℕ → Bool) (i : ℕ) → p i ≡ false → list_any p (below i) ≡ false → list_any p (below (i + 1)) ≡ false
 any_more p i here before = ap (list_any p) (below_more i) ∙ list_any-append p (below i) (i ∷ []) ∙ ap (λ b. b || list_any p (i ∷ [])) before ∙ ap (λ b. b || false) here
 
-or_true : (b : Bool) → (b || true) ≡ true
-or_true true = refl
-or_true false = refl
-
 pub any_found : (p : ℕ → Bool) (i n : ℕ) → p i ≡ true → i < n → list_any p (below n) ≡ true
 any_found p i zero here low = absurd (omega (arith, low))
 any_found p i (suc n) here low = list_any-append p (below n) (n ∷ []) ∙ by (λ less. any_found p i n here less) (nat_lt i n) refl
@@ -25,7 +22,7 @@ any_found p i (suc n) here low = list_any-append p (below n) (n ∷ []) ∙ by (
     by before true less = ap (λ b. b || list_any p (n ∷ [])) (before (grind (arith, nat_tests)))
     by before false less =
         let same : i ≡ n = grind (arith, nat_tests) in
-        ap (λ m. list_any p (below n) || (p m || false)) (sym same) ∙ ap (λ b. list_any p (below n) || (b || false)) here ∙ or_true (list_any p (below n))
+        ap (λ m. list_any p (below n) || (p m || false)) (sym same) ∙ ap (λ b. list_any p (below n) || (b || false)) here ∙ or_right (list_any p (below n)) true refl
 
 -- the first of the numbers below one at which a function has a value
 pub first_more : {A : Type 0} (f : ℕ → Option A) (i : ℕ) → f i ≡ None → first f (below i) ≡ None → first f (below (i + 1)) ≡ None

@@ -3,7 +3,6 @@ use Rattle.std.proofs.Common.{◌≡◌, refl, sym, subst, ◌∙◌, arith, ℕ
 use Rattle.std.specs.Prelude.{◌&&◌, not, is_some, option_map, option_and_then, unwrap_or}
 use Rattle.std.specs.List.{AllByRecursion, count_by}
 use Rattle.std.proofs.lemmas.Bool.{and_parts}
-use Rattle.std.proofs.lemmas.Bool.Decides.{nat_tests}
 use Rattle.std.proofs.lemmas.List.{length-map}
 use Rattle.std.proofs.lemmas.Option.{slice_get_within}
 use Rattle.sg_kinds.specs.Dependencies.{occurrence}
@@ -15,12 +14,12 @@ use Rattle.sg_kinds.specs.declared.fault.SpecFault.{SpecFault}
 use Rattle.sg_kinds.specs.declared.fault.SpecFault.TheVariants as fault
 use Rattle.sg_kinds.specs.declared.spec.Attr.{Attr}
 use Rattle.sg_kinds.specs.declared.spec.Occurrence.{Occurrence}
+use Rattle.sg_kinds.proofs.Elementary.{eq_is, eq_true, slice_get-there, some_there}
 use Rattle.sg_ast.specs.Declarations.{Decl}
 use Rattle.sg_ast.specs.FirstFault.{first_of, first_repeat}
-use Rattle.sg_ast.proofs.FirstLaws.{first-none}
+use Rattle.sg_ast.proofs.FirstLaws.{first-none, neither}
 use Rattle.sg_names.specs.Drafted.{drafted}
 use Rattle.sg_names.specs.declared.table.Table.{Table}
-use Rattle.sg_typing.proofs.RecordTyped.{neither, equal_is}
 use Rattle.sg_equations.specs.declared.targets.Defined.{Defined}
 use Rattle.sg_equations.specs.Complete.{not_owed, not_defined_here, is_same_target, twice_at, twice, is_defined, lacks_slot, lacks_at, lacks, lacking, first_lacking, missing_at, missing, incomplete}
 use Rattle.sg_equations.specs.Owed.{owes}
@@ -64,26 +63,18 @@ none_twice defs h = by (first_repeat is_same_target defs) refl h
             no_end (d ∷ ds) (suc n) l f = no_end ds n (omega (arith, l)) f
         there (Some d) f g = cc
 
-is_equal : (m n : ℕ) → m ≡ n → nat_eq m n ≡ true
-is_equal m n h = grind (arith, nat_tests)
-
 same_target : (op : ℕ) (o : Occurrence) (d e : Defined) → is_for op o (defined_key d) ≡ true → is_for op o (defined_key e) ≡ true → is_same_target d e ≡ true
 same_target op o d e h k =
     let p = and_parts (nat_eq d.op op) (nat_eq d.target.at o.at && nat_eq d.target.slot o.slot) h in
     let q = and_parts (nat_eq d.target.at o.at) (nat_eq d.target.slot o.slot) p.1 in
     let r = and_parts (nat_eq e.op op) (nat_eq e.target.at o.at && nat_eq e.target.slot o.slot) k in
     let s = and_parts (nat_eq e.target.at o.at) (nat_eq e.target.slot o.slot) r.1 in
-    let x : nat_eq d.op e.op ≡ true = is_equal d.op e.op (equal_is d.op op p.0 ∙ sym (equal_is e.op op r.0)) in
-    let y : nat_eq d.target.at e.target.at ≡ true = is_equal d.target.at e.target.at (equal_is d.target.at o.at q.0 ∙ sym (equal_is e.target.at o.at s.0)) in
-    let z : nat_eq d.target.slot e.target.slot ≡ true = is_equal d.target.slot e.target.slot (equal_is d.target.slot o.slot q.1 ∙ sym (equal_is e.target.slot o.slot s.1)) in
+    let x : nat_eq d.op e.op ≡ true = eq_true d.op e.op (eq_is d.op op p.0 ∙ sym (eq_is e.op op r.0)) in
+    let y : nat_eq d.target.at e.target.at ≡ true = eq_true d.target.at e.target.at (eq_is d.target.at o.at q.0 ∙ sym (eq_is e.target.at o.at s.0)) in
+    let z : nat_eq d.target.slot e.target.slot ≡ true = eq_true d.target.slot e.target.slot (eq_is d.target.slot o.slot q.1 ∙ sym (eq_is e.target.slot o.slot s.1)) in
     rw (x, y, z) refl
 
 -- no operator lacks what it owes
-some_there : {A : Type 0} (xs : List A) (n : ℕ) → n < length xs → (x : A) × (slice_get xs n ≡ Some x)
-some_there [] n l = absurd (omega (arith, l))
-some_there (x ∷ xs) zero l = (x, refl)
-some_there (x ∷ xs) (suc n) l = some_there xs n (omega (arith, l))
-
 lacking_is : (b : Bool) (n op : ℕ) → cond b (Some n) None ≡ Some op → n ≡ op
 lacking_is true n op h = cc
 lacking_is false n op h = cc
@@ -96,8 +87,8 @@ none_missing t defs same h = by (first_lacking t defs) refl h
     by (Some op) e k =
         let r = some_at (lacking t defs) (length t.ops) op e in
         let low : op < length t.ops = subst (λ n. n < length t.ops) (lacking_is (lacks t defs r.0) r.0 op r.2) r.1 in
-        let x = some_there t.ops op low in
-        let y = some_there t.op_places op (omega (arith, low, same)) in
+        let x = slice_get-there t.ops op low in
+        let y = slice_get-there t.op_places op (omega (arith, low, same)) in
         let there : missing_at t op ≡ Some (fault.Missing y.0 x.0.name) = rw (y.1, x.1) refl in
         cc
 
@@ -111,10 +102,6 @@ not_lacking true false h e = cc
 not_lacking false b h e = cc
 
 -- an occurrence that is owed is one of the operator
-is_some_is : {A : Type 0} (o : Option A) → is_some o ≡ true → (x : A) × (o ≡ Some x)
-is_some_is None h = cc
-is_some_is (Some x) h = (x, refl)
-
 inherited_there : (t : Table) (op k slot : ℕ) → is_owed (drafted t) op (suc k) slot ≡ true → (suc k < suc (length (args_of t.ops op))) × (slot < length (slots_there (drafted t) op (suc k)))
 inherited_there t op k slot h = by (slice_get (args_of t.ops op) k) refl h
   where
@@ -135,7 +122,7 @@ inherited_there t op k slot h = by (slice_get (args_of t.ops op) k) refl h
 owed_there : (t : Table) (op k slot : ℕ) → is_owed (drafted t) op k slot ≡ true → (k < suc (length (args_of t.ops op))) × (slot < length (slots_there (drafted t) op k))
 owed_there t op zero slot h =
     let b = and_parts (is_some (slice_get (slots_there (drafted t) op 0) slot)) (not _) h in
-    let x = is_some_is (slice_get (slots_there (drafted t) op 0) slot) b.0 in
+    let x = some_there (slice_get (slots_there (drafted t) op 0) slot) b.0 in
     (omega arith, slice_get_within (slots_there (drafted t) op 0) slot x.0 x.1)
 owed_there t op (suc k) slot h = inherited_there t op k slot h
 

@@ -5,8 +5,7 @@ use Rattle.std.proofs.lemmas.List.Sums.{sum_by-cons, sum_by_push}
 use Rattle.std.proofs.lemmas.Bool.Decides.{nat_tests}
 use Rattle.sg_kinds.specs.Instances.{below}
 use Rattle.sg_ast.specs.FirstFault.{or_else, first, repeat_from, first_repeat}
-use Rattle.sg_ast.proofs.FirstLaws.{first-append}
-use Rattle.sg_typing.proofs.RecordTyped.{neither}
+use Rattle.sg_ast.proofs.FirstLaws.{first-append, neither}
 use Rattle.sg_equations.proofs.Below.{any_found}
 
 -- how much a test adds to a count

@@ -12,28 +12,28 @@ use Rattle.sg_kinds.specs.declared.spec.Attr.{Attr}
 use Rattle.sg_kinds.specs.declared.spec.Occurrence.{Occurrence}
 use Rattle.sg_kinds.specs.declared.spec.Rule.{Rule}
 use Rattle.sg_kinds.specs.declared.spec.Spec.{Spec}
+use Rattle.sg_kinds.proofs.Elementary.{slice_get-behind}
 use Rattle.sg_ast.specs.Declarations.{Decl, Equation, Equations, Productions}
 use Rattle.sg_ast.specs.FirstFault.{first}
 use Rattle.sg_ast.specs.declared.decl.Target.{Target}
 use Rattle.sg_ast.specs.declared.decl.Target.TheVariants as written
 use Rattle.sg_ast.specs.declared.name.Name.{Name}
+use Rattle.sg_ast.specs.Written.{AreWritten, IsWritten}
+use Rattle.sg_ast.proofs.FirstLaws.{neither}
 use Rattle.sg_names.specs.Drafted.{HasTable, drafted}
 use Rattle.sg_names.specs.Lookups.{local, phylum_named, operator_at}
 use Rattle.sg_names.specs.Names.{if_of, op_named}
 use Rattle.sg_names.specs.declared.table.Table.{Table}
 use Rattle.sg_names.proofs.DraftedLaws.{slot_kept, types_kept}
-use Rattle.sg_typing.specs.Arguments.{args_in}
 use Rattle.sg_types.specs.Bindings.{OfEquation, own_slots}
-use Rattle.sg_typing.specs.Bodies.{equation_typed, equation_mismatch, exprs_at, exprs_in, expr_count, mismatch_at_decl, first_mismatch, target_type}
-use Rattle.sg_typing.specs.Bodies as bodies
 use Rattle.sg_types.specs.Expressions.{recorded}
-use Rattle.sg_ast.specs.Written.{AreWritten, IsWritten}
+use Rattle.sg_typing.specs.Arguments.{args_in}
+use Rattle.sg_typing.specs.Bodies.{equation_typed, equation_mismatch, exprs_at, exprs_in, expr_count, mismatch_at_decl, target_type}
+use Rattle.sg_typing.specs.Bodies as bodies
 use Rattle.sg_typing.specs.Written.{HasLists}
 use Rattle.sg_typing.specs.declared.bodies.TypedExpr.{TypedExpr}
 use Rattle.sg_typing.proofs.ArgsTyped.{args_typed}
 use Rattle.sg_typing.proofs.BodyTyped.{body_kept}
-use Rattle.sg_typing.proofs.ExprTyped.{right}
-use Rattle.sg_typing.proofs.RecordTyped.{neither}
 use Rattle.sg_typing.proofs.TableFacts.{equation_outside}
 use Rattle.sg_equations.specs.RulesOf.{args_of, ruled, rules_from, rules_under, rules_at, rules_in}
 use Rattle.sg_equations.specs.Targets.{attr_count, target_of, own}
@@ -111,7 +111,7 @@ module _ (t : Table) (spec : Spec) (table : HasTable t spec) (lists : HasLists t
   stand_tail k x xs h i = ap (slice_get exprs) (let e : suc k + i ≡ k + suc i = omega arith in e) ∙ h (suc i)
 
   stand_behind : (k n : ℕ) (xs ys : List TypedExpr) → length xs ≡ n → Stand k (xs ++ ys) → Stand (k + n) ys
-  stand_behind k n xs ys same h i = ap (slice_get exprs) (let e : (k + n) + i ≡ k + (length xs + i) = omega (arith, same) in e) ∙ h (length xs + i) ∙ right xs ys i
+  stand_behind k n xs ys same h i = ap (slice_get exprs) (let e : (k + n) + i ≡ k + (length xs + i) = omega (arith, same) in e) ∙ h (length xs + i) ∙ slice_get-behind xs ys i
 
   from_typed : (op P k : ℕ) (es : List Equation) (rest : List TypedExpr) → phylum_of t.ops op ≡ Some P → AllByRecursion (λ (e : Equation). AreWritten e.expr) es → first (equation_mismatch t op) es ≡ None → Stand k (map (equation_typed t op) es ++ rest)
       → AreTyped (rules_from t exprs op k es)

@@ -9,11 +9,11 @@ use Rattle.sg_kinds.specs.Sound.{HasRules, is_owed, is_rule_typed}
 use Rattle.sg_kinds.specs.declared.spec.Rule.{Rule}
 use Rattle.sg_kinds.specs.declared.spec.Spec.{Spec}
 use Rattle.sg_ast.specs.Declarations.{Decl}
+use Rattle.sg_ast.specs.Written.{HaveWritten}
 use Rattle.sg_names.specs.Drafted.{HasTable, drafted}
 use Rattle.sg_names.specs.declared.table.Table.{Table}
 use Rattle.sg_names.proofs.DraftedLaws.{ops_count, owed_kept}
 use Rattle.sg_typing.specs.Bodies.{exprs_in, first_mismatch}
-use Rattle.sg_ast.specs.Written.{HaveWritten}
 use Rattle.sg_typing.specs.Written.{HasLists}
 use Rattle.sg_typing.specs.declared.bodies.TypedExpr.{TypedExpr}
 use Rattle.sg_equations.specs.Complete.{incomplete}

@@ -1,5 +1,6 @@
 -- What a judgement is where some phases have no fault and the next one has, and where none has any.
 use Rattle.std.proofs.Common.{◌≡◌, List, [], ◌∷◌, ◌++◌, Option, Some, None, refl, sym, ap, ◌∙◌, subst}
+use Rattle.std.specs.Prelude.{All, Result, Ok, Err, IfOk, OnOk}
 use Rattle.sg_kinds.specs.Matches.{Matches}
 use Rattle.sg_kinds.specs.Lexemes.{Lexeme}
 use Rattle.sg_kinds.specs.Sound.{HasLexemes, IsSound}
@@ -8,15 +9,14 @@ use Rattle.sg_kinds.specs.declared.spec.Rule.{Rule}
 use Rattle.sg_kinds.specs.declared.spec.Spec.{Spec}
 use Rattle.sg_ast.specs.Declarations.{Decl}
 use Rattle.sg_ast.specs.FirstFault.{or_else}
+use Rattle.sg_ast.specs.Written.{HaveWritten}
 use Rattle.sg_names.specs.Names.{names_of}
 use Rattle.sg_names.specs.declared.table.Table.{Table}
 use Rattle.sg_resolve.specs.Resolved.{resolve_fault}
 use Rattle.sg_typing.specs.Checked.{first_fault}
 use Rattle.sg_equations.specs.Complete.{incomplete}
 use Rattle.sg_record.specs.Entries.{entry_twice, entry_type}
-use Rattle.sg_ast.specs.Written.{HaveWritten}
 use Rattle.sg_record.specs.Record.{record_of}
-use Rattle.std.specs.Prelude.{All, Result, Ok, Err, IfOk, OnOk}
 use Rattle.sg_load.specs.FirstFault.{HasNoFaultOf, HaveNoFault, early_phases, shown_phases, late_phases, entries_fault}
 use Rattle.sg_load.specs.FirstFault.Phase.{Names, Types, Equations}
 use Rattle.sg_load.specs.Verdict.Verdict.{Refused, Accepted}

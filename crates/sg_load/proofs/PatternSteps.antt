@@ -9,13 +9,13 @@ use Rattle.std.proofs.lemmas.Option.{slice_get_within, get_or_from_slice_get, sl
 use Rattle.sg_kinds.specs.Lexemes.{Lexeme}
 use Rattle.sg_kinds.specs.Matches.{Matches}
 use Rattle.sg_kinds.specs.declared.fault.SpecFault.{SpecFault}
-use Rattle.sg_patterns.specs.Spelling.{IsPattern, deepest}
 use Rattle.sg_ast.specs.declared.name.Name.{Name}
 use Rattle.sg_ast.specs.declared.name.Quoted.{Quoted}
 use Rattle.sg_ast.specs.Declarations.{Decl, Root, Listed, Optional, Operators, LexemeOf, Attributes, Equations, Schemes, Function, Transform, Productions, Entry, Precedence}
 use Rattle.sg_ast.specs.declared.decl.Decl as written
 use Rattle.sg_ast.specs.View.{tree_of, trees_of}
 use Rattle.sg_ast.specs.Parts.{lexeme_text}
+use Rattle.sg_patterns.specs.Spelling.{IsPattern, deepest}
 use Rattle.sg_load.specs.Patterns.{HasNoForm, IsFormFault, MatchesEmpty, IsEmptyFault, IsLexemeFault, IsOther, ArePatterns}
 use Rattle.sg_load.specs.PatternsSoFar.{IsAdded, first_empty, NoneBefore, IsFirstEmpty, ArePatternsOf}
 

@@ -5,19 +5,20 @@ use Rattle.std.specs.List.{AllByRecursion, list_any}
 use Rattle.std.proofs.lemmas.Bool.{and_parts, and_from, or_right}
 use Rattle.std.proofs.lemmas.List.Folds.{list_any-append}
 use Rattle.sg_kinds.specs.Values.{Bytes}
+use Rattle.sg_kinds.proofs.Elementary.{bytes_is}
 use Rattle.sg_ast.specs.declared.decl.Alt.{Alt}
 use Rattle.sg_ast.specs.Declarations as decl
 use Rattle.sg_ast.specs.Declarations.{Decl}
+use Rattle.sg_names.specs.declared.heads.Head.{Head}
+use Rattle.sg_names.specs.Heads.{is_head, with_head, base_heads}
+use Rattle.sg_names.specs.Names.{phylum_defined, nonterminal_defined, phyla_in, nonterminals_in, names_of}
+use Rattle.sg_names.proofs.HeadLaws.{some_place}
 use Rattle.sg_counts.specs.declared.definitions.Form.{Form}
 use Rattle.sg_counts.specs.declared.definitions.Form.TheVariants as form
 use Rattle.sg_counts.specs.declared.definitions.Definition.{Definition}
 use Rattle.sg_counts.specs.Definitions.{Space, Phyla, Callables, Key, is_same_space, is_same_key, adds_up, clashes}
 use Rattle.sg_counts.specs.Duplicates.{defined, definitions_of, definitions_in, given, duplicate}
-use Rattle.sg_names.specs.declared.heads.Head.{Head}
-use Rattle.sg_names.specs.Heads.{is_head, with_head, base_heads}
-use Rattle.sg_names.specs.Names.{phylum_defined, nonterminal_defined, phyla_in, nonterminals_in, names_of}
-use Rattle.sg_names.proofs.HeadLaws.{some_place}
-use Rattle.sg_resolve.proofs.Counting.{same_bytes, equal_bytes}
+use Rattle.sg_resolve.proofs.Counting.{equal_bytes}
 use Rattle.sg_resolve.proofs.ShapeApart.{definitions_apart}
 use Rattle.sg_resolve.proofs.ShapeApart as places
 use Rattle.sg_record.specs.Premises.{AreApart}
@@ -80,7 +81,7 @@ same_key n d e s t a b =
     let left : d.space ≡ Phyla = is_phyla d.space s in
     let right : e.space ≡ Phyla = is_phyla e.space t in
     let spaces : is_same_space d.space e.space ≡ true = λ i. is_same_space (left i) (right i) in
-    and_from (is_same_space d.space e.space) (bytes_eq d.name e.name) spaces (equal_bytes d.name e.name (sym (same_bytes n d.name a) ∙ same_bytes n e.name b))
+    and_from (is_same_space d.space e.space) (bytes_eq d.name e.name) spaces (equal_bytes d.name e.name (sym (bytes_is n d.name a) ∙ bytes_is n e.name b))
 
 clash : (n : Bytes) (a b : Bool) (d e : Definition Key) → (a ≡ true → b ≡ true → not (adds_up d.form e.form) ≡ true) → (in_phyla d.key.space && (a && bytes_eq n d.key.name)) ≡ true → (in_phyla e.key.space && (b && bytes_eq n e.key.name)) ≡ true
     → clashes is_same_key d e ≡ true

@@ -4,11 +4,11 @@ use Rattle.sg_kinds.specs.Lexemes.{Lexeme}
 use Rattle.sg_kinds.specs.Sound.{HasNames}
 use Rattle.sg_kinds.specs.declared.spec.Rule.{Rule}
 use Rattle.sg_ast.specs.Declarations.{Decl}
-use Rattle.sg_counts.specs.Duplicates.{duplicate}
+use Rattle.sg_ast.specs.Written.{HaveWritten}
 use Rattle.sg_names.specs.Names.{names_of}
 use Rattle.sg_names.specs.Shapes.{result_count}
+use Rattle.sg_counts.specs.Duplicates.{duplicate}
 use Rattle.sg_resolve.proofs.SpecNames.{own_names}
-use Rattle.sg_ast.specs.Written.{HaveWritten}
 use Rattle.sg_record.specs.Record.{record_of}
 use Rattle.sg_record.proofs.RecordSound.{record_named as nonterminals_named, record_numbered as nonterminals_numbered}
 use Rattle.sg_record.proofs.TableKept.{table_kept, names_bare}

@@ -10,23 +10,24 @@ use Rattle.sg_kinds.specs.Specification.{phylum_of}
 use Rattle.sg_kinds.specs.declared.spec.Operator.{Operator}
 use Rattle.sg_kinds.specs.declared.spec.Phylum.{Phylum}
 use Rattle.sg_kinds.specs.declared.spec.Scheme.{Scheme}
+use Rattle.sg_kinds.proofs.Elementary.{eq_is, bytes_is}
 use Rattle.sg_ast.specs.declared.decl.SchemeDecl.{SchemeDecl}
 use Rattle.sg_ast.specs.declared.name.Name.{Name}
 use Rattle.sg_ast.specs.Declarations as decl
 use Rattle.sg_ast.specs.Declarations.{Decl}
-use Rattle.sg_counts.specs.Definitions.{Schemes}
-use Rattle.sg_counts.specs.Duplicates.{definitions_of, given, duplicate}
-use Rattle.sg_counts.specs.Limits as limits
 use Rattle.sg_names.specs.declared.table.Table.{Table}
 use Rattle.sg_names.specs.Lookups.{phylum_named, operator_named}
 use Rattle.sg_names.specs.Names.{owned, op_named, if_of}
 use Rattle.sg_names.proofs.Owned.{owned_append}
-use Rattle.sg_schemes.specs.Shown.{operator_at}
-use Rattle.sg_resolve.proofs.Counting.{same_bytes, equal_bytes, one_if, passes, count-all, count-owned, all_made}
+use Rattle.sg_counts.specs.Definitions.{Schemes}
+use Rattle.sg_counts.specs.Duplicates.{definitions_of, given, duplicate}
+use Rattle.sg_counts.specs.Limits as limits
+use Rattle.sg_resolve.proofs.Counting.{equal_bytes, one_if, passes, count-all, count-owned, all_made}
 use Rattle.sg_resolve.proofs.Repeating.{defines, once}
 use Rattle.sg_resolve.proofs.ShapeLists.{each_map, each_always, each_split, none_owned}
+use Rattle.sg_schemes.specs.Shown.{operator_at}
+use Rattle.sg_typing.proofs.TableFacts.{position_there}
 use Rattle.sg_record.specs.Record.{scheme_of, schemes_under, schemes_at, schemes_of, with_scheme, with_schemes}
-use Rattle.sg_record.proofs.Lists.{equal_is, position_there}
 
 -- the name of a phylum by its number
 abbrev name_of : Table → ℕ → Bytes
@@ -35,7 +36,7 @@ name_of t p = unwrap_or (option_map (λ (x : Phylum). x.name) (slice_get t.phyla
 named_so : (t : Table) (n : Bytes) (p : ℕ) → phylum_named t n ≡ Some p → name_of t p ≡ n
 named_so t n p e =
     let x = position_there (λ (y : Phylum). bytes_eq n y.name) t.phyla p e in
-    ap (λ o. unwrap_or (option_map (λ (y : Phylum). y.name) o) []) x.1 ∙ sym (same_bytes n x.0.name x.2)
+    ap (λ o. unwrap_or (option_map (λ (y : Phylum). y.name) o) []) x.1 ∙ sym (bytes_is n x.0.name x.2)
 
 -- the operator that a declaration of schemes names has these names
 record IsOwner (t : Table) (p op : Name) (o : Operator) : Type 0 where
@@ -53,10 +54,10 @@ owner_is t p op k o is e =
         let x = position_there (λ (y : Operator). bytes_eq op.text y.name) t.ops j first in
         let same : x.0 ≡ o = cc (x.1, ap (slice_get t.ops) test.1, is) in
         let phylum : nat_eq q x.0.phylum ≡ true = ap (λ z. unwrap_or (option_map (nat_eq q) (option_map (λ (y : Operator). y.phylum) z)) false) (sym x.1) ∙ test.0 in
-        let own : o.phylum ≡ q = ap (λ (y : Operator). y.phylum) (sym same) ∙ sym (equal_is q x.0.phylum phylum) in
+        let own : o.phylum ≡ q = ap (λ (y : Operator). y.phylum) (sym same) ∙ sym (eq_is q x.0.phylum phylum) in
         record {
           phylum = ap (name_of t) own ∙ named_so t p.text q named;
-          name = ap (λ (y : Operator). y.name) (sym same) ∙ sym (same_bytes op.text x.0.name x.2);
+          name = ap (λ (y : Operator). y.name) (sym same) ∙ sym (bytes_is op.text x.0.name x.2);
         }
 
 -- no more is owned than there is
@@ -91,7 +92,7 @@ module _ (t : Table) (k : ℕ) (o : Operator) (is : slice_get t.ops k ≡ Some o
     where
       of : (j : ℕ) → operator_at t p op ≡ Some j → (b : Bool) → nat_eq j k ≡ b → length (owned (schemes_under t ss (Some j)) k) ≤ 16 * declared (decl.Schemes p op None ss)
       of j e true mine =
-          let one : declared (decl.Schemes p op None ss) ≡ 1 = one_declared p op ss (e ∙ ap Some (equal_is j k mine)) in
+          let one : declared (decl.Schemes p op None ss) ≡ 1 = one_declared p op ss (e ∙ ap Some (eq_is j k mine)) in
           let all : length (owned (schemes_under t ss (Some j)) k) ≤ length (schemes_under t ss (Some j)) = owned-le-length (schemes_under t ss (Some j)) k in
           let made : length (schemes_under t ss (Some j)) ≡ length ss = length-map ss (with_number t j) in
           let low : length ss ≤ 16 = few.0 in

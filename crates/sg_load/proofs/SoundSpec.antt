@@ -6,30 +6,30 @@ use Rattle.sg_kinds.specs.Matches.{Matches}
 use Rattle.sg_kinds.specs.Sound.{HasShapes, HasRules, HasSchemes, HasEntries, IsSound}
 use Rattle.sg_ast.specs.declared.name.Quoted.{Quoted}
 use Rattle.sg_ast.specs.Declarations.{Decl}
+use Rattle.sg_ast.specs.FirstFault.{or_else}
+use Rattle.sg_ast.specs.Written.{HaveWritten}
+use Rattle.sg_ast.specs.Parts.{lexeme_text}
+use Rattle.sg_ast.proofs.FirstLaws.{neither}
 use Rattle.sg_names.specs.Drafted.{HasTable}
 use Rattle.sg_names.specs.Names.{names_of}
 use Rattle.sg_names.proofs.OpPlaces.{places_count}
-use Rattle.sg_typing.specs.Checked.{first_fault}
-use Rattle.sg_ast.specs.FirstFault.{or_else}
-use Rattle.sg_ast.specs.Written.{HaveWritten}
-use Rattle.sg_equations.specs.Complete.{incomplete}
-use Rattle.sg_equations.proofs.RulesSound.{rules_sound}
 use Rattle.sg_resolve.specs.Resolved.{resolve_fault}
 use Rattle.sg_resolve.proofs.ShapeRows.{HasNoNamesFault, no_fault}
 use Rattle.sg_resolve.proofs.ShapesSound.{shapes_sound}
-use Rattle.sg_record.specs.Record.{record_of}
-use Rattle.sg_typing.proofs.ListsThere.{lists_there}
-use Rattle.sg_typing.proofs.RecordTyped.{neither}
-use Rattle.sg_record.proofs.TableKept.{table_kept, names_bare}
-use Rattle.sg_record.proofs.RecordSound.{no_mismatch, record_typed, record_shown, record_entered}
-use Rattle.sg_record.specs.Entries.{entry_twice, entry_type}
 use Rattle.sg_schemes.specs.NoScheme.{IsNoScheme}
 use Rattle.sg_schemes.specs.Places.{scheme_kids}
 use Rattle.sg_schemes.specs.Strings.{scheme_text}
+use Rattle.sg_typing.specs.Checked.{first_fault}
+use Rattle.sg_typing.proofs.ListsThere.{lists_there}
+use Rattle.sg_equations.specs.Complete.{incomplete}
+use Rattle.sg_equations.proofs.RulesSound.{rules_sound}
+use Rattle.sg_record.specs.Record.{record_of}
+use Rattle.sg_record.proofs.TableKept.{table_kept, names_bare}
+use Rattle.sg_record.proofs.RecordSound.{no_mismatch, record_typed, record_shown, record_entered}
+use Rattle.sg_record.specs.Entries.{entry_twice, entry_type}
 use Rattle.sg_load.specs.FirstFault.{IsSchemesFault, entries_fault}
 use Rattle.sg_load.proofs.RecordCounts.{record_counted}
 use Rattle.sg_load.proofs.RecordNamed.{record_named}
-use Rattle.sg_ast.specs.Parts.{lexeme_text}
 use Rattle.sg_load.specs.Patterns.{ArePatterns, AreLexemes}
 use Rattle.sg_load.specs.SpecOf.{equations_of, spec_with}
 

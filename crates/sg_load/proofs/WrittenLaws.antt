@@ -11,10 +11,10 @@ use Rattle.sg_kinds.specs.declared.fault.SpecFault.TheVariants.{TooLong}
 use Rattle.sg_ast.specs.Declarations.{Decl}
 use Rattle.sg_ast.specs.Spelling.{Mark}
 use Rattle.sg_ast.specs.Spells.{EachSpells, declarations}
+use Rattle.sg_ast.specs.Written.{HaveWritten}
 use Rattle.sg_reader.specs.EachRead.{read_from}
 use Rattle.sg_reader.proofs.Found.{all_spelled}
 use Rattle.sg_load.specs.Trees.{read_trees, trees_with, trees_in}
-use Rattle.sg_ast.specs.Written.{HaveWritten}
 use Rattle.sg_load.proofs.WrittenMarks.{HaveTexts, taken_texts, declarations_texts}
 use Rattle.sg_load.proofs.WrittenDecls.{decl_written}
 

@@ -1,5 +1,5 @@
 -- The strings among the marks of a text, and in the spellings that they fit, are texts.
-use Rattle.std.proofs.Common.{◌≡◌, ℕ, ◌+◌, List, [], ◌∷◌, ◌++◌, length, flat_map, Ok, sym, subst}
+use Rattle.std.proofs.Common.{◌≡◌, ℕ, ◌+◌, List, [], ◌∷◌, length, flat_map, Ok, sym, subst}
 use Rattle.std.specs.List.{AllByRecursion}
 use Rattle.std.proofs.lemmas.List.Elements.{recursion_from_All}
 use Rattle.sg_text.specs.declared.tokens.Token.{Token}
@@ -11,6 +11,7 @@ use Rattle.sg_text.proofs.TokenLaws.{tokens_of-all}
 use Rattle.sg_text.proofs.CutLemmas.{cut_from-all}
 use Rattle.sg_ast.specs.Spelling.{Mark, Piece, Free, Kept, Takes, none, free, kept}
 use Rattle.sg_ast.specs.Spells.{marks_from, marked_from, declarations}
+use Rattle.sg_resolve.proofs.ShapeLists.{each_split}
 use Rattle.sg_load.proofs.WrittenText.{HasText, token_text}
 
 -- marks whose strings are texts
@@ -24,11 +25,6 @@ lexeme_in (Kept l place) = l
 -- pieces whose strings are texts
 abbrev pub AreTexts : List Piece → Type 0
 AreTexts ps = AllByRecursion (λ (p : Piece). HasText (lexeme_in p)) ps
-
--- what holds of each element of two lists
-pub both_parts : {X : Type 0} (P : X → Type 0) (xs ys : List X) → AllByRecursion P (xs ++ ys) → AllByRecursion P xs × AllByRecursion P ys
-both_parts P [] ys h = (tt, h)
-both_parts P (x ∷ xs) ys h = let rest = both_parts P xs ys h.1 in ((h.0, rest.0), rest.1)
 
 -- marks fit only pieces with the same lexemes
 pub taken_texts : {ps : List Piece} {ms rest : List Mark} → Takes ps ms rest → HaveTexts ms → AreTexts ps
@@ -44,7 +40,7 @@ marked_texts : (bytes : List ℕ) (number : ℕ) (ds : List (List Token)) → Al
     → AllByRecursion HaveTexts (marked_from bytes number ds)
 marked_texts bytes number [] h = tt
 marked_texts bytes number (d ∷ ds) h =
-    let parts = both_parts (IsTokenOf bytes) d (flat_map (λ d. d) ds) h in
+    let parts = each_split (IsTokenOf bytes) d (flat_map (λ d. d) ds) h in
     (marks_texts bytes number d parts.0, marked_texts bytes (number + length d) ds parts.1)
 
 -- each declaration of a text

@@ -9,12 +9,13 @@ use Rattle.sg_ast.specs.Expressions.{Expr, Exprs, Cases, Amount, Chars, Truth, V
 use Rattle.sg_ast.specs.Spelling.{Piece, sign, word, spell_pattern, spell_patterns, spell_more_patterns, spell_expr, spell_exprs, spell_more_exprs, spell_cases}
 use Rattle.sg_ast.specs.Grouped.{HasNumbers, HaveNumbers, IsGrouped, AreGrouped, HasGrouped}
 use Rattle.sg_ast.specs.Written.{HasValues, HaveValues, AreWritten, AreWrittenAll, AreWrittenCases}
+use Rattle.sg_resolve.proofs.ShapeLists.{each_split}
 use Rattle.sg_load.proofs.WrittenText.{HasText}
-use Rattle.sg_load.proofs.WrittenMarks.{lexeme_in, AreTexts, both_parts}
+use Rattle.sg_load.proofs.WrittenMarks.{lexeme_in, AreTexts}
 
 -- the strings of a spelling in two parts
 pub parts : (xs ys : List Piece) → AreTexts (xs ++ ys) → AreTexts xs × AreTexts ys
-parts xs ys h = both_parts (λ (x : Piece). HasText (lexeme_in x)) xs ys h
+parts xs ys h = each_split (λ (x : Piece). HasText (lexeme_in x)) xs ys h
 
 mutual
   pub pattern_written : (q : Pattern) → HasNumbers q → AreTexts (spell_pattern q) → HasValues q

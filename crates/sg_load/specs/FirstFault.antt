@@ -8,11 +8,11 @@ use Rattle.sg_ast.specs.Declarations.{Decl}
 use Rattle.sg_ast.specs.FirstFault.{first_of}
 use Rattle.sg_names.specs.Names.{names_of}
 use Rattle.sg_resolve.specs.Resolved.{resolve_fault}
-use Rattle.sg_typing.specs.Checked.{first_fault}
-use Rattle.sg_equations.specs.Complete.{incomplete}
 use Rattle.sg_schemes.specs.NoScheme.{IsNoScheme}
 use Rattle.sg_schemes.specs.Places.{scheme_kids}
 use Rattle.sg_schemes.specs.Strings.{scheme_text}
+use Rattle.sg_typing.specs.Checked.{first_fault}
+use Rattle.sg_equations.specs.Complete.{incomplete}
 use Rattle.sg_record.specs.Entries.{entry_twice, entry_type}
 use Rattle.sg_grammar.specs.Numbered.{grammar_of}
 use Rattle.sg_lalr.specs.Tables.{IsTableFault}

@@ -4,10 +4,10 @@ use Rattle.sg_kinds.specs.Lexemes.{Lexeme}
 use Rattle.sg_kinds.specs.Matches.{Matches}
 use Rattle.sg_kinds.specs.declared.fault.SpecFault.{SpecFault}
 use Rattle.sg_kinds.specs.declared.fault.SpecFault.TheVariants.{PatternForm, EmptyLexeme}
-use Rattle.sg_patterns.specs.Spelling.{IsPattern, deepest}
 use Rattle.sg_ast.specs.declared.name.Quoted.{Quoted}
 use Rattle.sg_ast.specs.Parts.{lexeme_text}
 use Rattle.sg_ast.specs.Declarations.{Decl, LexemeOf}
+use Rattle.sg_patterns.specs.Spelling.{IsPattern, deepest}
 use Rattle.sg_load.specs.Rows.{IsFirst, HasNone}
 
 -- a lexeme phylum whose text is no pattern, and the fault of it

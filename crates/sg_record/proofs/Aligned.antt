@@ -2,12 +2,13 @@
 use Rattle.std.proofs.Common.{◌≡◌, ℕ, ◌+◌, List, [], ◌∷◌, ◌++◌, length, Some, slice_get, refl, sym, ap, ◌∙◌, arith}
 use Rattle.std.specs.List.{AllByRecursion as Each}
 use Rattle.std.proofs.lemmas.List.{length-map}
+use Rattle.sg_kinds.proofs.Elementary.{slice_get-before, slice_get-behind}
 use Rattle.sg_ast.specs.Declarations.{Decl, Equations, Function, Transform, Productions}
 use Rattle.sg_names.specs.declared.table.Table.{Table}
 use Rattle.sg_typing.specs.declared.bodies.TypedExpr.{TypedExpr}
 use Rattle.sg_typing.specs.Bodies.{expr_count, operator, equation_typed, right_typed, exprs_at, exprs_in}
 use Rattle.sg_record.specs.Record.{each_from}
-use Rattle.sg_record.proofs.Lists.{left, right, each_append}
+use Rattle.sg_record.proofs.Lists.{each_append}
 
 pub exprs_counted : (t : Table) (d : Decl) → length (exprs_at t d) ≡ expr_count d
 exprs_counted t (Equations n op locals es) = length-map es (equation_typed t (operator t n op))
@@ -21,12 +22,12 @@ abbrev pub StandAt : List TypedExpr → ℕ → List TypedExpr → Type 0
 StandAt all k part = (j : ℕ) (x : TypedExpr) → slice_get part j ≡ Some x → slice_get all (k + j) ≡ Some x
 
 front : (all : List TypedExpr) (k : ℕ) (xs ys : List TypedExpr) → StandAt all k (xs ++ ys) → StandAt all k xs
-front all k xs ys at j x h = at j x (left xs ys j x h)
+front all k xs ys at j x h = at j x (slice_get-before xs ys j x h)
 
 back : (all : List TypedExpr) (k n : ℕ) (xs ys : List TypedExpr) → length xs ≡ n → StandAt all k (xs ++ ys) → StandAt all (k + n) ys
 back all k n xs ys count at j x h =
     let e : k + n + j ≡ k + (n + j) = omega arith in
-    let g : slice_get (xs ++ ys) (n + j) ≡ Some x = ap (λ m. slice_get (xs ++ ys) (m + j)) (sym count) ∙ right xs ys j ∙ h in
+    let g : slice_get (xs ++ ys) (n + j) ≡ Some x = ap (λ m. slice_get (xs ++ ys) (m + j)) (sym count) ∙ slice_get-behind xs ys j ∙ h in
     ap (slice_get all) e ∙ at (n + j) x g
 
 module _ {A : Type 0} (t : Table) (all : List TypedExpr) (f : ℕ → Decl → List A) (P : A → Type 0) (Q : Decl → Type 0) (step : (k : ℕ) (d : Decl) → Q d → StandAt all k (exprs_at t d) → Each P (f k d)) where

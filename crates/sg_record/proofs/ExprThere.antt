@@ -1,13 +1,13 @@
 -- An expression that fits where it stands is well typed at its place in the record.
 use Rattle.std.proofs.Common.{◌≡◌, ℕ, true, List, map, Some, slice_get, ap, ◌∙◌}
 use Rattle.std.specs.Prelude.{option_map, option_and_then}
+use Rattle.std.proofs.lemmas.Option.{slice_get-map}
 use Rattle.sg_kinds.specs.Typing.{type_of, is_found, is_typed}
 use Rattle.sg_kinds.specs.declared.spec.Spec.{Spec}
 use Rattle.sg_ast.specs.Declarations.{Decl}
 use Rattle.sg_names.specs.declared.table.Table.{Table}
 use Rattle.sg_typing.specs.declared.bodies.TypedExpr.{TypedExpr}
 use Rattle.sg_typing.specs.Bodies.{exprs_in}
-use Rattle.sg_record.proofs.Lists.{slice_get-map}
 
 pub typed_there : (t : Table) (spec : Spec) (ds : List Decl) → spec.exprs ≡ map (λ (x : TypedExpr). x.expr) (exprs_in t ds) → (k : ℕ) (x : TypedExpr) (G : List ℕ) (p : ℕ)
     → slice_get (exprs_in t ds) k ≡ Some x → is_found spec p (type_of spec G x.expr) ≡ true → is_typed spec G k p ≡ true

@@ -3,10 +3,12 @@ use Rattle.std.proofs.Common.{◌≡◌, ℕ, Bool, true, false, cond, if◌then
 use Rattle.std.specs.Prelude.{is_some, option_and_then}
 use Rattle.std.specs.List.{AllByRecursion as Each, position, position_or_len}
 use Rattle.sg_kinds.specs.Values.{Bytes}
+use Rattle.sg_kinds.proofs.Elementary.{some_there}
 use Rattle.sg_ast.specs.declared.name.Name.{Name}
 use Rattle.sg_ast.specs.Declarations.{Decl}
 use Rattle.sg_ast.specs.FirstFault.{first}
 use Rattle.sg_ast.proofs.FirstLaws.{first-flat, first-none}
+use Rattle.sg_ast.specs.Written.{IsWritten, HaveWritten}
 use Rattle.sg_names.specs.declared.table.Table.{Table}
 use Rattle.sg_names.specs.Heads.{is_head, number_in}
 use Rattle.sg_names.specs.Names.{phyla_in, nonterminals_in, listings_of, attributes_of, owned, owners, operators_in, names_of}
@@ -15,8 +17,7 @@ use Rattle.sg_names.specs.UnknownName.{unless_known, unknown_at, unknown_name}
 use Rattle.sg_names.specs.Uses.{Use, UsesPhylum, decl_uses}
 use Rattle.sg_names.proofs.TableMade.{phylum_place, nonterminal_place}
 use Rattle.sg_typing.specs.Bodies.{mismatch_at_decl, first_mismatch}
-use Rattle.sg_ast.specs.Written.{IsWritten, HaveWritten}
-use Rattle.sg_record.proofs.Lists.{some_there, each_weaker}
+use Rattle.sg_record.proofs.Lists.{each_weaker}
 
 pub known_is : (b : Bool) (n : Name) → unless_known b n ≡ None → b ≡ true
 known_is true n h = refl

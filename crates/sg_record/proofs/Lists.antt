@@ -1,14 +1,8 @@
 -- Facts of each element of lists, and places in lists.
-use Rattle.std.proofs.Common.{◌≡◌, ℕ, zero, suc, ◌+◌, ◌<◌, Bool, true, false, cond, ◌||◌, List, [], ◌∷◌, ◌++◌, map, flat_map, length, Option, Some, None, slice_get, get_or, nat_eq, refl, ap, subst, ◌∙◌, arith, bytes_eq}
-use Rattle.std.specs.Prelude.{is_some, option_map, find, count_by}
-use Rattle.std.specs.List.{AllByRecursion as Each, Contains, list_any, position}
-use Rattle.std.proofs.Math.Nat.{suc-add, zero-add}
-use Rattle.std.proofs.lemmas.Bool.Decides.{nat_tests}
-use Rattle.std.proofs.lemmas.List.Quantifiers.{position-Some}
+use Rattle.std.proofs.Common.{◌≡◌, ℕ, zero, suc, ◌+◌, Bool, true, false, cond, ◌||◌, List, [], ◌∷◌, ◌++◌, map, flat_map, Some, slice_get, refl, ap, subst, ◌∙◌, arith}
+use Rattle.std.specs.Prelude.{option_map, find, count_by}
+use Rattle.std.specs.List.{AllByRecursion as Each, list_any}
 use Rattle.std.proofs.lemmas.List.Sums.{sum_by-cons}
-use Rattle.std.proofs.lemmas.Option.{slice_get_within, slice_get-get_or}
-use Rattle.std.proofs.lemmas.Slice.Eq.{bytes_eq-Decides}
-use Rattle.sg_kinds.proofs.Elementary.{slice_get-front}
 use Rattle.sg_names.specs.Names.{map_from}
 
 -- facts of each element
@@ -41,38 +35,8 @@ each_at P [] k x h e = absurd (cc e)
 each_at P (y ∷ ys) zero x h e = let same : y ≡ x = cc e in subst P same h.0
 each_at P (y ∷ ys) (suc k) x h e = each_at P ys k x h.1 e
 
--- places in lists that are joined
-pub left : {A : Type 0} (xs ys : List A) (k : ℕ) (x : A) → slice_get xs k ≡ Some x → slice_get (xs ++ ys) k ≡ Some x
-left xs ys k x h = slice_get-front xs ys k (slice_get_within xs k x h) ∙ h
-
-pub right : {A : Type 0} (xs ys : List A) (k : ℕ) → slice_get (xs ++ ys) (length xs + k) ≡ slice_get ys k
-right [] ys k = rw (zero-add k) refl
-right (x ∷ xs) ys k = rw (suc-add (length xs) k) (right xs ys k)
-
-pub slice_get-map : {A B : Type 0} (f : A → B) (xs : List A) (k : ℕ) → slice_get (map f xs) k ≡ option_map f (slice_get xs k)
-slice_get-map f [] k = refl
-slice_get-map f (x ∷ xs) zero = refl
-slice_get-map f (x ∷ xs) (suc k) = slice_get-map f xs k
-
 pub count-cons : {A : Type 0} (p : A → Bool) (x : A) (xs : List A) → count_by p (x ∷ xs) ≡ cond (p x) 1 0 + count_by p xs
 count-cons p x xs = sum_by-cons (λ y. cond (p y) 1 0) x xs
-
--- tests
-pub some_there : {A : Type 0} (o : Option A) → is_some o ≡ true → (x : A) × (o ≡ Some x)
-some_there None h = absurd (cc h)
-some_there (Some x) h = (x, refl)
-
-pub equal_is : (m n : ℕ) → nat_eq m n ≡ true → m ≡ n
-equal_is m n h = grind (arith, nat_tests)
-
-pub equal_to : (n : ℕ) → nat_eq n n ≡ true
-equal_to n = grind (arith, nat_tests)
-
-pub same_bytes : (n m : List ℕ) → bytes_eq n m ≡ true → n ≡ m
-same_bytes n m h = grind (arith, bytes_eq-Decides)
-
-pub bytes_to : (n : List ℕ) → bytes_eq n n ≡ true
-bytes_to n = grind (arith, bytes_eq-Decides)
 
 -- what some element passes
 pub any_left : {A : Type 0} (p : A → Bool) (xs ys : List A) → list_any p xs ≡ true → list_any p (xs ++ ys) ≡ true
@@ -101,13 +65,7 @@ slice_get-map_from f s [] k = refl
 slice_get-map_from f s (x ∷ xs) zero = let e : s ≡ s + 0 = omega arith in ap (λ m. Some (f m x)) e
 slice_get-map_from f s (x ∷ xs) (suc k) = let e : suc s + k ≡ s + suc k = omega arith in slice_get-map_from f (suc s) xs k ∙ ap (λ m. option_map (f m) (slice_get xs k)) e
 
--- what stands at the first place that passes; the first that passes
-pub position_there : {A : Type 0} (test : A → Bool) (xs : List A) (k : ℕ) → position test xs ≡ Some k → (x : A) × (slice_get xs k ≡ Some x) × (test x ≡ true)
-position_there test [] k h = absurd (cc h)
-position_there test (x ∷ xs) k h =
-    let b = position-Some test (x ∷ xs) k x h in
-    (get_or (x ∷ xs) k x, slice_get-get_or (x ∷ xs) k x b.0, b.1)
-
+-- the first that passes
 pub find_there : {A : Type 0} (P : A → Type 0) (test : A → Bool) (xs : List A) → Each P xs → list_any test xs ≡ true → (x : A) × (find test xs ≡ Some x) × (test x ≡ true) × P x
 find_there P test [] all h = absurd (cc h)
 find_there {A} P test (x ∷ xs) all h = by (test x) refl h (find_there P test xs all.1)
@@ -115,8 +73,3 @@ find_there {A} P test (x ∷ xs) all h = by (test x) refl h (find_there P test x
     by : (b : Bool) → test x ≡ b → (b || list_any test xs) ≡ true → (list_any test xs ≡ true → (y : A) × (find test xs ≡ Some y) × (test y ≡ true) × P y) → (y : A) × (cond b (Some x) (find test xs) ≡ Some y) × (test y ≡ true) × P y
     by true e g rest = (x, refl, e, all.0)
     by false e g rest = rest g
-
-pub contains_at : {A : Type 0} (xs : List A) (k : ℕ) (x : A) → slice_get xs k ≡ Some x → Contains xs x
-contains_at [] k x h = absurd (cc h)
-contains_at (y ∷ xs) zero x h = (0, omega arith, cc h)
-contains_at (y ∷ xs) (suc k) x h = let c = contains_at xs k x h in (suc c.0, (let low : c.0 < length xs = c.1 in omega (arith, low)), c.2)

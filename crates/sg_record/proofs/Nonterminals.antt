@@ -9,10 +9,12 @@ use Rattle.sg_kinds.specs.declared.fault.SpecFault.TheVariants.{ResultCount}
 use Rattle.sg_kinds.specs.declared.spec.Attr.{Attr}
 use Rattle.sg_kinds.specs.declared.spec.Production.{Production}
 use Rattle.sg_kinds.specs.declared.spec.Spec.{Spec}
+use Rattle.sg_kinds.proofs.Elementary.{some_there, eq_is, eq_itself, bytes_is, bytes_itself}
 use Rattle.sg_ast.specs.declared.name.Name.{Name}
 use Rattle.sg_ast.specs.Declarations.{Decl, Right, Productions}
 use Rattle.sg_ast.specs.FirstFault.{or_else}
 use Rattle.sg_ast.proofs.FirstLaws.{first-none}
+use Rattle.sg_ast.specs.Written.{IsWritten}
 use Rattle.sg_names.specs.declared.heads.Head.{Head}
 use Rattle.sg_names.specs.declared.table.Nonterminal.{Nonterminal}
 use Rattle.sg_names.specs.declared.table.Table.{Table}
@@ -22,10 +24,10 @@ use Rattle.sg_names.specs.Names.{map_from, nonterminal_defined, nonterminals_in,
 use Rattle.sg_names.specs.Shapes.{has_one_result, result_count_at, result_count}
 use Rattle.sg_names.proofs.HeadLaws.{some_place}
 use Rattle.sg_typing.specs.Bodies.{expr_count}
-use Rattle.sg_ast.specs.Written.{IsWritten}
+use Rattle.sg_typing.proofs.TableFacts.{position_there}
 use Rattle.sg_record.specs.Record.{nonterminal_in, production, productions_in}
 use Rattle.sg_record.proofs.Known.{nonterminal_in_heads}
-use Rattle.sg_record.proofs.Lists.{any_left, any_right, bytes_to, each_append, each_at, equal_is, equal_to, find_there, position_there, same_bytes, some_there}
+use Rattle.sg_record.proofs.Lists.{any_left, any_right, each_append, each_at, find_there}
 
 -- one attribute
 one_result : (attrs : List Attr) → has_one_result attrs ≡ true → (a : Attr) × (attrs ≡ a ∷ [])
@@ -49,7 +51,7 @@ attrs_there t n k x named there =
 pub nonterminal_there : (t : Table) (n : Bytes) (k : ℕ) → nonterminal_named t n ≡ Some k → (x : Nonterminal) × (slice_get t.nonterminals k ≡ Some x) × (n ≡ x.name)
 nonterminal_there t n k h =
     let x = position_there (λ (y : Nonterminal). bytes_eq n y.name) t.nonterminals k h in
-    (x.0, x.1, same_bytes n x.0.name x.2)
+    (x.0, x.1, bytes_is n x.0.name x.2)
 
 pub same_attrs : (t : Table) (n m : Bytes) (k : ℕ) → nonterminal_named t n ≡ Some k → nonterminal_named t m ≡ Some k → symbol_attrs t n ≡ symbol_attrs t m
 same_attrs t n m k a b =
@@ -89,7 +91,7 @@ head_added H n lexical = by (list_any (is_head n.text) H) refl
   where
     by : (b : Bool) → list_any (is_head n.text) H ≡ b → list_any (is_head n.text) (if b then H else H ++ head_of n lexical ∷ []) ≡ true
     by true e = e
-    by false e = any_right (is_head n.text) H (head_of n lexical ∷ []) (ap (λ b. b || false) (bytes_to n.text))
+    by false e = any_right (is_head n.text) H (head_of n lexical ∷ []) (ap (λ b. b || false) (bytes_itself n.text))
 
 -- the heads behind a declaration
 abbrev pub heads_behind : List Head → List Decl → List Head
@@ -168,7 +170,7 @@ first_right : (t : Table) (m : Name) (k j : ℕ) (rights : List Right) → nonte
 first_right t m k j [] named some = absurd (some refl)
 first_right t m k j (r ∷ rights) named some =
     let same : nonterminal_in t m.text ≡ k = ap (λ o. unwrap_or o 0) named in
-    ap (λ b. b || list_any (is_left k) (map_from (production t m) (suc j) rights)) (ap (λ l. nat_eq l k) same ∙ equal_to k)
+    ap (λ b. b || list_any (is_left k) (map_from (production t m) (suc j) rights)) (ap (λ l. nat_eq l k) same ∙ eq_itself k)
 
 pub has_production : (t : Table) (n : Bytes) (k : ℕ) → nonterminal_named t n ≡ Some k → (H : List Head) (j : ℕ) (ds : List Decl) → Each IsWritten ds
     → list_any (is_head n) (heads_behind H ds) ≡ true → list_any (is_head n) H ≡ false → list_any (is_left k) (productions_in t j ds) ≡ true
@@ -179,7 +181,7 @@ has_production t n k named H j (Productions m rights ∷ ds) written there none 
     by : (b : Bool) → bytes_eq n m.text ≡ b → (list_any (is_head n) (with_head H (head_of m false)) ≡ false → list_any (is_left k) (productions_in t (j + length rights) ds) ≡ true)
         → list_any (is_left k) (map_from (production t m) j rights ++ productions_in t (j + length rights) ds) ≡ true
     by true e rest =
-        let named_m : nonterminal_named t m.text ≡ Some k = ap (nonterminal_named t) (sym (same_bytes n m.text e)) ∙ named in
+        let named_m : nonterminal_named t m.text ≡ Some k = ap (nonterminal_named t) (sym (bytes_is n m.text e)) ∙ named in
         any_left (is_left k) (map_from (production t m) j rights) (productions_in t (j + length rights) ds) (first_right t m k j rights named_m written.0.0)
     by false e rest = any_right (is_left k) (map_from (production t m) j rights) (productions_in t (j + length rights) ds) (rest (other_head n H (head_of m false) e none))
 has_production t n k named H j (d ∷ ds) written there none = has_production t n k named H (j + expr_count d) ds written.1 there none
@@ -191,7 +193,7 @@ result_typed ds spec made none written n k a named attrs =
     let t = names_of ds in
     let there : list_any (is_head n) (nonterminals_in ds) ≡ true = sym (some_place (is_head n) (nonterminals_in ds)) ∙ ap is_some (sym (nonterminal_in_heads ds n)) ∙ ap is_some named in
     let r = find_there (IsOf t) (is_left k) (productions_in t 0 ds) (productions_of t none 0 ds (all_defined ds)) (has_production t n k named [] 0 ds written there refl) in
-    let left : r.0.left ≡ k = equal_is r.0.left k r.2 in
+    let left : r.0.left ≡ k = eq_is r.0.left k r.2 in
     let same : symbol_attrs t r.0.name ≡ symbol_attrs t n = same_attrs t r.0.name n k (r.3.left ∙ ap Some left) named in
     let one : r.3.of.0 ≡ a = cc (r.3.of.1, same, attrs) in
     ap (λ l. option_map (λ (s : Production). s.of) (find (is_left k) l)) made ∙ ap (option_map (λ (s : Production). s.of)) r.1 ∙ ap Some (sym r.3.of.2 ∙ ap (λ (b : Attr). b.of) one)

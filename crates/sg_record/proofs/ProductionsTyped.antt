@@ -13,6 +13,7 @@ use Rattle.sg_ast.specs.declared.decl.AttrDecl.{AttrDecl}
 use Rattle.sg_ast.specs.declared.name.Name.{Name}
 use Rattle.sg_ast.specs.Declarations.{Decl, Right, Attributes, Productions}
 use Rattle.sg_ast.proofs.FirstLaws.{first-none}
+use Rattle.sg_ast.specs.Written.{AreWritten, IsWritten}
 use Rattle.sg_names.specs.declared.heads.Head.{Head}
 use Rattle.sg_names.specs.declared.table.Nonterminal.{Nonterminal}
 use Rattle.sg_names.specs.Drafted.{HasTable}
@@ -22,12 +23,11 @@ use Rattle.sg_names.specs.Names.{map_from, owned, attribute, attributes_at, attr
 use Rattle.sg_names.specs.Shapes.{result_count}
 use Rattle.sg_names.specs.UnknownName.{unknown_at}
 use Rattle.sg_names.specs.Uses.{UsesPhylum, InProduction, right_uses, part_uses, expr_uses}
-use Rattle.sg_typing.specs.declared.bodies.TypedExpr.{TypedExpr}
 use Rattle.sg_types.specs.Bindings.{OfProduction}
+use Rattle.sg_types.specs.Expressions.{recorded}
+use Rattle.sg_typing.specs.declared.bodies.TypedExpr.{TypedExpr}
 use Rattle.sg_typing.specs.Bodies as body
 use Rattle.sg_typing.specs.Bodies.{exprs_at, exprs_in, right_typed, right_mismatch}
-use Rattle.sg_types.specs.Expressions.{recorded}
-use Rattle.sg_ast.specs.Written.{AreWritten, IsWritten}
 use Rattle.sg_typing.specs.Written.{HasLists}
 use Rattle.sg_typing.proofs.BodyTyped.{body_kept}
 use Rattle.sg_record.specs.Record.{production, productions_at, productions_in}

@@ -11,6 +11,7 @@ use Rattle.sg_kinds.specs.declared.fault.SpecFault.TheVariants.{EntryTwice, Entr
 use Rattle.sg_kinds.specs.declared.spec.Attr.{Attr}
 use Rattle.sg_kinds.specs.declared.spec.Entry.{Entry}
 use Rattle.sg_kinds.specs.declared.spec.Spec.{Spec}
+use Rattle.sg_kinds.proofs.Elementary.{eq_itself}
 use Rattle.sg_ast.specs.declared.name.Name.{Name}
 use Rattle.sg_ast.specs.Declarations.{Decl}
 use Rattle.sg_ast.specs.Declarations as decl
@@ -28,7 +29,7 @@ use Rattle.sg_typing.proofs.TableFacts.{usable_is}
 use Rattle.sg_record.specs.Entries.{entered, twice_at, entry_twice, type_fault, entry_type}
 use Rattle.sg_record.specs.Record.{phylum_in, nonterminal_in, entry_at}
 use Rattle.sg_record.proofs.Known.{AreKnown, phylum_known}
-use Rattle.sg_record.proofs.Lists.{any_left, any_right, each_both, each_flat, each_weaker, equal_to}
+use Rattle.sg_record.proofs.Lists.{any_left, any_right, each_both, each_flat, each_weaker}
 use Rattle.sg_record.proofs.Symbols.{one_type}
 
 -- elements of which no two are equal
@@ -60,7 +61,7 @@ no_two before place (x ∷ xs) h = by (list_any (λ z. nat_eq z x) before) h (no
   where
     by : (b : Bool) → (if b then Some place else repeat_from nat_eq (before ++ x ∷ []) (suc place) xs) ≡ None → (repeat_from nat_eq (before ++ x ∷ []) (suc place) xs ≡ None → EachPair ◌≢◌ xs) → Each (λ z. x ≢ z) xs × EachPair ◌≢◌ xs
     by true f rest = absurd (cc f)
-    by false f rest = (later_other (before ++ x ∷ []) (suc place) xs x (any_right (λ z. nat_eq z x) before (x ∷ []) (ap (λ b. b || false) (equal_to x))) f, rest f)
+    by false f rest = (later_other (before ++ x ∷ []) (suc place) xs x (any_right (λ z. nat_eq z x) before (x ∷ []) (ap (λ b. b || false) (eq_itself x))) f, rest f)
 
 -- the place of a repeat is in the list
 repeat_within : (before : List ℕ) (place : ℕ) (xs : List ℕ) (k : ℕ) → repeat_from nat_eq before place xs ≡ Some k → k < place + length xs

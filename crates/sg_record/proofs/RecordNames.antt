@@ -10,8 +10,10 @@ use Rattle.sg_kinds.specs.Sound.{IsNamed, IsNumbered}
 use Rattle.sg_kinds.specs.declared.spec.Phylum.{Phylum}
 use Rattle.sg_kinds.specs.declared.spec.Production.{Production}
 use Rattle.sg_kinds.specs.declared.spec.Spec.{Spec}
+use Rattle.sg_kinds.proofs.Elementary.{some_there, eq_is, eq_itself, bytes_itself}
 use Rattle.sg_ast.specs.declared.name.Name.{Name}
 use Rattle.sg_ast.specs.Declarations.{Decl, Right, Productions}
+use Rattle.sg_ast.specs.Written.{IsWritten}
 use Rattle.sg_names.specs.declared.heads.Head.{Head}
 use Rattle.sg_names.specs.declared.table.Table.{Table}
 use Rattle.sg_names.specs.Drafted.{HasTable}
@@ -21,11 +23,10 @@ use Rattle.sg_names.specs.Names.{map_from, nonterminal_defined, nonterminals_in,
 use Rattle.sg_names.specs.Shapes.{result_count}
 use Rattle.sg_names.proofs.HeadLaws.{some_place}
 use Rattle.sg_typing.specs.Bodies.{expr_count}
-use Rattle.sg_ast.specs.Written.{IsWritten}
 use Rattle.sg_record.specs.Premises.{AreApart}
 use Rattle.sg_record.specs.Record.{nonterminal_in, production, productions_in}
 use Rattle.sg_record.proofs.Known.{nonterminal_in_heads, place_is}
-use Rattle.sg_record.proofs.Lists.{any_left, any_right, bytes_to, each_weaker, equal_is, equal_to, some_there}
+use Rattle.sg_record.proofs.Lists.{any_left, any_right, each_weaker}
 use Rattle.sg_record.proofs.Nonterminals.{IsOf, all_defined, productions_of, same_name, is_left, heads_behind}
 
 -- no name of a phylum is that of a nonterminal
@@ -36,7 +37,7 @@ phylum_apart n (x ∷ phyla) none = by (bytes_eq n x.name) refl none (phylum_apa
     by : (b : Bool) → bytes_eq n x.name ≡ b → (b || list_any (λ (y : Phylum). bytes_eq n y.name) phyla) ≡ false
         → (list_any (λ (y : Phylum). bytes_eq n y.name) phyla ≡ false → Each (λ (y : Phylum). y.name ≢ n) phyla) → Each (λ (y : Phylum). y.name ≢ n) (x ∷ phyla)
     by true e f rest = absurd (cc f)
-    by false e f rest = ((λ same. absurd (cc (sym (bytes_to n) ∙ ap (bytes_eq n) (sym same) ∙ e))), rest f)
+    by false e f rest = ((λ same. absurd (cc (sym (bytes_itself n) ∙ ap (bytes_eq n) (sym same) ∙ e))), rest f)
 
 no_phylum : (t : Table) (n : Bytes) (k : ℕ) → AreApart t → nonterminal_named t n ≡ Some k → list_any (λ (x : Phylum). bytes_eq n x.name) t.phyla ≡ false
 no_phylum t n k apart named = by (phylum_named t n) refl (some_place (λ (x : Phylum). bytes_eq n x.name) t.phyla)
@@ -125,11 +126,11 @@ added H n = by (list_any (is_head n.text) H) refl
     by : (b : Bool) → list_any (is_head n.text) H ≡ b → IsAdded H (if b then H else H ++ head_of n false ∷ []) n
     by true e = record { low = place_within (is_head n.text) H; seen = e; new = λ k low high. absurd (omega (arith, low, high)) }
     by false e =
-        let last : position_or_len (is_head n.text) (H ++ head_of n false ∷ []) ≡ length H = place_last (is_head n.text) H (head_of n false) e (bytes_to n.text) in
+        let last : position_or_len (is_head n.text) (H ++ head_of n false ∷ []) ≡ length H = place_last (is_head n.text) H (head_of n false) e (bytes_itself n.text) in
         let count : length (H ++ head_of n false ∷ []) ≡ length H + 1 = length-append H (head_of n false ∷ []) in
         record {
           low = omega (arith, last);
-          seen = any_right (is_head n.text) H (head_of n false ∷ []) (ap (λ b. b || false) (bytes_to n.text));
+          seen = any_right (is_head n.text) H (head_of n false ∷ []) (ap (λ b. b || false) (bytes_itself n.text));
           new = λ k low high. omega (arith, last, count, low, high);
         }
 
@@ -156,7 +157,7 @@ left_contained k [] h = absurd (cc h)
 left_contained k (r ∷ rs) h = by (nat_eq r.left k) refl h (left_contained k rs)
   where
     by : (b : Bool) → nat_eq r.left k ≡ b → (b || list_any (is_left k) rs) ≡ true → (list_any (is_left k) rs ≡ true → Contains (map (λ (s : Production). s.left) rs) k) → Contains (map (λ (s : Production). s.left) (r ∷ rs)) k
-    by true e f rest = (0, omega arith, equal_is r.left k e)
+    by true e f rest = (0, omega arith, eq_is r.left k e)
     by false e f rest = let c = rest f in (suc c.0, (let low : c.0 < length (map (λ (s : Production). s.left) rs) = c.1 in omega (arith, low)), c.2)
 
 module _ (t : Table) (F : List Head) (numbers : (n : Bytes) → list_any (is_head n) F ≡ true → nonterminal_in t n ≡ position_or_len (is_head n) F) where
@@ -170,7 +171,7 @@ module _ (t : Table) (F : List Head) (numbers : (n : Bytes) → list_any (is_hea
 
   first_left : (m : Name) (j : ℕ) (rights : List Right) → (rights ≡ [] → ⊥) → list_any (is_left (nonterminal_in t m.text)) (map_from (production t m) j rights) ≡ true
   first_left m j [] some = absurd (some refl)
-  first_left m j (r ∷ rights) some = ap (λ b. b || list_any (is_left (nonterminal_in t m.text)) (map_from (production t m) (suc j) rights)) (equal_to (nonterminal_in t m.text))
+  first_left m j (r ∷ rights) some = ap (λ b. b || list_any (is_left (nonterminal_in t m.text)) (map_from (production t m) (suc j) rights)) (eq_itself (nonterminal_in t m.text))
 
   numbered_all : (H : List Head) (seen : List Production) (j : ℕ) (ds : List Decl) → heads_behind H ds ≡ F → Each IsWritten ds → ((k : ℕ) → k < length H → list_any (is_left k) seen ≡ true) → Numbered seen (productions_in t j ds)
   unfolding Numbered

@@ -16,6 +16,7 @@ use Rattle.sg_kinds.specs.declared.spec.Occurrence.{Occurrence}
 use Rattle.sg_kinds.specs.declared.spec.Operator.{Operator}
 use Rattle.sg_kinds.specs.declared.spec.Scheme.{Scheme}
 use Rattle.sg_kinds.specs.declared.spec.Spec.{Spec}
+use Rattle.sg_kinds.proofs.Elementary.{eq_is, eq_itself}
 use Rattle.sg_ast.specs.declared.decl.Item.{Item as Written}
 use Rattle.sg_ast.specs.declared.decl.Item.TheVariants.{Writes, Child, Shows, Separates}
 use Rattle.sg_ast.specs.declared.decl.SchemeDecl.{SchemeDecl}
@@ -25,6 +26,7 @@ use Rattle.sg_ast.specs.declared.name.Name.{Name}
 use Rattle.sg_ast.specs.Declarations.{Decl, Schemes}
 use Rattle.sg_ast.specs.FirstFault.{first}
 use Rattle.sg_ast.proofs.FirstLaws.{first-none}
+use Rattle.sg_ast.specs.Written.{IsWritten}
 use Rattle.sg_names.specs.declared.table.Table.{Table}
 use Rattle.sg_names.specs.Drafted.{drafted, HasTable}
 use Rattle.sg_names.specs.Lookups.{phylum_named, operator_named, reference, operator_at}
@@ -41,9 +43,8 @@ use Rattle.sg_typing.specs.Bodies.{reference_type, target_type}
 use Rattle.sg_typing.specs.Bodies as body
 use Rattle.sg_typing.specs.Shown.{hidden, hidden_item, hidden_scheme, hidden_at, first_hidden, target_place}
 use Rattle.sg_typing.proofs.RecordTyped.{unless_is}
-use Rattle.sg_ast.specs.Written.{IsWritten}
 use Rattle.sg_record.specs.Record.{first_slot, shown, item_of, scheme_of, schemes_under, schemes_at, schemes_of, with_scheme, with_schemes}
-use Rattle.sg_record.proofs.Lists.{each_append, each_both, each_flat, each_map, equal_is, equal_to, slice_get-map_from}
+use Rattle.sg_record.proofs.Lists.{each_append, each_both, each_flat, each_map, slice_get-map_from}
 
 -- what stands at a place of a list whose elements are made with their places
 made_there : {A B : Type 0} (f : ℕ → A → B) (xs : List A) (k : ℕ) (y : B) → slice_get (map_from f 0 xs) k ≡ Some y → (x : A) × (slice_get xs k ≡ Some x) × (f k x ≡ y)
@@ -62,7 +63,7 @@ operator_there t p op n h = by (op_named t.ops n) h
     test j (Some q) e f = is (nat_eq p q) refl f
       where
         is : (b : Bool) → nat_eq p q ≡ b → (if b then Some j else None) ≡ Some op → phylum_of t.ops op ≡ Some p
-        is true g k = let same : j ≡ op = cc k in ap (phylum_of t.ops) (sym same) ∙ e ∙ ap Some (sym (equal_is p q g))
+        is true g k = let same : j ≡ op = cc k in ap (phylum_of t.ops) (sym same) ∙ e ∙ ap Some (sym (eq_is p q g))
         is false g k = absurd (cc k)
 
     by : (o : Option ℕ) → option_and_then (if_of t.ops p) o ≡ Some op → phylum_of t.ops op ≡ Some p
@@ -143,7 +144,7 @@ module _ (t : Table) (spec : Spec) (kept : HasTable t spec) where
   scheme_fine p op n s own h =
       let fits = and_parts (nat_eq (count_by places.is_place s.items) (length (args_of t.ops op))) (places.separators_fit (places.is_pair t p op) 0 s.items) (fitting_is (places.is_pair t p op) (length (args_of t.ops op)) n s h.0) in
       record {
-        places = same_places t op s.items ∙ equal_is (count_by places.is_place s.items) (length (args_of t.ops op)) fits.0 ∙ ap length (sym (args_kept t spec kept op));
+        places = same_places t op s.items ∙ eq_is (count_by places.is_place s.items) (length (args_of t.ops op)) fits.0 ∙ ap length (sym (args_kept t spec kept op));
         separators = same_separators t op (is_pair spec op) 0 s.items ∙ ap (λ b. places.separators_fit b 0 s.items) (same_pair p op own) ∙ fits.1;
         shown = All-from_recursion (IsItem spec op) (map (item_of t op) s.items) (each_map (IsItem spec op) (λ i. hidden_item t op i ≡ None) (item_of t op) s.items (item_fine op) (first-none (hidden_item t op) s.items h.1));
       }
@@ -175,7 +176,7 @@ module _ (t : Table) (spec : Spec) (kept : HasTable t spec) where
   owned_fine (x ∷ pairs) k h = each_append (IsScheme spec k) _ (owned pairs k) (one (nat_eq x.0 k) refl) (owned_fine pairs k h.1)
     where
       one : (b : Bool) → nat_eq x.0 k ≡ b → Each (IsScheme spec k) (if b then x.1 ∷ [] else [])
-      one true e = (subst (λ j. IsScheme spec j x.1) (equal_is x.0 k e) h.0, tt)
+      one true e = (subst (λ j. IsScheme spec j x.1) (eq_is x.0 k e) h.0, tt)
       one false e = tt
 
   all_fine : (ds : List Decl) (k : ℕ) → scheme_kids t ds ≡ None → first_hidden t ds ≡ None → Each (IsScheme spec k) (schemes_of t ds k)
@@ -189,7 +190,7 @@ some_owned : (t : Table) (k : ℕ) (ss : List SchemeDecl) → (ss ≡ [] → ⊥
 some_owned t k [] some = absurd (some refl)
 some_owned t k (s ∷ ss) some =
     let e : owned (map (λ x. (k, scheme_of t k x)) (s ∷ ss)) k ≡ scheme_of t k s ∷ owned (map (λ x. (k, scheme_of t k x)) ss) k =
-    ap (λ b. (if b then scheme_of t k s ∷ [] else []) ++ owned (map (λ x. (k, scheme_of t k x)) ss) k) (equal_to k) in
+    ap (λ b. (if b then scheme_of t k s ∷ [] else []) ++ owned (map (λ x. (k, scheme_of t k x)) ss) k) (eq_itself k) in
     let n : length (owned (map (λ x. (k, scheme_of t k x)) (s ∷ ss)) k) ≡ suc (length (owned (map (λ x. (k, scheme_of t k x)) ss) k)) = ap length e in
     omega (arith, n)
 
@@ -198,7 +199,7 @@ gives_some t k (Schemes p op None ss) written h = by (operator_at t p op) h
   where
     by : (o : Option ℕ) → unwrap_or (option_map (nat_eq k) o) false ≡ true → 1 ≤ length (owned (schemes_under t ss o) k)
     by None e = absurd (cc e)
-    by (Some j) e = subst (λ m. 1 ≤ length (owned (schemes_under t ss (Some m)) k)) (equal_is k j e) (some_owned t k ss written)
+    by (Some j) e = subst (λ m. 1 ≤ length (owned (schemes_under t ss (Some m)) k)) (eq_is k j e) (some_owned t k ss written)
 gives_some t k d written h = absurd (cc h)
 
 given_has : (t : Table) (k : ℕ) (ds : List Decl) → Each IsWritten ds → list_any (gives t k) ds ≡ true → 1 ≤ length (schemes_of t ds k)

@@ -9,6 +9,7 @@ use Rattle.sg_kinds.specs.declared.fault.SpecFault.TheVariants.{Mismatch, ShownT
 use Rattle.sg_kinds.specs.declared.spec.Rule.{Rule}
 use Rattle.sg_ast.specs.Declarations.{Decl}
 use Rattle.sg_ast.specs.FirstFault.{or_else}
+use Rattle.sg_ast.specs.Written.{HaveWritten}
 use Rattle.sg_names.specs.declared.table.Table.{Table}
 use Rattle.sg_names.specs.Drafted.{HasTable}
 use Rattle.sg_names.specs.Names.{names_of}
@@ -21,7 +22,6 @@ use Rattle.sg_typing.specs.Checked.{first_fault}
 use Rattle.sg_typing.specs.Shown.{first_hidden}
 use Rattle.sg_typing.proofs.ListsThere.{lists_there}
 use Rattle.sg_record.specs.Entries.{entry_twice, entry_type}
-use Rattle.sg_ast.specs.Written.{HaveWritten}
 use Rattle.sg_record.specs.Premises.{AreApart}
 use Rattle.sg_record.specs.Record.{record_of}
 use Rattle.sg_record.proofs.FunctionsTyped.{functions_typed, params_usable}

@@ -10,6 +10,7 @@ use Rattle.sg_kinds.specs.declared.marks.Shape.TheVariants.{Lexemes}
 use Rattle.sg_kinds.specs.declared.spec.Attr.{Attr}
 use Rattle.sg_kinds.specs.declared.spec.Phylum.{Phylum}
 use Rattle.sg_kinds.specs.declared.spec.Spec.{Spec}
+use Rattle.sg_kinds.proofs.Elementary.{bytes_is}
 use Rattle.sg_ast.specs.declared.decl.Part.{Part}
 use Rattle.sg_ast.specs.declared.decl.Part.TheVariants.{Named, Literal}
 use Rattle.sg_ast.specs.declared.name.Name.{Name}
@@ -22,7 +23,7 @@ use Rattle.sg_names.specs.declared.heads.Head.{Head}
 use Rattle.sg_names.specs.declared.table.Nonterminal.{Nonterminal}
 use Rattle.sg_names.specs.declared.table.Table.{Table}
 use Rattle.sg_names.specs.Drafted.{drafted, HasTable}
-use Rattle.sg_names.specs.Lookups.{nonterminal_named, phylum_named, usable_named, symbol_attrs, attr_type, name_of, operand, symbol, places_from, places, chosen, is_part, not_left}
+use Rattle.sg_names.specs.Lookups.{nonterminal_named, phylum_named, usable_named, symbol_attrs, attr_type, name_of, symbol, places_from, places, chosen, is_part, not_left}
 use Rattle.sg_names.specs.Lookups as look
 use Rattle.sg_names.specs.Names.{map_from, value_attr, attrs_there, phylum, phyla_in, listings_of, attributes_of, owned, owners, operators_in, names_of}
 use Rattle.sg_names.specs.UnknownName.{unknown_at, is_lexeme, is_nonterminal}
@@ -33,7 +34,7 @@ use Rattle.sg_typing.specs.Written.{AreOutside}
 use Rattle.sg_typing.proofs.TableFacts.{usable_is}
 use Rattle.sg_record.specs.Record.{phylum_in, symbol_named, symbol_of}
 use Rattle.sg_record.proofs.Known.{AreKnown, known_is, named_of_usable}
-use Rattle.sg_record.proofs.Lists.{count-cons, same_bytes, slice_get-map_from}
+use Rattle.sg_record.proofs.Lists.{count-cons, slice_get-map_from}
 
 -- a lexeme phylum has the one attribute of its text
 lexical_leaf : (s : Shape) → is_lexical_shape s ≡ true → is_leaf_shape s ≡ true
@@ -119,7 +120,7 @@ abbrev NamedAt : List Part → Bytes → ℕ → Type 0
 NamedAt parts q at = (j : ℕ) × (n : Name) × (at ≡ suc j) × (slice_get parts j ≡ Some (Named n)) × (q ≡ n.text)
 
 part_named : (q : Bytes) (parts : List Part) (at j : ℕ) (x : Part) → at ≡ 1 + j → slice_get parts j ≡ Some x → is_part q x ≡ true → NamedAt parts q at
-part_named q parts at j (Named n) e h test = (j, n, e ∙ (let z : 1 + j ≡ suc j = omega arith in z), h, same_bytes q n.text test)
+part_named q parts at j (Named n) e h test = (j, n, e ∙ (let z : 1 + j ≡ suc j = omega arith in z), h, bytes_is q n.text test)
 part_named q parts at j (Literal s) e h test = absurd (cc test)
 
 place_named : (q : Bytes) (is_left : Bool) (parts : List Part) (i at : ℕ) → slice_get (places (is_part q) is_left parts) i ≡ Some at → (at ≡ 0 → ⊥) → NamedAt parts q at

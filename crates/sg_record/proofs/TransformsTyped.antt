@@ -12,23 +12,24 @@ use Rattle.sg_ast.specs.Declarations.{Decl}
 use Rattle.sg_ast.specs.Declarations as decl
 use Rattle.sg_ast.specs.Expressions.{Expr}
 use Rattle.sg_ast.specs.Patterns.{Pattern, Patterns, Amount, Chars, Truth, Anything, Variable, MadeAs, Applied, NoPattern, AndPattern}
+use Rattle.sg_ast.specs.Written.{IsWritten}
+use Rattle.sg_ast.proofs.FirstLaws.{neither}
 use Rattle.sg_names.specs.declared.table.Table.{Table}
 use Rattle.sg_names.specs.Drafted.{HasTable}
 use Rattle.sg_names.specs.Lookups.{phylum_named, usable_named}
 use Rattle.sg_names.specs.Names.{op_named}
 use Rattle.sg_names.proofs.DraftedLaws.{bound_kept, usable_kept}
-use Rattle.sg_typing.specs.declared.bodies.TypedExpr.{TypedExpr}
 use Rattle.sg_types.specs.Bindings.{OfNothing}
-use Rattle.sg_typing.specs.Bodies.{exprs_at, exprs_in, transform_typed, transform_mismatch}
 use Rattle.sg_types.specs.Expressions.{mismatch_at}
 use Rattle.sg_types.specs.Expressions as expr
 use Rattle.sg_types.specs.Patterns.{parts_of, mismatch_in, variables_of, variables_of_all, recorded}
+use Rattle.sg_typing.specs.declared.bodies.TypedExpr.{TypedExpr}
+use Rattle.sg_typing.specs.Bodies.{exprs_at, exprs_in, transform_typed, transform_mismatch}
 use Rattle.sg_typing.specs.Written.{HasLists, known}
 use Rattle.sg_typing.proofs.BodyTyped.{body_kept}
 use Rattle.sg_typing.proofs.Kept.{pattern_kept}
-use Rattle.sg_typing.proofs.RecordTyped.{neither, known-append}
+use Rattle.sg_typing.proofs.RecordTyped.{known-append}
 use Rattle.sg_typing.proofs.TableFacts.{usable_is}
-use Rattle.sg_ast.specs.Written.{IsWritten}
 use Rattle.sg_record.specs.Record.{phylum_in, transforms_at, transforms_in}
 use Rattle.sg_record.proofs.Aligned.{StandAt, each_given}
 use Rattle.sg_record.proofs.ExprThere.{typed_there}

@@ -34,10 +34,10 @@ use Rattle.sg_names.specs.declared.table.Signature.{Signature}
 use Rattle.sg_names.specs.declared.table.Table.{Table}
 use Rattle.sg_names.specs.Names.{map_from, owned}
 use Rattle.sg_names.specs.Lookups.{usable_named, nonterminal_named, reference, operator_at}
+use Rattle.sg_types.specs.Patterns.{recorded}
 use Rattle.sg_typing.specs.declared.bodies.TypedExpr.{TypedExpr}
 use Rattle.sg_typing.specs.Arguments.{local_of}
 use Rattle.sg_typing.specs.Bodies.{expr_count, exprs_in, result_type}
-use Rattle.sg_types.specs.Patterns.{recorded}
 
 -- the pieces of a string, none where it is not escaped; the strings of a separator, one behind the other
 abbrev pub pieces_in : Bytes → List Piece

@@ -5,9 +5,9 @@ use Rattle.sg_kinds.specs.Values.{Bytes}
 use Rattle.sg_kinds.specs.declared.fault.SpecFault.{SpecFault}
 use Rattle.sg_kinds.specs.declared.fault.SpecFault.TheVariants as fault
 use Rattle.sg_ast.specs.Declarations.{Decl}
+use Rattle.sg_ast.specs.Parts.{head_place}
 use Rattle.sg_lalr.specs.declared.table.TableFault.{TableFault}
 use Rattle.sg_lalr.specs.declared.table.TableFault.TheVariants.{Unproductive, States, Conflict, NoMemory}
-use Rattle.sg_ast.specs.Parts.{head_place}
 use Rattle.sg_reports.specs.Places.{place_in, production_places}
 use Rattle.sg_reports.specs.Symbols.{printed_symbols, symbol_in, name_of}
 use Rattle.sg_reports.specs.Items.{printed_conflict}

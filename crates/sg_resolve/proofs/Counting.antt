@@ -9,15 +9,8 @@ use Rattle.sg_kinds.specs.Sound.{AreDistinct}
 use Rattle.sg_names.specs.Names.{owned, map_from}
 
 -- equal bytes
-pub same_bytes : (a b : Bytes) → bytes_eq a b ≡ true → a ≡ b
-same_bytes a b e = (bytes_eq-Decides a b).0 e
-
 pub equal_bytes : (a b : Bytes) → a ≡ b → bytes_eq a b ≡ true
 equal_bytes a b e = (bytes_eq-Decides a b).1 e
-
-pub both_true : (a b : Bool) → (a && b) ≡ true → (a ≡ true) × (b ≡ true)
-both_true true b e = (refl, e)
-both_true false b e = absurd (cc e)
 
 -- an element that passes counts 1, another 0
 abbrev pub one_if : Bool → ℕ
@@ -37,10 +30,6 @@ count-cons p x xs = sum_by-cons (λ y. cond (p y) 1 0) x xs
 
 pub count-append : {X : Type 0} (p : X → Bool) (xs ys : List X) → count_by p (xs ++ ys) ≡ count_by p xs + count_by p ys
 count-append p xs ys = sum_by-append (λ y. cond (p y) 1 0) xs ys
-
-pub count-map : {X Y : Type 0} (p : Y → Bool) (f : X → Y) (xs : List X) → count_by p (map f xs) ≡ count_by (λ x. p (f x)) xs
-count-map p f [] = refl
-count-map p f (x ∷ xs) = count-cons p (f x) (map f xs) ∙ ap (λ n. one_if (p (f x)) + n) (count-map p f xs) ∙ sym (count-cons (λ y. p (f y)) x xs)
 
 pub count-flat : {X Y : Type 0} (p : Y → Bool) (f : X → List Y) (xs : List X) → count_by p (flat_map f xs) ≡ sum_by (λ x. count_by p (f x)) xs
 count-flat p f [] = refl
@@ -115,10 +104,6 @@ all_made {A} {B} P f s (x ∷ xs) h =
 pub map-made : {A B C : Type 0} (g : B → C) (f : ℕ → A → B) (v : A → C) → ((k : ℕ) (x : A) → g (f k x) ≡ v x) → (s : ℕ) (xs : List A) → map g (map_from f s xs) ≡ map v xs
 map-made g f v h s [] = refl
 map-made {A} {B} {C} g f v h s (x ∷ xs) = ap (λ (c : C). c ∷ map g (map_from f (suc s) xs)) (h s x) ∙ ap (λ (l : List C). v x ∷ l) (map-made g f v h (suc s) xs)
-
-pub length-made : {A B : Type 0} (f : ℕ → A → B) (s : ℕ) (xs : List A) → length (map_from f s xs) ≡ length xs
-length-made f s [] = refl
-length-made f s (x ∷ xs) = ap suc (length-made f (suc s) xs)
 
 -- all of what elements are seen as
 pub all_seen : {A B : Type 0} (P : B → Type 0) (f : A → B) (xs : List A) → AllByRecursion P (map f xs) → AllByRecursion (λ x. P (f x)) xs

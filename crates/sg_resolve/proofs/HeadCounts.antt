@@ -5,15 +5,17 @@ use Rattle.std.proofs.lemmas.List.Sums.{fold-append, passes_at_first}
 use Rattle.std.proofs.lemmas.Option.{slice_get_within, get_or_from_slice_get}
 use Rattle.std.proofs.lemmas.List.Elements.{filter-append}
 use Rattle.std.proofs.lemmas.List.{map-append}
+use Rattle.std.proofs.lemmas.Bool.{or_left}
 use Rattle.sg_kinds.specs.Values.{Bytes}
+use Rattle.sg_kinds.proofs.Elementary.{or_right, bytes_is}
 use Rattle.sg_ast.specs.Declarations as decl
 use Rattle.sg_ast.specs.Declarations.{Decl}
-use Rattle.sg_counts.specs.Crowds.{different, different_behind}
-use Rattle.sg_counts.specs.Limits.{is_base, phyla_of}
 use Rattle.sg_names.specs.declared.heads.Head.{Head}
 use Rattle.sg_names.specs.Heads.{is_head, with_head, number_in, base_heads}
 use Rattle.sg_names.specs.Names.{phylum_defined, phyla_in}
-use Rattle.sg_resolve.proofs.Counting.{same_bytes, equal_bytes, one_if, passes, fails, count-cons, count-append}
+use Rattle.sg_counts.specs.Crowds.{different, different_behind}
+use Rattle.sg_counts.specs.Limits.{is_base, phyla_of}
+use Rattle.sg_resolve.proofs.Counting.{equal_bytes, one_if, passes, fails, count-cons, count-append}
 
 -- a name that has a definition
 abbrev pub has : List Head → Bytes → Bool
@@ -27,28 +29,20 @@ any-append p (x ∷ xs) ys = by (p x) (any-append p xs ys)
     by true e = refl
     by false e = e
 
-or_true : (a b : Bool) → a ≡ true → (a || b) ≡ true
-or_true true b e = refl
-or_true false b e = absurd (cc e)
-
-true_or : (a b : Bool) → b ≡ true → (a || b) ≡ true
-true_or true b e = refl
-true_or false b e = e
-
 -- one more definition keeps those before, and is there
 with_head_keeps : (heads : List Head) (h : Head) (n : Bytes) → has heads n ≡ true → has (with_head heads h) n ≡ true
 with_head_keeps heads h n e = by (list_any (is_head h.name) heads)
   where
     by : (b : Bool) → has (cond b heads (heads ++ h ∷ [])) n ≡ true
     by true = e
-    by false = any-append (is_head n) heads (h ∷ []) ∙ or_true (has heads n) (has (h ∷ []) n) e
+    by false = any-append (is_head n) heads (h ∷ []) ∙ or_left (has heads n) (has (h ∷ []) n) e
 
 with_head_has : (heads : List Head) (h : Head) → has (with_head heads h) h.name ≡ true
 with_head_has heads h = by (list_any (is_head h.name) heads) refl
   where
     by : (b : Bool) → list_any (is_head h.name) heads ≡ b → has (cond b heads (heads ++ h ∷ [])) h.name ≡ true
     by true e = e
-    by false e = any-append (is_head h.name) heads (h ∷ []) ∙ true_or (has heads h.name) (has (h ∷ []) h.name) (or_true (bytes_eq h.name h.name) false (equal_bytes h.name h.name refl))
+    by false e = any-append (is_head h.name) heads (h ∷ []) ∙ or_right (has heads h.name) (has (h ∷ []) h.name) (or_left (bytes_eq h.name h.name) false (equal_bytes h.name h.name refl))
 
 pub fold_keeps : (heads defs : List Head) (n : Bytes) → has heads n ≡ true → has (fold with_head heads defs) n ≡ true
 fold_keeps heads [] n e = e
@@ -88,7 +82,7 @@ with_head_once n heads h once = by (list_any (is_head h.name) heads) refl
 
     more : has heads h.name ≡ false → (b : Bool) → is_head n h ≡ b → count_by (is_head n) (heads ++ h ∷ []) ≤ 1
     more new true is =
-        let name : n ≡ h.name = same_bytes n h.name is in
+        let name : n ≡ h.name = bytes_is n h.name is in
         let none : count_by (is_head n) heads ≤ 0 = none_there n heads (ap (has heads) name ∙ new) in
         let one : one_if (is_head n h) ≡ 1 = passes (is_head n h) is in
         omega (arith, none, one, split)
@@ -119,7 +113,7 @@ seen_more before heads m seen here n e = by (list_any (λ y. bytes_eq y n) befor
   where
     by : (a : Bool) → list_any (λ y. bytes_eq y n) before ≡ a → (b : Bool) → bytes_eq m n ≡ b → (a || (b || false)) ≡ true → has heads n ≡ true
     by true is b named any = seen n is
-    by false is true named any = ap (has heads) (sym (same_bytes m n named)) ∙ here
+    by false is true named any = ap (has heads) (sym (bytes_is m n named)) ∙ here
     by false is false named any = absurd (cc any)
 
 -- no more first definitions than those before and the different names
@@ -132,10 +126,10 @@ few before heads (h ∷ defs) base seen =
     (few (before ++ h.name ∷ []) (heads ++ h ∷ []) defs (λ n e. kept n (base n e)) (seen_more before (heads ++ h ∷ []) h.name (λ n e. kept n (seen n e)) last))
   where
     kept : (n : Bytes) → has heads n ≡ true → has (heads ++ h ∷ []) n ≡ true
-    kept n e = any-append (is_head n) heads (h ∷ []) ∙ or_true (has heads n) (has (h ∷ []) n) e
+    kept n e = any-append (is_head n) heads (h ∷ []) ∙ or_left (has heads n) (has (h ∷ []) n) e
 
     last : has (heads ++ h ∷ []) h.name ≡ true
-    last = any-append (is_head h.name) heads (h ∷ []) ∙ true_or (has heads h.name) (has (h ∷ []) h.name) (or_true (bytes_eq h.name h.name) false (equal_bytes h.name h.name refl))
+    last = any-append (is_head h.name) heads (h ∷ []) ∙ or_right (has heads h.name) (has (h ∷ []) h.name) (or_left (bytes_eq h.name h.name) false (equal_bytes h.name h.name refl))
 
     old : (a : Bool) → length (fold with_head heads defs) ≤ length heads + length (different_behind bytes_eq (before ++ h.name ∷ []) (others defs))
         → length (fold with_head heads defs) ≤ length heads + length (cond a (different_behind bytes_eq (before ++ h.name ∷ []) (others defs)) (h.name ∷ different_behind bytes_eq (before ++ h.name ∷ []) (others defs)))
@@ -190,7 +184,7 @@ number_names heads n k h is e =
     let low : number_in heads n < length heads = omega (arith, inside, e) in
     let passes : is_head n (get_or heads (number_in heads n) h) ≡ true = passes_at_first (is_head n) heads h low in
     let here : get_or heads (number_in heads n) h ≡ h = ap (λ j. get_or heads j h) e ∙ get_or_from_slice_get heads k h h is in
-    same_bytes n h.name (ap (is_head n) (sym here) ∙ passes)
+    bytes_is n h.name (ap (is_head n) (sym here) ∙ passes)
 
 -- a name that has a definition has a number
 pub number_inside : (heads : List Head) (n : Bytes) → has heads n ≡ true → number_in heads n < length heads

@@ -3,14 +3,16 @@ use Rattle.std.proofs.Common.{◌≡◌, ℕ, ◌+◌, ◌<◌, ◌≤◌, Bool,
 use Rattle.std.specs.List.{All, AllByRecursion, count_by, flat_map}
 use Rattle.std.proofs.lemmas.Bool.Decides.{nat_tests}
 use Rattle.std.proofs.lemmas.List.Elements.{All-from_recursion}
+use Rattle.std.proofs.lemmas.Bool.{and_parts}
 use Rattle.sg_kinds.specs.Values.{Bytes}
+use Rattle.sg_kinds.proofs.Elementary.{bytes_is}
 use Rattle.sg_ast.specs.Declarations.{Decl}
 use Rattle.sg_ast.specs.FirstFault.{first, over}
 use Rattle.sg_ast.proofs.FirstLaws.{first-none}
 use Rattle.sg_counts.specs.Crowds.{different, crowd, crowded_behind}
 use Rattle.sg_counts.specs.Limits.{is_same_operator, limit_fault, counts_over, limit, phyla_of, arities_of, attributes_of, locals_of, parameters_of, schemes_of, symbols_of, is_transform}
 use Rattle.sg_resolve.specs.Limited.{IsLimited}
-use Rattle.sg_resolve.proofs.Counting.{same_bytes, both_true, one_if, passes, fails, count-cons, count-append}
+use Rattle.sg_resolve.proofs.Counting.{one_if, passes, fails, count-cons, count-append}
 
 pub nothing_mapped : {A B : Type 0} (f : A → B) (o : Option A) → option_map f o ≡ None → o ≡ None
 nothing_mapped f None e = refl
@@ -71,9 +73,9 @@ module _ {X : Type 0} (same : X → X → Bool) (exact : (x y : X) → same x y 
 
 same_operators : (a b : Bytes × Bytes) → is_same_operator a b ≡ true → a ≡ b
 same_operators a b e =
-    let both = both_true (bytes_eq a.0 b.0) (bytes_eq a.1 b.1) e in
-    let p : a.0 ≡ b.0 = same_bytes a.0 b.0 both.0 in
-    let q : a.1 ≡ b.1 = same_bytes a.1 b.1 both.1 in
+    let both = and_parts (bytes_eq a.0 b.0) (bytes_eq a.1 b.1) e in
+    let p : a.0 ≡ b.0 = bytes_is a.0 b.0 both.0 in
+    let q : a.1 ≡ b.1 = bytes_is a.1 b.1 both.1 in
     λ i. (p i, q i)
 
 -- each count, where none is over its limit
@@ -84,7 +86,7 @@ within_limits ds e =
       phyla = not_over 512 (length (different bytes_eq (flat_map phyla_of ds))) (nothing_mapped _ _ rows.0);
       ops = not_over 2048 (length (flat_map arities_of ds)) (nothing_mapped _ _ rows.1.0);
       args = all_within 16 (flat_map arities_of ds) (nothing_mapped _ _ rows.1.1.0);
-      attrs = few bytes_eq same_bytes 32 (flat_map attributes_of ds) (nothing_mapped _ _ rows.1.1.1.0);
+      attrs = few bytes_eq bytes_is 32 (flat_map attributes_of ds) (nothing_mapped _ _ rows.1.1.1.0);
       locals = few is_same_operator same_operators 32 (flat_map locals_of ds) (nothing_mapped _ _ rows.1.1.1.1.0);
       functions = not_over 1024 (length (flat_map parameters_of ds)) (nothing_mapped _ _ rows.1.1.1.1.1.0);
       params = all_within 16 (flat_map parameters_of ds) (nothing_mapped _ _ rows.1.1.1.1.1.1.0);

@@ -1,42 +1,38 @@
 -- What phyla and operators own of the declarations.
 use Rattle.std.proofs.Common.{◌≡◌, ℕ, ◌<◌, ◌≤◌, Bool, true, false, cond, ◌&&◌, List, [], ◌∷◌, ◌++◌, length, map, get_or, slice_get, Option, Some, None, option_map, option_and_then, unwrap_or, bytes_eq, nat_eq, refl, sym, ap, ◌∙◌, arith}
 use Rattle.std.specs.List.{AllByRecursion, count_by, sum_by, flat_map}
-use Rattle.std.proofs.lemmas.Bool.Decides.{nat_tests}
 use Rattle.std.proofs.lemmas.List.{map-append, length-map}
 use Rattle.std.proofs.lemmas.List.Sums.{sum_by-le-sum_by}
 use Rattle.std.proofs.lemmas.List.Quantifiers.{position-Some}
 use Rattle.std.proofs.lemmas.Option.{slice_get_within, get_or_from_slice_get}
+use Rattle.std.proofs.lemmas.Bool.{and_parts}
 use Rattle.sg_kinds.specs.Values.{Bytes}
 use Rattle.sg_kinds.specs.Specification.{phylum_of}
 use Rattle.sg_kinds.specs.declared.spec.Attr.{Attr}
 use Rattle.sg_kinds.specs.declared.spec.Local.{Local}
 use Rattle.sg_kinds.specs.declared.spec.Operator.{Operator}
+use Rattle.sg_kinds.proofs.Elementary.{eq_is, and_true, bytes_is}
 use Rattle.sg_ast.specs.declared.name.Name.{Name}
 use Rattle.sg_ast.specs.declared.name.Typed.{Typed}
 use Rattle.sg_ast.specs.declared.decl.Alt.{Alt}
 use Rattle.sg_ast.specs.declared.decl.AttrDecl.{AttrDecl}
 use Rattle.sg_ast.specs.Declarations as decl
 use Rattle.sg_ast.specs.Declarations.{Decl}
-use Rattle.sg_counts.specs.Definitions as space
-use Rattle.sg_counts.specs.Duplicates.{definitions_of}
-use Rattle.sg_counts.specs.Limits.{is_same_operator, arities_of, attributes_of, locals_of, parameters_of}
 use Rattle.sg_names.specs.declared.heads.Head.{Head}
 use Rattle.sg_names.specs.declared.table.Signature.{Signature}
 use Rattle.sg_names.specs.Heads.{number_in}
 use Rattle.sg_names.specs.Names.{owned, phylum_defined, operator, operators_at, operators_in, op_named, if_of, operator_of, local, locals_at, attribute, attributes_at, function_at}
-use Rattle.sg_resolve.proofs.Counting.{same_bytes, equal_bytes, both_true, count-map, count-flat, count-owned, count-le-count}
+use Rattle.sg_counts.specs.Definitions as space
+use Rattle.sg_counts.specs.Duplicates.{definitions_of}
+use Rattle.sg_counts.specs.Limits.{is_same_operator, arities_of, attributes_of, locals_of, parameters_of}
+use Rattle.sg_counts.proofs.Walks.{count_map}
+use Rattle.sg_resolve.proofs.Counting.{equal_bytes, count-flat, count-owned, count-le-count}
 use Rattle.sg_resolve.proofs.HeadCounts.{has, number_names, number_inside}
 use Rattle.sg_resolve.proofs.Repeating.{defines}
-
-same_number : (m k : ℕ) → nat_eq m k ≡ true → m ≡ k
-same_number m k e = grind (arith, nat_tests)
+use Rattle.sg_resolve.proofs.ShapeLists.{each_split, each_append}
 
 nothing : (n : ℕ) → 0 ≤ n
 nothing n = omega arith
-
-and_true : (a b : Bool) → a ≡ true → b ≡ true → (a && b) ≡ true
-and_true true b e f = f
-and_true false b e f = absurd (cc e)
 
 -- how often a test passes among what one of a number owns
 owned_few : {A : Type 0} (q : A → Bool) (k : ℕ) (f : Decl → List (ℕ × A)) (g : Decl → ℕ) → ((d : Decl) → count_by (λ (x : ℕ × A). nat_eq x.0 k && q x.1) (f d) ≤ g d) → (ds : List Decl)
@@ -50,9 +46,9 @@ owned_few {A} q k f g h ds =
 module _ (phyla : List Head) (k : ℕ) (h : Head) (is : slice_get phyla k ≡ Some h) where
   attrs_at : (d : Decl) → count_by (λ (x : ℕ × Attr). nat_eq x.0 k && true) (attributes_at phyla phyla d) ≤ count_by (λ m. bytes_eq m h.name) (attributes_of d)
   attrs_at (decl.Attributes n attrs) =
-      rw (count-map (λ (x : ℕ × Attr). nat_eq x.0 k && true) (attribute phyla (number_in phyla n.text)) attrs, count-map (λ m. bytes_eq m h.name) (λ (a : AttrDecl). n.text) attrs)
+      rw (count_map (λ (x : ℕ × Attr). nat_eq x.0 k && true) (attribute phyla (number_in phyla n.text)) attrs, count_map (λ m. bytes_eq m h.name) (λ (a : AttrDecl). n.text) attrs)
       (count-le-count (λ (a : AttrDecl). nat_eq (number_in phyla n.text) k && true) (λ (a : AttrDecl). bytes_eq n.text h.name)
-      (λ a e. equal_bytes n.text h.name (number_names phyla n.text k h is (same_number (number_in phyla n.text) k (both_true (nat_eq (number_in phyla n.text) k) true e).0))) attrs)
+      (λ a e. equal_bytes n.text h.name (number_names phyla n.text k h is (eq_is (number_in phyla n.text) k (and_parts (nat_eq (number_in phyla n.text) k) true e).0))) attrs)
   attrs_at d = nothing 0
 
   pub attrs_few : (ds : List Decl) → count_by (λ (a : Attr). true) (owned (flat_map (attributes_at phyla phyla) ds) k) ≤ count_by (λ m. bytes_eq m h.name) (flat_map attributes_of ds)
@@ -60,10 +56,10 @@ module _ (phyla : List Head) (k : ℕ) (h : Head) (is : slice_get phyla k ≡ So
 
   attrs_of_name : (m : Bytes) (d : Decl) → count_by (λ (x : ℕ × Attr). nat_eq x.0 k && bytes_eq m x.1.name) (attributes_at phyla phyla d) ≤ count_by (defines (space.Attributes h.name) m) (definitions_of d)
   attrs_of_name m (decl.Attributes n attrs) =
-      rw (count-map (λ (x : ℕ × Attr). nat_eq x.0 k && bytes_eq m x.1.name) (attribute phyla (number_in phyla n.text)) attrs, count-map (defines (space.Attributes h.name) m) _ attrs)
+      rw (count_map (λ (x : ℕ × Attr). nat_eq x.0 k && bytes_eq m x.1.name) (attribute phyla (number_in phyla n.text)) attrs, count_map (defines (space.Attributes h.name) m) _ attrs)
       (count-le-count (λ (a : AttrDecl). nat_eq (number_in phyla n.text) k && bytes_eq m a.name.text) (λ (a : AttrDecl). bytes_eq h.name n.text && bytes_eq m a.name.text)
-      (λ a e. let both = both_true (nat_eq (number_in phyla n.text) k) (bytes_eq m a.name.text) e in
-      and_true (bytes_eq h.name n.text) (bytes_eq m a.name.text) (equal_bytes h.name n.text (sym (number_names phyla n.text k h is (same_number (number_in phyla n.text) k both.0)))) both.1) attrs)
+      (λ a e. let both = and_parts (nat_eq (number_in phyla n.text) k) (bytes_eq m a.name.text) e in
+      and_true (bytes_eq h.name n.text) (bytes_eq m a.name.text) (equal_bytes h.name n.text (sym (number_names phyla n.text k h is (eq_is (number_in phyla n.text) k both.0)))) both.1) attrs)
   attrs_of_name m d = nothing (count_by (defines (space.Attributes h.name) m) (definitions_of d))
 
   pub attrs_named : (m : Bytes) (ds : List Decl) → count_by (λ (a : Attr). bytes_eq m a.name) (owned (flat_map (attributes_at phyla phyla) ds) k) ≤ sum_by (λ d. count_by (defines (space.Attributes h.name) m) (definitions_of d)) ds
@@ -85,7 +81,7 @@ local_owner phyla ops n op k o h is phylum e = by (op_named ops op) refl e
         let passes : bytes_eq op (get_or ops k o).name ≡ true = (position-Some (λ (x : Operator). bytes_eq op x.name) ops k o found).1 in
         let same : get_or ops k o ≡ o = get_or_from_slice_get ops k o o is in
         let phylum_is : nat_eq (number_in phyla n) o.phylum ≡ true = ap (λ (x : Option Operator). unwrap_or (option_map (nat_eq (number_in phyla n)) (option_map (λ (y : Operator). y.phylum) x)) false) (sym is) ∙ of in
-        (number_names phyla n o.phylum h phylum (same_number (number_in phyla n) o.phylum phylum_is), same_bytes op o.name (ap (λ (x : Operator). bytes_eq op x.name) (sym same) ∙ passes))
+        (number_names phyla n o.phylum h phylum (eq_is (number_in phyla n) o.phylum phylum_is), bytes_is op o.name (ap (λ (x : Operator). bytes_eq op x.name) (sym same) ∙ passes))
 
     one : (j : ℕ) → op_named ops op ≡ Some j → (b : Bool) → unwrap_or (option_map (nat_eq (number_in phyla n)) (phylum_of ops j)) false ≡ b → unwrap_or (cond b (Some j) None) (length ops) ≡ k → (n ≡ h.name) × (op ≡ o.name)
     one j found true of at = here (found ∙ ap Some at) (ap (λ i. unwrap_or (option_map (nat_eq (number_in phyla n)) (phylum_of ops i)) false) (sym at) ∙ of)
@@ -103,9 +99,9 @@ module _ (phyla : List Head) (ops : List Operator) (k : ℕ) (o : Operator) (h :
   locals_there : (d : Decl) → count_by (λ (x : ℕ × Local). nat_eq x.0 k && true) (locals_at phyla ops d) ≤ count_by (λ q. is_same_operator q (h.name, o.name)) (locals_of d)
   unfolding owner
   locals_there (decl.Equations n op locals es) =
-      rw (count-map (λ (x : ℕ × Local). nat_eq x.0 k && true) (local phyla (owner n op)) locals, count-map (λ q. is_same_operator q (h.name, o.name)) (λ (t : Typed). (n.text, op.text)) locals)
+      rw (count_map (λ (x : ℕ × Local). nat_eq x.0 k && true) (local phyla (owner n op)) locals, count_map (λ q. is_same_operator q (h.name, o.name)) (λ (t : Typed). (n.text, op.text)) locals)
       (count-le-count (λ (t : Typed). nat_eq (owner n op) k && true) (λ (t : Typed). bytes_eq n.text h.name && bytes_eq op.text o.name)
-      (λ t e. let names = local_owner phyla ops n.text op.text k o h is phylum (same_number (owner n op) k (both_true (nat_eq (owner n op) k) true e).0) in
+      (λ t e. let names = local_owner phyla ops n.text op.text k o h is phylum (eq_is (owner n op) k (and_parts (nat_eq (owner n op) k) true e).0) in
       and_true (bytes_eq n.text h.name) (bytes_eq op.text o.name) (equal_bytes n.text h.name names.0) (equal_bytes op.text o.name names.1)) locals)
   locals_there d = nothing 0
 
@@ -115,10 +111,10 @@ module _ (phyla : List Head) (ops : List Operator) (k : ℕ) (o : Operator) (h :
   locals_of_name : (m : Bytes) (d : Decl) → count_by (λ (x : ℕ × Local). nat_eq x.0 k && bytes_eq m x.1.name) (locals_at phyla ops d) ≤ count_by (defines (space.Locals h.name o.name) m) (definitions_of d)
   unfolding owner
   locals_of_name m (decl.Equations n op locals es) =
-      rw (count-map (λ (x : ℕ × Local). nat_eq x.0 k && bytes_eq m x.1.name) (local phyla (owner n op)) locals, count-map (defines (space.Locals h.name o.name) m) _ locals)
+      rw (count_map (λ (x : ℕ × Local). nat_eq x.0 k && bytes_eq m x.1.name) (local phyla (owner n op)) locals, count_map (defines (space.Locals h.name o.name) m) _ locals)
       (count-le-count (λ (t : Typed). nat_eq (owner n op) k && bytes_eq m t.name.text) (λ (t : Typed). (bytes_eq h.name n.text && bytes_eq o.name op.text) && bytes_eq m t.name.text)
-      (λ t e. let both = both_true (nat_eq (owner n op) k) (bytes_eq m t.name.text) e in
-      let names = local_owner phyla ops n.text op.text k o h is phylum (same_number (owner n op) k both.0) in
+      (λ t e. let both = and_parts (nat_eq (owner n op) k) (bytes_eq m t.name.text) e in
+      let names = local_owner phyla ops n.text op.text k o h is phylum (eq_is (owner n op) k both.0) in
       and_true (bytes_eq h.name n.text && bytes_eq o.name op.text) (bytes_eq m t.name.text)
       (and_true (bytes_eq h.name n.text) (bytes_eq o.name op.text) (equal_bytes h.name n.text (sym names.0)) (equal_bytes o.name op.text (sym names.1))) both.1) locals)
   locals_of_name m d = nothing (count_by (defines (space.Locals h.name o.name) m) (definitions_of d))
@@ -127,14 +123,6 @@ module _ (phyla : List Head) (ops : List Operator) (k : ℕ) (o : Operator) (h :
   locals_named m ds = owned_few (λ (l : Local). bytes_eq m l.name) k (locals_at phyla ops) (λ d. count_by (defines (space.Locals h.name o.name) m) (definitions_of d)) (locals_of_name m) ds
 
 -- the phylum of an operator is there
-all_split : {A : Type 0} (P : A → Type 0) (xs ys : List A) → AllByRecursion P (xs ++ ys) → AllByRecursion P xs × AllByRecursion P ys
-all_split P [] ys all = (tt, all)
-all_split P (x ∷ xs) ys all = let rest = all_split P xs ys all.1 in ((all.0, rest.0), rest.1)
-
-all_joined : {A : Type 0} (P : A → Type 0) (xs ys : List A) → AllByRecursion P xs → AllByRecursion P ys → AllByRecursion P (xs ++ ys)
-all_joined P [] ys all rest = rest
-all_joined P (x ∷ xs) ys all rest = (all.0, all_joined P xs ys all.1 rest)
-
 all_mapped : {A B : Type 0} (P : B → Type 0) (f : A → B) (xs : List A) → ((x : A) → P (f x)) → AllByRecursion P (map f xs)
 all_mapped P f [] h = tt
 all_mapped P f (x ∷ xs) h = (h x, all_mapped P f xs h)
@@ -146,8 +134,8 @@ phylum_there phyla d all = tt
 pub phyla_there : (phyla : List Head) (ds : List Decl) → AllByRecursion (λ (h : Head). has phyla h.name ≡ true) (flat_map phylum_defined ds) → AllByRecursion (λ (o : Operator). o.phylum < length phyla) (operators_in phyla ds)
 phyla_there phyla [] all = tt
 phyla_there phyla (d ∷ ds) all =
-    let parts = all_split (λ (h : Head). has phyla h.name ≡ true) (phylum_defined d) (flat_map phylum_defined ds) all in
-    all_joined (λ (o : Operator). o.phylum < length phyla) (operators_at phyla d) (operators_in phyla ds) (phylum_there phyla d parts.0) (phyla_there phyla ds parts.1)
+    let parts = each_split (λ (h : Head). has phyla h.name ≡ true) (phylum_defined d) (flat_map phylum_defined ds) all in
+    each_append (λ (o : Operator). o.phylum < length phyla) (operators_at phyla d) (operators_in phyla ds) (phylum_there phyla d parts.0) (phyla_there phyla ds parts.1)
 
 -- how many arguments operators have, and how many parameters functions
 map-alike : {A B C : Type 0} (g : B → C) (f : A → B) (v : A → C) → ((x : A) → g (f x) ≡ v x) → (xs : List A) → map g (map f xs) ≡ map v xs

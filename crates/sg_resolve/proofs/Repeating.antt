@@ -2,7 +2,9 @@
 use Rattle.std.proofs.Common.{◌≡◌, ℕ, suc, ◌+◌, ◌<◌, ◌≤◌, Bool, true, false, cond, not, ◌&&◌, ◌||◌, List, [], ◌∷◌, ◌++◌, length, Option, Some, None, option_and_then, slice_get, get_or, bytes_eq, refl, sym, ap, ◌∙◌, append_assoc, append-nil, arith}
 use Rattle.std.specs.List.{count_by, sum_by, flat_map, list_any}
 use Rattle.std.proofs.lemmas.Option.{slice_get-get_or}
+use Rattle.std.proofs.lemmas.Bool.{and_parts}
 use Rattle.sg_kinds.specs.Values.{Bytes}
+use Rattle.sg_kinds.proofs.Elementary.{and_true, bytes_is}
 use Rattle.sg_ast.specs.Declarations.{Decl}
 use Rattle.sg_ast.specs.FirstFault.{repeat_from, first_repeat}
 use Rattle.sg_counts.specs.declared.definitions.Form.{Form}
@@ -10,7 +12,7 @@ use Rattle.sg_counts.specs.declared.definitions.Form.TheVariants as form
 use Rattle.sg_counts.specs.declared.definitions.Definition.{Definition}
 use Rattle.sg_counts.specs.Definitions.{Space, Phyla, Callables, Listings, Attributes, Locals, Schemes, Key, is_same_view, is_same_space, is_same_key, adds_up, clashes}
 use Rattle.sg_counts.specs.Duplicates.{definitions_of, definitions_in, given, duplicate, duplicate_fault}
-use Rattle.sg_resolve.proofs.Counting.{same_bytes, equal_bytes, both_true, one_if, passes, fails, count-cons, count-append, count-flat}
+use Rattle.sg_resolve.proofs.Counting.{equal_bytes, one_if, passes, fails, count-cons, count-append, count-flat}
 use Rattle.sg_resolve.proofs.Limiting.{nothing_mapped}
 
 -- where nothing repeats, elements that are all the same occur once
@@ -77,7 +79,7 @@ no_repeat ds e = by (first_repeat (clashes is_same_key) (definitions_in ds)) ref
 -- the same space, and the same key
 same_views : (a b : Option Bytes) → is_same_view a b ≡ true → a ≡ b
 same_views None None e = refl
-same_views (Some a) (Some b) e = ap Some (same_bytes a b e)
+same_views (Some a) (Some b) e = ap Some (bytes_is a b e)
 same_views None (Some b) e = absurd (cc e)
 same_views (Some a) None e = absurd (cc e)
 
@@ -85,22 +87,18 @@ same_spaces : (s t : Space) → is_same_space s t ≡ true → s ≡ t
 same_spaces Phyla Phyla e = refl
 same_spaces Callables Callables e = refl
 same_spaces Listings Listings e = refl
-same_spaces (Attributes p) (Attributes q) e = ap Attributes (same_bytes p q e)
+same_spaces (Attributes p) (Attributes q) e = ap Attributes (bytes_is p q e)
 same_spaces (Locals p o) (Locals q r) e =
-    let both = both_true (bytes_eq p q) (bytes_eq o r) e in
-    let a : p ≡ q = same_bytes p q both.0 in
-    let b : o ≡ r = same_bytes o r both.1 in
+    let both = and_parts (bytes_eq p q) (bytes_eq o r) e in
+    let a : p ≡ q = bytes_is p q both.0 in
+    let b : o ≡ r = bytes_is o r both.1 in
     λ i. Locals (a i) (b i)
 same_spaces (Schemes p v) (Schemes q w) e =
-    let both = both_true (bytes_eq p q) (is_same_view v w) e in
-    let a : p ≡ q = same_bytes p q both.0 in
+    let both = and_parts (bytes_eq p q) (is_same_view v w) e in
+    let a : p ≡ q = bytes_is p q both.0 in
     let b : v ≡ w = same_views v w both.1 in
     λ i. Schemes (a i) (b i)
 same_spaces s t e = absurd (cc e)
-
-both_are : (a b : Bool) → a ≡ true → b ≡ true → (a && b) ≡ true
-both_are true b e f = f
-both_are false b e f = absurd (cc e)
 
 self_view : (v : Option Bytes) → is_same_view v v ≡ true
 self_view None = refl
@@ -111,8 +109,8 @@ self_space Phyla = refl
 self_space Callables = refl
 self_space Listings = refl
 self_space (Attributes p) = equal_bytes p p refl
-self_space (Locals p o) = both_are (bytes_eq p p) (bytes_eq o o) (equal_bytes p p refl) (equal_bytes o o refl)
-self_space (Schemes p v) = both_are (bytes_eq p p) (is_same_view v v) (equal_bytes p p refl) (self_view v)
+self_space (Locals p o) = and_true (bytes_eq p p) (bytes_eq o o) (equal_bytes p p refl) (equal_bytes o o refl)
+self_space (Schemes p v) = and_true (bytes_eq p p) (is_same_view v v) (equal_bytes p p refl) (self_view v)
 
 -- a definition of its own by this name in this space
 abbrev is_alone : Form → Bool
@@ -129,15 +127,15 @@ clashing form.Productions g e = absurd (cc e)
 
 same_definitions : (s : Space) (n : Bytes) (d e : Definition Key) → defines s n d ≡ true → defines s n e ≡ true → clashes is_same_key d e ≡ true
 same_definitions s n d e p q =
-    let a = both_true (is_alone d.form) (is_same_space s d.key.space && bytes_eq n d.key.name) p in
-    let b = both_true (is_alone e.form) (is_same_space s e.key.space && bytes_eq n e.key.name) q in
-    let c = both_true (is_same_space s d.key.space) (bytes_eq n d.key.name) a.1 in
-    let f = both_true (is_same_space s e.key.space) (bytes_eq n e.key.name) b.1 in
+    let a = and_parts (is_alone d.form) (is_same_space s d.key.space && bytes_eq n d.key.name) p in
+    let b = and_parts (is_alone e.form) (is_same_space s e.key.space && bytes_eq n e.key.name) q in
+    let c = and_parts (is_same_space s d.key.space) (bytes_eq n d.key.name) a.1 in
+    let f = and_parts (is_same_space s e.key.space) (bytes_eq n e.key.name) b.1 in
     let spaces : d.key.space ≡ e.key.space = sym (same_spaces s d.key.space c.0) ∙ same_spaces s e.key.space f.0 in
-    let names : d.key.name ≡ e.key.name = sym (same_bytes n d.key.name c.1) ∙ same_bytes n e.key.name f.1 in
+    let names : d.key.name ≡ e.key.name = sym (bytes_is n d.key.name c.1) ∙ bytes_is n e.key.name f.1 in
     let space : is_same_space d.key.space e.key.space ≡ true = ap (λ t. is_same_space d.key.space t) (sym spaces) ∙ self_space d.key.space in
-    both_are (is_same_key d.key e.key) (not (adds_up d.form e.form))
-    (both_are (is_same_space d.key.space e.key.space) (bytes_eq d.key.name e.key.name) space (equal_bytes d.key.name e.key.name names))
+    and_true (is_same_key d.key e.key) (not (adds_up d.form e.form))
+    (and_true (is_same_space d.key.space e.key.space) (bytes_eq d.key.name e.key.name) space (equal_bytes d.key.name e.key.name names))
     (clashing d.form e.form a.0)
 
 -- each name of each space is defined once, in the text or before it

@@ -5,6 +5,7 @@ use Rattle.std.specs.List.{AllByRecursion, list_any}
 use Rattle.std.proofs.lemmas.List.Folds.{list_any-append}
 use Rattle.std.proofs.lemmas.Grind.{flat_map-append}
 use Rattle.std.proofs.lemmas.Slice.Eq.{bytes_eq-Decides}
+use Rattle.std.proofs.lemmas.Bool.{or_parts}
 use Rattle.sg_kinds.specs.Values.{Bytes}
 use Rattle.sg_kinds.specs.declared.fault.Position.{Position}
 use Rattle.sg_ast.specs.declared.decl.Alt.{Alt}
@@ -13,14 +14,14 @@ use Rattle.sg_ast.specs.declared.name.Typed.{Typed}
 use Rattle.sg_ast.specs.Declarations as decl
 use Rattle.sg_ast.specs.Declarations.{Decl}
 use Rattle.sg_ast.specs.FirstFault.{repeat_from}
+use Rattle.sg_names.specs.declared.heads.Head.{Head}
+use Rattle.sg_names.specs.Heads.{is_head, base_heads}
+use Rattle.sg_names.specs.Names.{phylum_defined}
 use Rattle.sg_counts.specs.declared.definitions.Form.{Form}
 use Rattle.sg_counts.specs.declared.definitions.Form.TheVariants as form
 use Rattle.sg_counts.specs.declared.definitions.Definition.{Definition}
 use Rattle.sg_counts.specs.Definitions.{Space, Phyla, Callables, Listings, Attributes, Locals, Schemes, Key, is_same_space, is_same_key, adds_up, clashes}
 use Rattle.sg_counts.specs.Duplicates.{defined, definitions_of, definitions_in, before_text, given, duplicate}
-use Rattle.sg_names.specs.declared.heads.Head.{Head}
-use Rattle.sg_names.specs.Heads.{is_head, base_heads}
-use Rattle.sg_names.specs.Names.{phylum_defined}
 use Rattle.sg_resolve.proofs.Repeating.{no_repeat}
 use Rattle.sg_resolve.proofs.ShapeLists.{each_append, each_implies, each_both, each_always, each_flat}
 
@@ -28,10 +29,6 @@ use Rattle.sg_resolve.proofs.ShapeLists.{each_append, each_implies, each_both, e
 abbrev pub AreApart : {X : Type 0} → (X → X → Bool) → List X → Type 0
 AreApart same [] = Unit {0}
 AreApart same (x ∷ xs) = AllByRecursion (λ y. same x y ≡ false) xs × AreApart same xs
-
-either_false : (a b : Bool) → (a || b) ≡ false → (a ≡ false) × (b ≡ false)
-either_false true b e = absurd (cc e)
-either_false false b e = (refl, e)
 
 not_some : {A : Type 0} (b : Bool) (x : A) (o : Option A) → cond b (Some x) o ≡ None → (b ≡ false) × (o ≡ None)
 not_some true x o e = absurd (cc e)
@@ -51,8 +48,8 @@ repeat_none {X} same before place (x ∷ xs) e =
   where
     apart : (z : X) → list_any (λ y. same y z) (before ++ x ∷ []) ≡ false → (list_any (λ y. same y z) before ≡ false) × (same x z ≡ false)
     apart z h =
-        let one = either_false (list_any (λ y. same y z) before) (same x z || false) (sym (list_any-append (λ y. same y z) before (x ∷ [])) ∙ h) in
-        (one.0, (either_false (same x z) false one.1).0)
+        let one = or_parts (list_any (λ y. same y z) before) (same x z || false) (sym (list_any-append (λ y. same y z) before (x ∷ [])) ∙ h) in
+        (one.0, (or_parts (same x z) false one.1).0)
 
 -- where there is no duplicate, no definition clashes with one before it
 pub definitions_apart : (ds : List Decl) → duplicate ds ≡ None → AreApart (clashes is_same_key) (definitions_in ds)

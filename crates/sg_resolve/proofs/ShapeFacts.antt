@@ -1,16 +1,15 @@
 -- First definitions of names: which they are, and what finds them.
-use Rattle.std.proofs.Common.{◌≡◌, ℕ, ◌<◌, Bool, true, false, cond, if◌then◌else◌, nat_lt, List, [], ◌∷◌, ◌++◌, length, flat_map, fold, get_or, Some, None, is_some, slice_get, refl, sym, ap, ◌∙◌, arith}
+use Rattle.std.proofs.Common.{◌≡◌, ℕ, ◌<◌, Bool, true, false, cond, if◌then◌else◌, nat_lt, List, [], ◌∷◌, ◌++◌, length, flat_map, fold, get_or, Some, None, is_some, slice_get, refl, sym, ap, ◌∙◌}
 use Rattle.std.specs.List.{AllByRecursion, list_any, position}
-use Rattle.std.proofs.lemmas.Bool.Decides.{nat_tests}
 use Rattle.std.proofs.lemmas.List.Quantifiers.{position-Some}
 use Rattle.std.proofs.lemmas.Option.{slice_get-get_or}
 use Rattle.sg_kinds.specs.Values.{Bytes}
+use Rattle.sg_kinds.proofs.Elementary.{bytes_is, lt_true}
 use Rattle.sg_ast.specs.Declarations.{Decl}
 use Rattle.sg_names.specs.declared.heads.Head.{Head}
 use Rattle.sg_names.specs.Heads.{is_head, with_head, number_in, base_heads}
 use Rattle.sg_names.specs.Names.{phylum_defined, phyla_in}
 use Rattle.sg_names.proofs.HeadLaws.{some_place}
-use Rattle.sg_resolve.proofs.Counting.{same_bytes}
 use Rattle.sg_resolve.proofs.HeadCounts.{fold_has}
 use Rattle.sg_resolve.proofs.ShapeLists.{each_append}
 
@@ -50,17 +49,14 @@ finds_place (h ∷ hs) n k e =
     record {
       head = get_or (h ∷ hs) k h;
       there = slice_get-get_or (h ∷ hs) k h s.0;
-      name = sym (same_bytes n (get_or (h ∷ hs) k h).name s.1);
+      name = sym (bytes_is n (get_or (h ∷ hs) k h).name s.1);
       within = s.0;
       place = e;
       number = some_number (nat_lt (number_in (h ∷ hs) n) (length (h ∷ hs))) (number_in (h ∷ hs) n) k e;
     }
 
-low_test : (j n : ℕ) → j < n → nat_lt j n ≡ true
-low_test j n l = grind (arith, nat_tests)
-
 pub finds_number : (hs : List Head) (n : Bytes) → number_in hs n < length hs → Finds hs n (number_in hs n)
-finds_number hs n low = finds_place hs n (number_in hs n) (ap (λ b. cond b (Some (number_in hs n)) None) (low_test (number_in hs n) (length hs) low))
+finds_number hs n low = finds_place hs n (number_in hs n) (ap (λ b. cond b (Some (number_in hs n)) None) (lt_true (number_in hs n) (length hs) low))
 
 some_is : (b : Bool) (j : ℕ) → is_some (cond b (Some j) None) ≡ true → cond b (Some j) None ≡ Some j
 some_is true j e = refl

@@ -4,6 +4,7 @@ use Rattle.std.specs.Prelude.{option_and_then, IsTrue}
 use Rattle.std.specs.List.{AllByRecursion}
 use Rattle.std.proofs.lemmas.Bool.Decides.{nat_tests}
 use Rattle.std.proofs.lemmas.Option.{slice_get_within}
+use Rattle.std.proofs.lemmas.Bool.{and_parts}
 use Rattle.sg_kinds.specs.Values.{Bytes}
 use Rattle.sg_kinds.specs.declared.spec.Spec.{Spec}
 use Rattle.sg_kinds.specs.declared.spec.Phylum.{Phylum}
@@ -12,6 +13,7 @@ use Rattle.sg_kinds.specs.declared.marks.Shape.TheVariants.{Truths, Numbers, Tex
 use Rattle.sg_kinds.specs.declared.fault.SpecFault.TheVariants as fault
 use Rattle.sg_kinds.specs.Specification.{truths, numbers, texts, args_of, is_leaf_shape}
 use Rattle.sg_kinds.specs.Sound.{is_base_at, IsValue, args_count, IsPair, IsList, IsShaped}
+use Rattle.sg_kinds.proofs.Elementary.{eq_true, eq_is}
 use Rattle.sg_ast.specs.declared.name.Name.{Name}
 use Rattle.sg_ast.specs.Declarations as decl
 use Rattle.sg_ast.specs.Declarations.{Decl}
@@ -22,7 +24,6 @@ use Rattle.sg_names.specs.Heads.{number_in}
 use Rattle.sg_names.specs.Names.{phyla_in, names_of, shape_of, value_attr, lexemes_before, listing_at}
 use Rattle.sg_names.specs.Lookups.{phylum_named}
 use Rattle.sg_names.specs.Shapes.{is_nullary, is_pair_of, is_list, ops_of, list_names, list_shape_at, list_shape, is_optional, optional_names, optional_shape_at, optional_shape}
-use Rattle.sg_resolve.proofs.Counting.{both_true}
 use Rattle.sg_resolve.proofs.ShapeLists.{each_always, each_both, each_flat, each_implies, each_owned, each_unflat}
 use Rattle.sg_resolve.proofs.ShapeFacts.{finds_number}
 use Rattle.sg_resolve.proofs.ShapeTable.{own_listings, own_ops, own_attrs, phylum_made, phyla_count, named_is}
@@ -30,27 +31,21 @@ use Rattle.sg_resolve.proofs.ShapeTable.{own_listings, own_ops, own_attrs, phylu
 above : (p : ℕ) → 2 < p → nat_lt 2 p ≡ true
 above p low = grind (arith, nat_tests)
 
-same_test : (p k : ℕ) → p ≡ k → nat_eq p k ≡ true
-same_test p k e = grind (arith, nat_tests)
-
 -- the shape of a phylum is a leaf's, or what its first listing says
 pub shape_cases : (P : Shape → Type 0) (l : ℕ) (ls : List Shape) (k : ℕ) (h : Head)
     → (h.lexical ≡ true → P (Lexemes l)) → (h.lexical ≡ false → k ≡ 0 → P Truths) → (h.lexical ≡ false → k ≡ 1 → P Numbers) → (h.lexical ≡ false → k ≡ 2 → P Texts)
     → (h.lexical ≡ false → 2 < k → P (unwrap_or (slice_get ls 0) Ordinary)) → P (shape_of l ls k h)
 shape_cases P l ls k h lexeme zeroth first second rest = by h.lexical (nat_eq k truths) (nat_eq k numbers) (nat_eq k texts) refl refl refl refl
   where
-    same : (m n : ℕ) → nat_eq m n ≡ true → m ≡ n
-    same m n e = grind (arith, nat_tests)
-
     past : nat_eq k 0 ≡ false → nat_eq k 1 ≡ false → nat_eq k 2 ≡ false → 2 < k
     past a b c = grind (arith, nat_tests)
 
     by : (a b c d : Bool) → h.lexical ≡ a → nat_eq k truths ≡ b → nat_eq k numbers ≡ c → nat_eq k texts ≡ d
         → P (if a then Lexemes l else if b then Truths else if c then Numbers else if d then Texts else unwrap_or (slice_get ls 0) Ordinary)
     by true b c d ea eb ec ed = lexeme ea
-    by false true c d ea eb ec ed = zeroth ea (same k 0 eb)
-    by false false true d ea eb ec ed = first ea (same k 1 ec)
-    by false false false true ea eb ec ed = second ea (same k 2 ed)
+    by false true c d ea eb ec ed = zeroth ea (eq_is k 0 eb)
+    by false false true d ea eb ec ed = first ea (eq_is k 1 ec)
+    by false false false true ea eb ec ed = second ea (eq_is k 2 ed)
     by false false false false ea eb ec ed = rest ea (past eb ec ed)
 
 -- listings are of phyla with operators
@@ -94,7 +89,7 @@ plain_base p OptionalListed past e = above p past
 pub based : (ds : List Decl) (p : ℕ) (h : Head) → (h.lexical ≡ true → 2 < p) → IsTrue (is_base_at p (phylum_made ds p h).shape)
 based ds p h past =
     shape_cases (λ s. is_base_at p s ≡ true) (lexemes_before (phyla_in ds) p) (own_listings ds p) p h
-    (λ lexical. above p (past lexical)) (λ plain is. same_test p 0 is) (λ plain is. same_test p 1 is) (λ plain is. same_test p 2 is)
+    (λ lexical. above p (past lexical)) (λ plain is. eq_true p 0 is) (λ plain is. eq_true p 1 is) (λ plain is. eq_true p 2 is)
     (λ plain low. plain_base p (unwrap_or (slice_get (own_listings ds p) 0) Ordinary) low (not_leaf ds p))
 
 -- what a listing of a phylum says of its operators
@@ -181,13 +176,10 @@ nullary_is (a ∷ args) e = absurd (cc e)
 other : (e p : ℕ) → not (nat_eq e p) ≡ true → e ≢ p
 other e p h same = absurd (grind (arith, nat_tests))
 
-number_is : (q p : ℕ) → nat_eq q p ≡ true → q ≡ p
-number_is q p h = grind (arith, nat_tests)
-
 pair_is : (p : ℕ) (args : List ℕ) → is_pair_of (Some p) args ≡ true → IsPair p args
 pair_is p [] h = absurd (cc h)
 pair_is p (e ∷ []) h = absurd (cc h)
-pair_is p (e ∷ q ∷ []) h = let b = both_true (not (nat_eq e p)) (nat_eq q p) h in (other e p b.0, number_is q p b.1)
+pair_is p (e ∷ q ∷ []) h = let b = and_parts (not (nat_eq e p)) (nat_eq q p) h in (other e p b.0, eq_is q p b.1)
 pair_is p (e ∷ q ∷ r ∷ args) h = absurd (cc h)
 
 module _ (spec : Spec) (t : Table) (same_args : (op : ℕ) → args_of spec.ops op ≡ args_of t.ops op) where
@@ -195,7 +187,7 @@ module _ (spec : Spec) (t : Table) (same_args : (op : ℕ) → args_of spec.ops 
   list_is p [] h = absurd (cc h)
   list_is p (nil ∷ []) h = absurd (cc h)
   list_is p (nil ∷ pair ∷ []) h =
-      let b = both_true (is_nullary (args_of t.ops nil)) (is_pair_of (Some p) (args_of t.ops pair)) h in
+      let b = and_parts (is_nullary (args_of t.ops nil)) (is_pair_of (Some p) (args_of t.ops pair)) h in
       (same_args nil ∙ nullary_is (args_of t.ops nil) b.0, subst (IsPair p) (sym (same_args pair)) (pair_is p (args_of t.ops pair) b.1))
   list_is p (nil ∷ pair ∷ op ∷ ops) h = absurd (cc h)
 

@@ -10,10 +10,10 @@ use Rattle.sg_kinds.specs.Instances.{below}
 use Rattle.sg_kinds.specs.Sound.{lexeme_place}
 use Rattle.sg_ast.specs.Declarations as decl
 use Rattle.sg_ast.specs.Declarations.{Decl}
+use Rattle.sg_ast.specs.Parts.{lexeme_text}
 use Rattle.sg_names.specs.declared.heads.Head.{Head}
 use Rattle.sg_names.specs.Heads.{is_head, with_head, base_heads}
 use Rattle.sg_names.specs.Names.{phyla_in, phylum_defined, lexemes_before, map_from, names_of}
-use Rattle.sg_ast.specs.Parts.{lexeme_text}
 use Rattle.sg_resolve.specs.ShapeLexemes.{lexeme_count}
 use Rattle.sg_resolve.proofs.Counting.{count-cons, count-append}
 use Rattle.sg_resolve.proofs.ShapeLists.{each_implies, each_both, from, below_from}

@@ -1,8 +1,8 @@
 -- Facts of all elements of lists that are joined, chosen and numbered.
-use Rattle.std.proofs.Common.{◌≡◌, ℕ, zero, suc, ◌+◌, ◌<◌, Bool, true, false, nat_eq, if◌then◌else◌, List, [], ◌∷◌, ◌++◌, length, map, flat_map, Some, slice_get, option_map, refl, sym, ap, subst, ◌∙◌, arith}
+use Rattle.std.proofs.Common.{◌≡◌, ℕ, zero, suc, ◌+◌, Bool, true, false, nat_eq, if◌then◌else◌, List, [], ◌∷◌, ◌++◌, map, flat_map, Some, slice_get, option_map, refl, sym, ap, subst, ◌∙◌, arith}
 use Rattle.std.specs.List.{AllByRecursion}
-use Rattle.std.proofs.lemmas.Bool.Decides.{nat_tests}
 use Rattle.sg_kinds.specs.Instances.{below}
+use Rattle.sg_kinds.proofs.Elementary.{eq_is}
 use Rattle.sg_names.specs.Names.{owned, map_from}
 
 pub each_append : {X : Type 0} (P : X → Type 0) (xs ys : List X) → AllByRecursion P xs → AllByRecursion P ys → AllByRecursion P (xs ++ ys)
@@ -42,22 +42,13 @@ each_at P [] k x a e = absurd (cc e)
 each_at P (y ∷ xs) zero x a e = let same : y ≡ x = cc e in subst P same a.0
 each_at P (y ∷ xs) (suc k) x a e = each_at P xs k x a.1 e
 
--- what stands at a place
-pub some_there : {X : Type 0} (xs : List X) (k : ℕ) → k < length xs → (x : X) × (slice_get xs k ≡ Some x)
-some_there [] k h = absurd (omega (arith, h))
-some_there (x ∷ xs) zero h = (x, refl)
-some_there (x ∷ xs) (suc k) h = some_there xs k (omega (arith, h))
-
 -- what is owned by a number, from what holds of each thing and its owner
-same_number : (m k : ℕ) → nat_eq m k ≡ true → m ≡ k
-same_number m k e = grind (arith, nat_tests)
-
 pub each_owned : {A : Type 0} (R : ℕ → A → Type 0) (k : ℕ) (pairs : List (ℕ × A)) → AllByRecursion (λ (x : ℕ × A). R x.0 x.1) pairs → AllByRecursion (R k) (owned pairs k)
 each_owned R k [] a = tt
 each_owned {A} R k (x ∷ pairs) a = each_append (R k) (if nat_eq x.0 k then x.1 ∷ [] else []) (owned pairs k) (by (nat_eq x.0 k) refl) (each_owned R k pairs a.1)
   where
     by : (b : Bool) → nat_eq x.0 k ≡ b → AllByRecursion (R k) (if b then x.1 ∷ [] else [])
-    by true e = (subst (λ m. R m x.1) (same_number x.0 k e) a.0, tt)
+    by true e = (subst (λ m. R m x.1) (eq_is x.0 k e) a.0, tt)
     by false e = tt
 
 pub none_owned : {A : Type 0} (k : ℕ) (pairs : List (ℕ × A)) → AllByRecursion (λ (x : ℕ × A). nat_eq x.0 k ≡ false) pairs → owned pairs k ≡ []

@@ -7,6 +7,7 @@ use Rattle.std.proofs.lemmas.Slice.Eq.{bytes_eq-Decides}
 use Rattle.sg_kinds.specs.declared.spec.Operator.{Operator}
 use Rattle.sg_kinds.specs.Specification.{phylum_of}
 use Rattle.sg_kinds.specs.Instances.{below}
+use Rattle.sg_kinds.proofs.Elementary.{eq_is, or_right}
 use Rattle.sg_ast.specs.declared.decl.Alt.{Alt}
 use Rattle.sg_ast.specs.Declarations as decl
 use Rattle.sg_ast.specs.Declarations.{Decl}
@@ -34,10 +35,6 @@ lexical_other : (b l r : Bool) → (b && (l || r)) ≡ false → (l || r) ≡ tr
 lexical_other true l r e t = absurd (cc (e, t))
 lexical_other false l r e t = refl
 
-or_right : (a b : Bool) → b ≡ true → (a || b) ≡ true
-or_right true b e = refl
-or_right false b e = e
-
 abbrev IsApartFrom : Head → Head → Type 0
 IsApartFrom h g = g.lexical ≡ true → bytes_eq g.name h.name ≡ false
 
@@ -58,9 +55,6 @@ not_number : (b : Bool) → (b ≡ true → ⊥) → b ≡ false
 not_number true h = absurd (h refl)
 not_number false h = refl
 
-number_same : (j k : ℕ) → nat_eq j k ≡ true → j ≡ k
-number_same j k e = grind (arith, nat_tests)
-
 plain_elsewhere : (ds : List Decl) (p : ℕ) (g h : Head) → slice_get (phyla_in ds) p ≡ Some h → IsLeaf h p → list_any (is_head g.name) (phyla_in ds) ≡ true → list_any (is_head g.name) base_heads ≡ false
     → AllByRecursion (IsApartFrom g) (phyla_in ds) → nat_eq (number_in (phyla_in ds) g.name) p ≡ true → ⊥
 plain_elsewhere ds p g h here leaf is new apart same = by leaf
@@ -69,7 +63,7 @@ plain_elsewhere ds p g h here leaf is new apart same = by leaf
     f = finds_there (phyla_in ds) g.name is
 
     one : Some f.head ≡ Some h
-    one = sym f.there ∙ ap (slice_get (phyla_in ds)) (number_same (number_in (phyla_in ds) g.name) p same) ∙ here
+    one = sym f.there ∙ ap (slice_get (phyla_in ds)) (eq_is (number_in (phyla_in ds) g.name) p same) ∙ here
 
     name : h.name ≡ g.name
     name = let e : f.head ≡ h = cc one in ap (λ (x : Head). x.name) (sym e) ∙ f.name

@@ -1,7 +1,8 @@
 -- The one root is a phylum with operators and without inherited attributes.
-use Rattle.std.proofs.Common.{◌≡◌, ℕ, Bool, true, false, if◌then◌else◌, nat_eq, ◌||◌, List, [], ◌∷◌, ◌++◌, length, Option, Some, None, slice_get, option_map, unwrap_or, refl, sym, ap, ◌∙◌, arith}
+use Rattle.std.proofs.Common.{◌≡◌, ℕ, Bool, true, false, if◌then◌else◌, nat_eq, List, [], ◌∷◌, ◌++◌, length, Option, Some, None, slice_get, option_map, unwrap_or, refl, sym, ap, ◌∙◌, arith}
 use Rattle.std.specs.List.{AllByRecursion, list_any}
 use Rattle.std.proofs.lemmas.Bool.Decides.{nat_tests}
+use Rattle.std.proofs.lemmas.Bool.{or_parts}
 use Rattle.sg_kinds.specs.declared.marks.Way.{Way}
 use Rattle.sg_kinds.specs.declared.marks.Way.TheVariants.{Synthesized, Inherited}
 use Rattle.sg_kinds.specs.declared.spec.Attr.{Attr}
@@ -72,12 +73,8 @@ first_root phyla (d ∷ ds) = ap (or_else (root_at phyla d)) (first_root phyla d
 -- no attribute is inherited
 synthesized : (attrs : List Attr) → list_any is_inherited attrs ≡ false → AllByRecursion (λ (a : Attr). a.way ≡ Synthesized) attrs
 synthesized [] e = tt
-synthesized (a ∷ attrs) e = let b = either_false (is_way_inherited a.way) (list_any is_inherited attrs) e in (way a.way b.0, synthesized attrs b.1)
+synthesized (a ∷ attrs) e = let b = or_parts (is_way_inherited a.way) (list_any is_inherited attrs) e in (way a.way b.0, synthesized attrs b.1)
   where
-    either_false : (b c : Bool) → (b || c) ≡ false → (b ≡ false) × (c ≡ false)
-    either_false true c e = absurd (cc e)
-    either_false false c e = (refl, e)
-
     way : (w : Way) → is_way_inherited w ≡ false → w ≡ Synthesized
     way Synthesized e = refl
     way Inherited e = absurd (cc e)

@@ -1,17 +1,17 @@
 -- Where the first fault of names and shapes is none, no row has one.
-use Rattle.std.proofs.Common.{◌≡◌, List, [], ◌∷◌, Option, Some, None, refl}
+use Rattle.std.proofs.Common.{◌≡◌, List, [], ◌∷◌, Option, None}
 use Rattle.sg_kinds.specs.declared.fault.SpecFault.{SpecFault}
 use Rattle.sg_ast.specs.Declarations.{Decl}
 use Rattle.sg_ast.specs.FirstFault.{or_else}
-use Rattle.sg_ast.proofs.FirstLaws.{first-none}
-use Rattle.sg_counts.specs.Duplicates.{duplicate}
-use Rattle.sg_counts.specs.Limits.{limit}
+use Rattle.sg_ast.proofs.FirstLaws.{first-none, neither}
 use Rattle.sg_names.specs.Arity.{arity}
 use Rattle.sg_names.specs.Names.{names_of}
-use Rattle.sg_shapes.specs.Resolved.{shape_rows, binding_rows}
 use Rattle.sg_names.specs.Shapes.{result_count, root_count, list_shape, optional_shape, root_inherits}
 use Rattle.sg_names.specs.TwiceBound.{twice_bound}
 use Rattle.sg_names.specs.UnknownName.{unknown_name}
+use Rattle.sg_shapes.specs.Resolved.{shape_rows, binding_rows}
+use Rattle.sg_counts.specs.Duplicates.{duplicate}
+use Rattle.sg_counts.specs.Limits.{limit}
 use Rattle.sg_resolve.specs.Resolved.{no_completion, resolve_fault}
 
 pub record HasNoNamesFault (ds : List Decl) : Type 0 where
@@ -26,10 +26,6 @@ pub record HasNoNamesFault (ds : List Decl) : Type 0 where
   pub inherits : root_inherits (names_of ds) ds ≡ None
   pub bindings : twice_bound (names_of ds) ds ≡ None
   pub arities : arity (names_of ds) ds ≡ None
-
-neither : {A : Type 0} (a b : Option A) → or_else a b ≡ None → (a ≡ None) × (b ≡ None)
-neither (Some a) b e = absurd (cc e)
-neither None b e = (refl, e)
 
 pub no_fault : (ds : List Decl) → resolve_fault ds ≡ None → HasNoNamesFault ds
 unfolding resolve_fault

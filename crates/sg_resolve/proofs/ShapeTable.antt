@@ -1,5 +1,5 @@
 -- The phyla and operators of a table of names, and what finds them.
-use Rattle.std.proofs.Common.{◌≡◌, ℕ, bytes_eq, List, length, map, Option, Some, None, slice_get, option_map, unwrap_or, refl, sym, ap, ◌∙◌}
+use Rattle.std.proofs.Common.{◌≡◌, ℕ, bytes_eq, List, length, map, Some, slice_get, option_map, unwrap_or, refl, sym, ap, ◌∙◌}
 use Rattle.std.specs.List.{AllByRecursion, position}
 use Rattle.sg_kinds.specs.Values.{Bytes}
 use Rattle.sg_kinds.specs.declared.spec.Phylum.{Phylum}
@@ -7,6 +7,7 @@ use Rattle.sg_kinds.specs.declared.spec.Operator.{Operator}
 use Rattle.sg_kinds.specs.declared.spec.Attr.{Attr}
 use Rattle.sg_kinds.specs.declared.spec.Local.{Local}
 use Rattle.sg_kinds.specs.declared.marks.Shape.{Shape}
+use Rattle.sg_kinds.proofs.Elementary.{option_map_some}
 use Rattle.sg_ast.specs.Declarations.{Decl}
 use Rattle.sg_ast.specs.FirstFault.{first}
 use Rattle.sg_names.specs.declared.heads.Head.{Head}
@@ -14,7 +15,7 @@ use Rattle.sg_names.specs.Heads.{is_head}
 use Rattle.sg_names.specs.Names.{map_from, phylum, owned, owners, listings_of, attributes_of, locals_of, with_local, with_locals, operators_in, phyla_in, root_at, names_of}
 use Rattle.sg_names.specs.Lookups.{phylum_named}
 use Rattle.sg_names.proofs.TableMade.{phylum_place}
-use Rattle.sg_resolve.proofs.Counting.{length-made}
+use Rattle.sg_names.proofs.OpPlaces.{map_from_length}
 use Rattle.sg_resolve.proofs.ShapeLists.{from_at, each_from}
 use Rattle.sg_resolve.proofs.ShapeFacts.{Finds, finds_place}
 
@@ -54,15 +55,11 @@ unfolding names_of
 places_are ds = refl
 
 pub phyla_count : (ds : List Decl) → length (names_of ds).phyla ≡ length (phyla_in ds)
-phyla_count ds = ap (λ (l : List Phylum). length l) (phyla_are ds) ∙ length-made (phylum_made ds) 0 (phyla_in ds)
+phyla_count ds = ap (λ (l : List Phylum). length l) (phyla_are ds) ∙ map_from_length (phylum_made ds) 0 (phyla_in ds)
 
 -- a phylum is made of its first definition
-made_of : {A B : Type 0} (f : A → B) (o : Option A) (y : B) → option_map f o ≡ Some y → (x : A) × (o ≡ Some x) × (f x ≡ y)
-made_of f None y e = absurd (cc e)
-made_of f (Some x) y e = (x, refl, cc e)
-
 pub phylum_is : (ds : List Decl) (p : ℕ) (x : Phylum) → slice_get (names_of ds).phyla p ≡ Some x → (h : Head) × (slice_get (phyla_in ds) p ≡ Some h) × (phylum_made ds p h ≡ x)
-phylum_is ds p x e = made_of (phylum_made ds p) (slice_get (phyla_in ds) p) x (sym (from_at (phylum_made ds) (phyla_in ds) p) ∙ ap (λ (l : List Phylum). slice_get l p) (sym (phyla_are ds)) ∙ e)
+phylum_is ds p x e = option_map_some (phylum_made ds p) (slice_get (phyla_in ds) p) x (sym (from_at (phylum_made ds) (phyla_in ds) p) ∙ ap (λ (l : List Phylum). slice_get l p) (sym (phyla_are ds)) ∙ e)
 
 pub phylum_there : (ds : List Decl) (p : ℕ) (h : Head) → slice_get (phyla_in ds) p ≡ Some h → slice_get (names_of ds).phyla p ≡ Some (phylum_made ds p h)
 phylum_there ds p h e = ap (λ (l : List Phylum). slice_get l p) (phyla_are ds) ∙ from_at (phylum_made ds) (phyla_in ds) p ∙ ap (option_map (phylum_made ds p)) e

@@ -20,12 +20,9 @@ use Rattle.sg_kinds.specs.Instances.{below}
 use Rattle.sg_kinds.specs.Typing.{is_usable}
 use Rattle.sg_kinds.specs.Completing.{completed, completing_within}
 use Rattle.sg_kinds.specs.Sound.{IsShaped, IsList, IsPhylum, IsSmall, IsFinite, operators_of, is_operator_of, lexeme_place, HasShapes}
+use Rattle.sg_kinds.proofs.Elementary.{slice_get-there}
 use Rattle.sg_ast.specs.declared.name.Name.{Name}
 use Rattle.sg_ast.specs.Declarations.{Decl}
-use Rattle.sg_shapes.specs.Unfinished.{is_finished, unfinished}
-use Rattle.sg_shapes.proofs.Finds.{found_is}
-use Rattle.sg_shapes.proofs.Finished.{all_finite}
-use Rattle.sg_counts.specs.Duplicates.{duplicate}
 use Rattle.sg_names.specs.declared.heads.Head.{Head}
 use Rattle.sg_names.specs.declared.table.Table.{Table}
 use Rattle.sg_names.specs.Heads.{number_in}
@@ -34,10 +31,15 @@ use Rattle.sg_names.specs.Names.{phyla_in, with_local, names_of}
 use Rattle.sg_names.specs.Shapes.{root_count, list_shape, optional_shape, root_inherits}
 use Rattle.sg_names.specs.UnknownName.{unknown_name}
 use Rattle.sg_names.proofs.DraftedLaws.{args_kept, phylum_kept, ops_count, finite_kept}
+use Rattle.sg_names.proofs.OpPlaces.{map_from_length}
+use Rattle.sg_shapes.specs.Unfinished.{is_finished, unfinished}
+use Rattle.sg_shapes.proofs.Finds.{found_is}
+use Rattle.sg_shapes.proofs.Finished.{all_finite}
+use Rattle.sg_counts.specs.Duplicates.{duplicate}
 use Rattle.sg_resolve.specs.Resolved.{no_completion_at, no_completion, resolve_fault}
 use Rattle.sg_resolve.specs.ShapeLexemes.{lexeme_count}
-use Rattle.sg_resolve.proofs.Counting.{length-made, all_seen}
-use Rattle.sg_resolve.proofs.ShapeLists.{some_there, each_implies, each_always, from_at}
+use Rattle.sg_resolve.proofs.Counting.{all_seen}
+use Rattle.sg_resolve.proofs.ShapeLists.{each_implies, each_always, from_at}
 use Rattle.sg_resolve.proofs.ShapeApart.{AreNew, new_phyla}
 use Rattle.sg_resolve.proofs.ShapeTable.{plain_ops, own_ops, own_locals, phylum_made, ops_are, places_are, phyla_count, phylum_is, phylum_there, each_op}
 use Rattle.sg_resolve.proofs.ShapeKnown.{IsKnown, IsUsed, each_known, used_usable}
@@ -58,7 +60,7 @@ finished_by : (ds : List Decl) (o : Option ℕ) → unfinished (names_of ds) ≡
 finished_by ds None e none = e
 finished_by ds (Some p) e none =
     let found = found_is (λ q. not (is_finished (drafted (names_of ds)) q)) (length (names_of ds).phyla) p e in
-    let x = some_there (names_of ds).phyla p found.1 in
+    let x = slice_get-there (names_of ds).phyla p found.1 in
     let place = place_there ds p x.0 x.1 in
     let some : no_completion_at (names_of ds) p ≡ Some (fault.NoCompletion place.0 x.0.name) =
     ap (λ o. option_and_then (λ (q : Position). option_map (λ (y : Phylum). fault.NoCompletion q y.name) (slice_get (names_of ds).phyla p)) o) place.1
@@ -131,7 +133,7 @@ module _ (ds : List Decl) (spec : Spec) (table : HasTable (names_of ds) spec) (n
   ops_in_order : (p : ℕ) → own_ops ds p ≡ operators_of spec p
   ops_in_order p =
       own_ops_are ds p (is_operator_of spec p) (λ op. ap (λ o. unwrap_or (option_map (nat_eq p) o) false) (phylum_kept (names_of ds) spec table op ∙ phylum_plain ds op))
-      ∙ ap (λ n. filter (is_operator_of spec p) (below n)) (sym (ops_count (names_of ds) spec table ∙ ap (λ (l : List Operator). length l) (ops_are ds) ∙ length-made (with_local (own_locals ds)) 0 (plain_ops ds)))
+      ∙ ap (λ n. filter (is_operator_of spec p) (below n)) (sym (ops_count (names_of ds) spec table ∙ ap (λ (l : List Operator). length l) (ops_are ds) ∙ map_from_length (with_local (own_locals ds)) 0 (plain_ops ds)))
 
   -- each phylum, from its first definition
   phylum_sound : (p : ℕ) (h : Head) → slice_get (phyla_in ds) p ≡ Some h → IsPhylum spec p (phylum_made ds p h)

@@ -1,5 +1,5 @@
 -- The counts and the names of the table of declarations.
-use Rattle.std.proofs.Common.{◌≡◌, ℕ, zero, suc, ◌+◌, ◌<◌, ◌≤◌, Bool, true, false, cond, List, [], ◌∷◌, ◌++◌, length, map, take, slice_get, Some, None, bytes_eq, refl, sym, ap, subst, ◌∙◌, arith}
+use Rattle.std.proofs.Common.{◌≡◌, ℕ, ◌+◌, ◌<◌, ◌≤◌, Bool, true, false, cond, List, [], ◌∷◌, ◌++◌, length, map, take, slice_get, Some, None, bytes_eq, refl, sym, ap, subst, ◌∙◌, arith}
 use Rattle.std.specs.List.{All, AllByRecursion, count_by, sum_by, flat_map}
 use Rattle.std.proofs.lemmas.List.Elements.{recursion_from_All}
 use Rattle.std.proofs.lemmas.List.Sums.{sum_by-le-sum_by}
@@ -11,44 +11,38 @@ use Rattle.sg_kinds.specs.declared.spec.Attr.{Attr}
 use Rattle.sg_kinds.specs.declared.spec.Local.{Local}
 use Rattle.sg_kinds.specs.declared.spec.Operator.{Operator}
 use Rattle.sg_kinds.specs.declared.spec.Phylum.{Phylum}
+use Rattle.sg_kinds.proofs.Elementary.{slice_get-there}
 use Rattle.sg_ast.specs.declared.decl.Alt.{Alt}
 use Rattle.sg_ast.specs.Declarations as decl
 use Rattle.sg_ast.specs.Declarations.{Decl}
-use Rattle.sg_counts.specs.Definitions as space
-use Rattle.sg_counts.specs.declared.definitions.Form.TheVariants as form
-use Rattle.sg_counts.specs.Duplicates.{defined, definitions_of, given, duplicate, before_text}
-use Rattle.sg_counts.specs.Limits.{is_same_operator, arities_of, parameters_of, attributes_of, locals_of}
 use Rattle.sg_names.specs.declared.heads.Head.{Head}
 use Rattle.sg_names.specs.declared.table.Signature.{Signature}
 use Rattle.sg_names.specs.Heads.{base_heads}
 use Rattle.sg_names.specs.Names as made
-use Rattle.sg_names.specs.Names.{map_from, owned, owners, phylum_defined, phyla_in, operator, operators_at, operators_in, locals_at, attributes_at, function_at, attrs_there, shape_of, lexemes_before, value_attr, phylum, with_local, listings_of, names_of}
+use Rattle.sg_names.specs.Names.{map_from, owned, owners, phylum_defined, phyla_in, operator, operators_at, operators_in, locals_at, attributes_at, function_at, shape_of, lexemes_before, value_attr, phylum, with_local, listings_of, names_of}
+use Rattle.sg_names.proofs.OpPlaces.{map_from_length}
+use Rattle.sg_counts.specs.Definitions as space
+use Rattle.sg_counts.specs.declared.definitions.Form.TheVariants as form
+use Rattle.sg_counts.specs.Duplicates.{defined, definitions_of, given, duplicate, before_text}
+use Rattle.sg_counts.specs.Limits.{is_same_operator, arities_of, parameters_of, attributes_of, locals_of}
+use Rattle.sg_counts.proofs.Walks.{count_map}
 use Rattle.sg_resolve.specs.Limited.{IsLimited}
-use Rattle.sg_resolve.proofs.Counting.{count-all, count-cons, count-map, count-append, count-flat, sum_by-both, distinct_from_counts, all_made, map-made, length-made}
+use Rattle.sg_resolve.proofs.Counting.{count-all, count-cons, count-append, count-flat, sum_by-both, distinct_from_counts, all_made, map-made}
 use Rattle.sg_resolve.proofs.HeadCounts.{fold_has, phyla_once, phyla_few, base_first}
 use Rattle.sg_resolve.proofs.Owning.{attrs_few, attrs_named, locals_few, locals_named, phyla_there, arities_in, parameters_in}
 use Rattle.sg_resolve.proofs.Repeating.{defines, once}
+use Rattle.sg_resolve.proofs.ShapeLists.{each_at}
 
 -- what is made with its place, counted from 0
 all_from : {A B : Type 0} (P : B → Type 0) (f : ℕ → A → B) (xs : List A) → ((k : ℕ) (x : A) → slice_get xs k ≡ Some x → P (f k x)) → AllByRecursion P (map_from f 0 xs)
 all_from P f xs h = all_made P f 0 xs (λ k x is. let e : k ≡ 0 + k = omega arith in subst (λ n. P (f n x)) e (h k x is))
-
-all_at : {A : Type 0} (P : A → Type 0) (xs : List A) (k : ℕ) (x : A) → AllByRecursion P xs → slice_get xs k ≡ Some x → P x
-all_at P [] k x all is = absurd (cc is)
-all_at P (y ∷ xs) zero x all is = let same : y ≡ x = cc is in subst P same all.0
-all_at P (y ∷ xs) (suc k) x all is = all_at P xs k x all.1 is
-
-there : {A : Type 0} (xs : List A) (k : ℕ) → k < length xs → (x : A) × (slice_get xs k ≡ Some x)
-there [] k low = absurd (omega (arith, low))
-there (x ∷ xs) zero low = (x, refl)
-there (x ∷ xs) (suc k) low = there xs k (omega (arith, low))
 
 -- the phylum of each operator is there
 pub inside : (ds : List Decl) → AllByRecursion (λ (o : Operator). o.phylum < length (phyla_in ds)) (operators_in (phyla_in ds) ds)
 inside ds = phyla_there (phyla_in ds) ds (fold_has base_heads (flat_map phylum_defined ds))
 
 phylum_at : (ds : List Decl) (k : ℕ) (o : Operator) → slice_get (operators_in (phyla_in ds) ds) k ≡ Some o → (h : Head) × (slice_get (phyla_in ds) o.phylum ≡ Some h)
-phylum_at ds k o is = there (phyla_in ds) o.phylum (all_at (λ (x : Operator). x.phylum < length (phyla_in ds)) (operators_in (phyla_in ds) ds) k o (inside ds) is)
+phylum_at ds k o is = slice_get-there (phyla_in ds) o.phylum (each_at (λ (x : Operator). x.phylum < length (phyla_in ds)) (operators_in (phyla_in ds) ds) k o (inside ds) is)
 
 -- a phylum's attributes are those of its declarations, or the one of a leaf
 of_phylum : (P : List Attr → Type 0) (ds : List Decl) → ((k : ℕ) → P (value_attr k ∷ [])) → ((k : ℕ) (h : Head) → slice_get (phyla_in ds) k ≡ Some h → P (owned (flat_map (attributes_at (phyla_in ds) (phyla_in ds)) ds) k))
@@ -76,7 +70,7 @@ pub phyla_limited : (ds : List Decl) → IsLimited ds → length (names_of ds).p
 unfolding names_of
 phyla_limited ds low =
     let e : length (map_from (phylum (phyla_in ds) (listings_of (phyla_in ds) ds) (owned (owners (operators_in (phyla_in ds) ds))) (made.attributes_of (phyla_in ds) (phyla_in ds) ds)) 0 (phyla_in ds)) ≡ length (phyla_in ds) =
-    length-made (phylum (phyla_in ds) (listings_of (phyla_in ds) ds) (owned (owners (operators_in (phyla_in ds) ds))) (made.attributes_of (phyla_in ds) (phyla_in ds) ds)) 0 (phyla_in ds) in
+    map_from_length (phylum (phyla_in ds) (listings_of (phyla_in ds) ds) (owned (owners (operators_in (phyla_in ds) ds))) (made.attributes_of (phyla_in ds) (phyla_in ds) ds)) 0 (phyla_in ds) in
     subst (λ n. n ≤ 515) (sym e) (phyla_few ds low.phyla)
 
 args_in : (ds : List Decl) → map (λ (o : Operator). length o.args) (names_of ds).ops ≡ flat_map arities_of ds
@@ -144,7 +138,7 @@ unfolding names_of
 base_named ds = let front = base_first ds in ap (λ (l : List Head). map (λ (x : Phylum). x.name) (take 3 (map_from (phylum (phyla_in ds) (listings_of (phyla_in ds) ds) (owned (owners (operators_in (phyla_in ds) ds))) (made.attributes_of (phyla_in ds) (phyla_in ds) ds)) 0 l))) front.1
 
 pub phyla_distinct : (ds : List Decl) → AreDistinct (map (λ (x : Phylum). x.name) (names_of ds).phyla)
-phyla_distinct ds = subst AreDistinct (sym (phyla_names ds)) (distinct_from_counts (map (λ (h : Head). h.name) (phyla_in ds)) (λ n. subst (λ k. k ≤ 1) (sym (count-map (bytes_eq n) (λ (h : Head). h.name) (phyla_in ds))) (phyla_once ds n)))
+phyla_distinct ds = subst AreDistinct (sym (phyla_names ds)) (distinct_from_counts (map (λ (h : Head). h.name) (phyla_in ds)) (λ n. subst (λ k. k ≤ 1) (sym (count_map (bytes_eq n) (λ (h : Head). h.name) (phyla_in ds))) (phyla_once ds n)))
 
 -- the names of operators and functions, each defined by its declaration
 nothing : (n : ℕ) → 0 ≤ n
@@ -155,10 +149,10 @@ zero_more n = omega arith
 
 callables_at : (phyla : List Head) (n : Bytes) (d : Decl) → count_by (λ (o : Operator). bytes_eq n o.name) (operators_at phyla d) + count_by (λ (f : Signature). bytes_eq n f.name) (function_at phyla d) ≤ count_by (defines space.Callables n) (definitions_of d)
 callables_at phyla n (decl.Operators p alts) =
-    let e : count_by (λ (o : Operator). bytes_eq n o.name) (map (operator phyla p) alts) ≡ count_by (λ (a : Alt). bytes_eq n a.name.text) alts = count-map (λ (o : Operator). bytes_eq n o.name) (operator phyla p) alts in
+    let e : count_by (λ (o : Operator). bytes_eq n o.name) (map (operator phyla p) alts) ≡ count_by (λ (a : Alt). bytes_eq n a.name.text) alts = count_map (λ (o : Operator). bytes_eq n o.name) (operator phyla p) alts in
     let f : count_by (defines space.Callables n) (definitions_of (decl.Operators p alts)) ≡ 0 + count_by (λ (a : Alt). bytes_eq n a.name.text) alts =
     count-cons (defines space.Callables n) (defined form.Operators space.Phyla p) (map (λ (a : Alt). defined form.Alone space.Callables a.name) alts)
-    ∙ ap (λ k. 0 + k) (count-map (defines space.Callables n) (λ (a : Alt). defined form.Alone space.Callables a.name) alts) in
+    ∙ ap (λ k. 0 + k) (count_map (defines space.Callables n) (λ (a : Alt). defined form.Alone space.Callables a.name) alts) in
     omega (arith, e, f)
 callables_at phyla n (decl.Function t m params e) = zero_more (0 + cond (bytes_eq n m.text) 1 0)
 callables_at phyla n d = nothing (count_by (defines space.Callables n) (definitions_of d))
@@ -167,7 +161,7 @@ given_first : (n : Bytes) (bs cs : List Bytes) → count_by (bytes_eq n) cs ≤ 
 given_first n bs cs =
     let split : count_by (defines space.Callables n) (map (before_text space.Phyla) bs ++ map (before_text space.Callables) cs) ≡ count_by (defines space.Callables n) (map (before_text space.Phyla) bs) + count_by (defines space.Callables n) (map (before_text space.Callables) cs) =
     count-append (defines space.Callables n) (map (before_text space.Phyla) bs) (map (before_text space.Callables) cs) in
-    let seen : count_by (defines space.Callables n) (map (before_text space.Callables) cs) ≡ count_by (bytes_eq n) cs = count-map (defines space.Callables n) (before_text space.Callables) cs in
+    let seen : count_by (defines space.Callables n) (map (before_text space.Callables) cs) ≡ count_by (bytes_eq n) cs = count_map (defines space.Callables n) (before_text space.Callables) cs in
     omega (arith, split, seen)
 
 -- three kinds of names that are all defined once
@@ -183,12 +177,12 @@ op_names ds = map-made (λ (o : Operator). o.name) (with_local (made.locals_of (
 
 op_count : (ds : List Decl) (n : Bytes) → count_by (bytes_eq n) (map (λ (o : Operator). o.name) (names_of ds).ops) ≡ sum_by (λ d. count_by (λ (o : Operator). bytes_eq n o.name) (operators_at (phyla_in ds) d)) ds
 op_count ds n =
-    ap (count_by (bytes_eq n)) (op_names ds) ∙ count-map (bytes_eq n) (λ (o : Operator). o.name) (operators_in (phyla_in ds) ds)
+    ap (count_by (bytes_eq n)) (op_names ds) ∙ count_map (bytes_eq n) (λ (o : Operator). o.name) (operators_in (phyla_in ds) ds)
     ∙ count-flat (λ (o : Operator). bytes_eq n o.name) (operators_at (phyla_in ds)) ds
 
 function_count : (ds : List Decl) (n : Bytes) → count_by (bytes_eq n) (map (λ (f : Signature). f.name) (names_of ds).functions) ≡ sum_by (λ d. count_by (λ (f : Signature). bytes_eq n f.name) (function_at (phyla_in ds) d)) ds
 unfolding names_of
-function_count ds n = count-map (bytes_eq n) (λ (f : Signature). f.name) (flat_map (function_at (phyla_in ds)) ds) ∙ count-flat (λ (f : Signature). bytes_eq n f.name) (function_at (phyla_in ds)) ds
+function_count ds n = count_map (bytes_eq n) (λ (f : Signature). f.name) (flat_map (function_at (phyla_in ds)) ds) ∙ count-flat (λ (f : Signature). bytes_eq n f.name) (function_at (phyla_in ds)) ds
 
 callables_few : (ds : List Decl) (n : Bytes)
     → count_by (bytes_eq n) (map (λ (o : Operator). o.name) (names_of ds).ops) + count_by (bytes_eq n) (map (λ (f : Signature). f.name) (names_of ds).functions) ≤ sum_by (λ d. count_by (defines space.Callables n) (definitions_of d)) ds
@@ -222,7 +216,7 @@ attrs_distinct ds e = of_phylum (λ attrs. AreDistinct (map (λ (a : Attr). a.na
   where
     each : (k : ℕ) (h : Head) → slice_get (phyla_in ds) k ≡ Some h → AreDistinct (map (λ (a : Attr). a.name) (owned (flat_map (attributes_at (phyla_in ds) (phyla_in ds)) ds) k))
     each k h is = distinct_from_counts (map (λ (a : Attr). a.name) (owned (flat_map (attributes_at (phyla_in ds) (phyla_in ds)) ds) k))
-        (λ n. subst (λ c. c ≤ 1) (sym (count-map (bytes_eq n) (λ (a : Attr). a.name) (owned (flat_map (attributes_at (phyla_in ds) (phyla_in ds)) ds) k)))
+        (λ n. subst (λ c. c ≤ 1) (sym (count_map (bytes_eq n) (λ (a : Attr). a.name) (owned (flat_map (attributes_at (phyla_in ds) (phyla_in ds)) ds) k)))
         (fewer (count_by (λ (a : Attr). bytes_eq n a.name) (owned (flat_map (attributes_at (phyla_in ds) (phyla_in ds)) ds) k)) (count_by (defines (space.Attributes h.name) n) given)
         (sum_by (λ d. count_by (defines (space.Attributes h.name) n) (definitions_of d)) ds) (attrs_named (phyla_in ds) k h is n ds) (once ds e (space.Attributes h.name) n)))
 
@@ -232,6 +226,6 @@ locals_distinct ds e = of_operator (λ locals. AreDistinct (map (λ (l : Local).
     each : (k : ℕ) (o : Operator) (h : Head) → slice_get (operators_in (phyla_in ds) ds) k ≡ Some o → slice_get (phyla_in ds) o.phylum ≡ Some h
         → AreDistinct (map (λ (l : Local). l.name) (owned (flat_map (locals_at (phyla_in ds) (operators_in (phyla_in ds) ds)) ds) k))
     each k o h is phylum = distinct_from_counts (map (λ (l : Local). l.name) (owned (flat_map (locals_at (phyla_in ds) (operators_in (phyla_in ds) ds)) ds) k))
-        (λ n. subst (λ c. c ≤ 1) (sym (count-map (bytes_eq n) (λ (l : Local). l.name) (owned (flat_map (locals_at (phyla_in ds) (operators_in (phyla_in ds) ds)) ds) k)))
+        (λ n. subst (λ c. c ≤ 1) (sym (count_map (bytes_eq n) (λ (l : Local). l.name) (owned (flat_map (locals_at (phyla_in ds) (operators_in (phyla_in ds) ds)) ds) k)))
         (fewer (count_by (λ (l : Local). bytes_eq n l.name) (owned (flat_map (locals_at (phyla_in ds) (operators_in (phyla_in ds) ds)) ds) k)) (count_by (defines (space.Locals h.name o.name) n) given)
         (sum_by (λ d. count_by (defines (space.Locals h.name o.name) n) (definitions_of d)) ds) (locals_named (phyla_in ds) (operators_in (phyla_in ds) ds) k o h is phylum n ds) (once ds e (space.Locals h.name o.name) n)))

@@ -1,9 +1,12 @@
 -- The causes of a status follow from what the run tells
-use Rattle.std.proofs.Common.{◌≡◌, ◌≢◌, ◌⊎◌, inl, inr, ℕ, zero, suc, ◌≤◌, List, [], ◌∷◌, ◌++◌, Option, Some, None, IsSome, refl, sym, ap, ◌∙◌, subst, length, arith}
-use Rattle.sg_replies.specs.declared.reply.Reply.{Reply}
-use Rattle.sg_replies.specs.declared.reply.Reply.TheVariants.{Fetched, FetchFailed, Kept, KeepFailed}
+use Rattle.std.proofs.Common.{◌≡◌, ◌≢◌, ◌⊎◌, inl, inr, ℕ, suc, ◌≤◌, List, [], ◌∷◌, ◌++◌, Option, Some, None, IsSome, refl, sym, ap, ◌∙◌, subst, length, arith}
+use Rattle.sg_outside.specs.Count.{Rose, raised, raised_by}
 use Rattle.sg_load.specs.Verdict.{Verdict, IsVerdict}
 use Rattle.sg_load.specs.Verdict.Verdict.{Refused, Accepted}
+use Rattle.sg_replies.specs.declared.reply.Reply.{Reply}
+use Rattle.sg_replies.specs.declared.reply.Reply.TheVariants.{Fetched, FetchFailed, Kept, KeepFailed}
+use Rattle.sg_replies.specs.Requests.{failures}
+use Rattle.sg_replies.proofs.Laws.{≤-raised_by}
 use Rattle.sg_small_spec.specs.declared.fault.SmallFault.{SmallFault}
 use Rattle.sg_small_spec.specs.FirstFault.{first_fault}
 use Rattle.sg_small_spec.specs.SpecOf.{spec_of}
@@ -12,8 +15,6 @@ use Rattle.sg_run.specs.declared.status.Status.TheVariants.{Done, Memory, Usage,
 use Rattle.sg_run.specs.Job.{Job}
 use Rattle.sg_run.specs.Job.Job.{Show, Check}
 use Rattle.sg_run.specs.Output.{job_told, screened, session}
-use Rattle.sg_outside.specs.Count.{Rose, raised, raised_by}
-use Rattle.sg_replies.specs.Requests.{failures}
 use Rattle.sg_run.specs.World.{World}
 use Rattle.sg_run.specs.Parts.{Ends}
 use Rattle.sg_run.specs.Causes.{IsRight, LastFailed, FirstFetched, IsRefused, IsAccepted, IsFit}
@@ -112,16 +113,12 @@ failures_last : (front : List Reply) → failures (front ++ FetchFailed ∷ []) 
 failures_last [] = omega arith
 failures_last (r ∷ front) = let e = failures_last front in omega (arith, e)
 
-grows : (n count : ℕ) → count ≤ 18446744073709551615 → count ≤ raised_by n count
-grows zero count h = omega arith
-grows (suc n) count h = let r = grows n (raised count) (omega arith) in omega (arith, r, h)
-
 -- a failed fetch was counted
 pub failed_rose : (replies : List Reply) (old new : ℕ) → LastFailed replies → raised_by (failures replies) old ≤ new → Rose old new
 failed_rose replies old new last counted =
     let some : failures replies ≡ suc (failures last.0) = ap failures last.1 ∙ failures_last last.0 in
     let more : raised_by (failures last.0) (raised old) ≤ new = subst (λ n. raised_by n old ≤ new) some counted in
-    let grown : raised old ≤ raised_by (failures last.0) (raised old) = grows (failures last.0) (raised old) (omega arith) in
+    let grown : raised old ≤ raised_by (failures last.0) (raised old) = ≤-raised_by (failures last.0) (raised old) (omega arith) in
     omega (arith, more, grown)
 
 -- the job is done, or there was not enough memory

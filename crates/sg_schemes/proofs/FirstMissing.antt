@@ -1,21 +1,23 @@
 -- The operator that is found without a scheme is the first one of a shown phylum.
-use Rattle.std.proofs.Common.{◌≡◌, ℕ, zero, suc, ◌+◌, ◌-◌, ◌<◌, ◌≤◌, ◌⊎◌, inl, inr, Bool, true, false, cond, not, ◌&&◌, ◌||◌, if◌then◌else◌, List, [], ◌∷◌, length, set, get_or, replicate, Option, Some, None, slice_get, nat_eq, option_map, unwrap_or, refl, sym, ap, ◌∙◌, subst, arith}
+use Rattle.std.proofs.Common.{◌≡◌, ℕ, zero, suc, ◌+◌, ◌-◌, ◌<◌, ◌≤◌, ◌⊎◌, inl, inr, Bool, true, false, not, ◌&&◌, ◌||◌, if◌then◌else◌, List, [], ◌∷◌, length, set, get_or, replicate, Option, Some, None, slice_get, nat_eq, option_map, unwrap_or, refl, sym, ap, ◌∙◌, subst, arith}
 use Rattle.std.specs.Prelude.{max, Result, Ok, Err, IfOk}
 use Rattle.std.specs.List.{Contains, list_any}
 use Rattle.std.proofs.lemmas.Bool.{and_parts, cases_lt}
 use Rattle.std.proofs.lemmas.Bool.Decides.{nat_tests}
 use Rattle.std.proofs.Math.Nat.{le-max_left, le-max_right}
+use Rattle.std.proofs.lemmas.Option.{slice_get_within}
 use Rattle.sg_kinds.specs.Specification.{args_of}
 use Rattle.sg_kinds.specs.Sound.{IsShown}
 use Rattle.sg_kinds.specs.declared.spec.Operator.{Operator}
 use Rattle.sg_kinds.specs.declared.fault.SpecFault.{SpecFault}
+use Rattle.sg_kinds.proofs.Elementary.{not_true, or_false}
 use Rattle.sg_ast.specs.Declarations.{Decl, Schemes}
 use Rattle.sg_names.specs.Drafted.{drafted}
 use Rattle.sg_names.specs.Lookups.{operator_at}
 use Rattle.sg_names.specs.declared.table.Table.{Table}
 use Rattle.sg_schemes.specs.Shown.{flag, past, past_all, width, shown, give_to, give, give_all, given, fault_at, is_missing, missing_from, no_scheme}
 use Rattle.sg_schemes.specs.NoScheme.{gives, LacksScheme, IsNoScheme, all_have, first_lacks}
-use Rattle.sg_schemes.proofs.Least.{only_shown, all_shown}
+use Rattle.sg_schemes.proofs.Least.{only_shown, all_shown, length_set, length_false}
 
 -- the root and each argument have a flag
 past_in : (ps : List ℕ) (k q : ℕ) → k < length ps → get_or ps k q ≡ q → q < past ps
@@ -54,18 +56,13 @@ flag_set (b ∷ F) zero (suc k) low = ap (λ c. c || flag F k) (sym (suc_zero k)
 flag_set (b ∷ F) (suc j) zero low = ap (λ c. c || b) (sym (zero_suc j))
 flag_set (b ∷ F) (suc j) (suc k) low = flag_set F j k (omega (arith, low)) ∙ ap (λ c. c || flag F k) (sym (suc_suc k j))
 
-set_length : (F : List Bool) (k : ℕ) → length (set F k true) ≡ length F
-set_length [] k = refl
-set_length (b ∷ F) zero = refl
-set_length (b ∷ F) (suc k) = ap suc (set_length F k)
-
 give_flag : (F : List Bool) (k : ℕ) (o : Option ℕ) → k < length F → flag (give_to F o) k ≡ (unwrap_or (option_map (nat_eq k) o) false || flag F k)
 give_flag F k None low = refl
 give_flag F k (Some j) low = flag_set F j k low
 
 give_length : (F : List Bool) (o : Option ℕ) → length (give_to F o) ≡ length F
 give_length F None = refl
-give_length F (Some j) = set_length F j
+give_length F (Some j) = length_set F j
 
 step_flag : (t : Table) (F : List Bool) (d : Decl) (k : ℕ) → k < length F → flag (give t F d) k ≡ (gives t k d || flag F k)
 step_flag t F (Schemes p op None ss) k low = give_flag F k (operator_at t p op) low
@@ -86,29 +83,15 @@ all_flag t F (d ∷ ds) k low =
     let l : length (give t F d) ≡ length F = step_length t F d in
     all_flag t (give t F d) ds k (omega (arith, l, low)) ∙ ap (λ b. list_any (gives t k) ds || b) (step_flag t F d k low) ∙ or_moved (gives t k d) (list_any (gives t k) ds) (flag F k)
 
-false_length : (n : ℕ) → length (replicate n false) ≡ n
-false_length zero = refl
-false_length (suc n) = ap suc (false_length n)
-
 none_flag : (n k : ℕ) → flag (replicate n false) k ≡ false
 none_flag zero k = refl
 none_flag (suc n) zero = refl
 none_flag (suc n) (suc k) = none_flag n k
 
-or_false : (a : Bool) → (a || false) ≡ a
-or_false true = refl
-or_false false = refl
-
 pub given_is : (t : Table) (ds : List Decl) (k : ℕ) → k < length t.ops → flag (given t ds) k ≡ list_any (gives t k) ds
 given_is t ds k low =
-    let l : length (replicate (length t.ops) false) ≡ length t.ops = false_length (length t.ops) in
+    let l : length (replicate (length t.ops) false) ≡ length t.ops = length_false (length t.ops) in
     all_flag t (replicate (length t.ops) false) ds k (omega (arith, l, low)) ∙ ap (λ b. list_any (gives t k) ds || b) (none_flag (length t.ops) k) ∙ or_false (list_any (gives t k) ds)
-
--- a number below the length has an operator
-within : (ops : List Operator) (k : ℕ) (o : Operator) → slice_get ops k ≡ Some o → k < length ops
-within [] k o h = absurd (cc h)
-within (x ∷ ops) zero o h = omega arith
-within (x ∷ ops) (suc k) o h = let l : k < length ops = within ops k o h in omega (arith, l)
 
 module _ (t : Table) (ds : List Decl) where
   both : (a b : Bool) → a ≡ true → b ≡ false → (a && not b) ≡ true
@@ -116,12 +99,8 @@ module _ (t : Table) (ds : List Decl) where
   both true true h k = absurd (cc k)
   both false b h k = absurd (cc h)
 
-  not_false : (b : Bool) → not b ≡ true → b ≡ false
-  not_false true h = absurd (cc h)
-  not_false false h = refl
-
   missing : (k : ℕ) (o : Operator) → LacksScheme t ds k o → is_missing (shown t) (given t ds) k o ≡ true
-  missing k o lacks = both (flag (shown t) o.phylum) (flag (given t ds) k) (flag_shown t lacks.shown) (given_is t ds k (within t.ops k o lacks.there) ∙ lacks.none)
+  missing k o lacks = both (flag (shown t) o.phylum) (flag (given t ds) k) (flag_shown t lacks.shown) (given_is t ds k (slice_get_within t.ops k o lacks.there) ∙ lacks.none)
 
   lacks_there : (k : ℕ) (o : Operator) → slice_get t.ops k ≡ Some o → is_missing (shown t) (given t ds) k o ≡ true → LacksScheme t ds k o
   lacks_there k o at is =
@@ -129,7 +108,7 @@ module _ (t : Table) (ds : List Decl) where
       record {
         there = at;
         shown = shown_flag t o.phylum parts.0;
-        none = sym (given_is t ds k (within t.ops k o at)) ∙ not_false (flag (given t ds) k) parts.1;
+        none = sym (given_is t ds k (slice_get_within t.ops k o at)) ∙ not_true (flag (given t ds) k) parts.1;
       }
 
   scan : (k : ℕ) (ops : List Operator) → ((i : ℕ) → slice_get t.ops (k + i) ≡ slice_get ops i) → ((j : ℕ) (x : Operator) → j < k → LacksScheme t ds j x → ⊥) → IsNoScheme t ds (missing_from t (shown t) (given t ds) k ops)

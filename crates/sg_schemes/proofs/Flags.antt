@@ -1,9 +1,9 @@
 -- Flags, beside the loops that put them up.
 use Rattle.std.proofs.Common.{◌≡◌, ℕ, zero, suc, ◌+◌, ◌-◌, ◌<◌, ◌≤◌, Bool, true, false, cond, List, [], ◌∷◌, length, set, drop, get_or, Option, refl, sym, ap, ◌∙◌, arith, add-one}
-use Rattle.sg_kinds.specs.declared.spec.Operator.{Operator}
 use Rattle.std.specs.Bool.{Decides}
 use Rattle.std.specs.Cmp.Lexicographic.{pointwise}
 use Rattle.std.proofs.lemmas.Slice.Eq.{slice_eq-Decides}
+use Rattle.sg_kinds.specs.declared.spec.Operator.{Operator}
 use Rattle.sg_kinds.specs.declared.fault.SpecFault.{SpecFault}
 use Rattle.sg_kinds.proofs.Kids.{drop_more}
 use Rattle.sg_names.specs.declared.table.Table.{Table}
@@ -27,7 +27,7 @@ pub passes_end : {total : List Bool} (n i : ℕ) (ops : List Operator) (flags : 
 unfolding passes
 passes_end n i ops flags all so_far = let m : n - i ≡ 0 = omega arith in sym (ap (λ k. passes k ops flags) m) ∙ so_far
 
-settled : (n : ℕ) (ops : List Operator) (flags : List Bool) → pass flags ops ≡ flags → passes n ops flags ≡ flags
+pub settled : (n : ℕ) (ops : List Operator) (flags : List Bool) → pass flags ops ≡ flags → passes n ops flags ≡ flags
 unfolding passes
 settled zero ops flags e = refl
 settled (suc n) ops flags e = ap (passes n ops) e ∙ settled n ops flags e

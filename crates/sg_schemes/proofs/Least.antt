@@ -1,12 +1,13 @@
 -- The flags that the passes put up are those of the shown phyla.
-use Rattle.std.proofs.Common.{◌≡◌, ℕ, zero, suc, ◌+◌, ◌<◌, ◌≤◌, ◌⊎◌, inl, inr, Bool, true, false, cond, List, [], ◌∷◌, length, set, get_or, replicate, Option, Some, None, slice_get, option_map, unwrap_or, refl, sym, ap, ◌∙◌, subst, arith, get_or-set_other, get_or-set_same}
+use Rattle.std.proofs.Common.{◌≡◌, ℕ, zero, suc, ◌+◌, ◌<◌, ◌≤◌, ◌⊎◌, inl, inr, Bool, true, false, cond, List, [], ◌∷◌, length, set, get_or, replicate, Option, Some, None, slice_get, option_map, unwrap_or, refl, sym, ap, ◌∙◌, subst, arith}
 use Rattle.std.specs.List.{Contains}
-use Rattle.std.proofs.lemmas.Bool.{cases_lt, cases_eq}
-use Rattle.sg_kinds.specs.Specification.{args_of, phylum_of}
+use Rattle.std.proofs.lemmas.Bool.{cases_lt}
+use Rattle.sg_kinds.specs.Specification.{args_of}
 use Rattle.sg_kinds.specs.declared.spec.Operator.{Operator}
 use Rattle.sg_kinds.specs.declared.spec.Spec.{Spec}
 use Rattle.sg_kinds.specs.Sound.{IsShown, root, argument}
 use Rattle.sg_schemes.specs.Shown.{flag, show_all, show_below, pass, passes, shown_among}
+use Rattle.sg_schemes.proofs.Flags.{settled}
 
 -- how many flags are up
 trues : List Bool → ℕ
@@ -43,12 +44,12 @@ some_true (b ∷ F) zero h = omega arith
 some_true (true ∷ F) (suc k) h = omega arith
 some_true (false ∷ F) (suc k) h = some_true F k (omega (arith, h))
 
-length_set : (F : List Bool) (k : ℕ) → length (set F k true) ≡ length F
+pub length_set : (F : List Bool) (k : ℕ) → length (set F k true) ≡ length F
 length_set [] k = refl
 length_set (b ∷ F) zero = refl
 length_set (b ∷ F) (suc k) = ap suc (length_set F k)
 
-length_false : (n : ℕ) → length (replicate n false) ≡ n
+pub length_false : (n : ℕ) → length (replicate n false) ≡ n
 length_false zero = refl
 length_false (suc n) = ap suc (length_false n)
 
@@ -102,11 +103,6 @@ same_pass F (o ∷ ops) h =
     let first = same_below F o (omega (arith, b, h)) in
     let rest = same_pass (show_below F o) ops (omega (arith, a, h)) in
     (rest.0 ∙ first.0, (first.1, subst (λ (l : List Bool). IsClosed l ops) first.0 rest.1))
-
-settled : (n : ℕ) (ops : List Operator) (F : List Bool) → pass F ops ≡ F → passes n ops F ≡ F
-unfolding passes
-settled zero ops F e = refl
-settled (suc n) ops F e = ap (passes n ops) e ∙ settled n ops F e
 
 -- each pass puts up a flag, or the passes have come to an end
 settles : (n : ℕ) (ops : List Operator) (F : List Bool) → (pass (passes n ops F) ops ≡ passes n ops F) ⊎ (trues F + n ≤ trues (passes n ops F))

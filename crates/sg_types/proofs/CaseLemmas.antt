@@ -1,5 +1,5 @@
 -- Chains of cases that are made from their ends, and put together from their fronts.
-use Rattle.std.proofs.Common.{◌≡◌, ℕ, Option, Some, None, List, [], ◌∷◌, ◌++◌, map, refl, sym, ap, ◌∙◌}
+use Rattle.std.proofs.Common.{◌≡◌, ℕ, Option, List, [], ◌∷◌, ◌++◌, map, refl, sym, ap, ◌∙◌}
 use Rattle.std.proofs.lemmas.List.{map_push}
 use Rattle.sg_kinds.specs.Expressions.{Pattern, Expr, Cases, Case}
 use Rattle.sg_kinds.specs.PatternView.{pattern_of}
@@ -8,18 +8,15 @@ use Rattle.sg_kinds.specs.declared.expr.ExprTree.{ExprTree}
 use Rattle.sg_ast.specs.Patterns as plain
 use Rattle.sg_ast.specs.Expressions as tree
 use Rattle.sg_ast.specs.FirstFault.{or_else}
+use Rattle.sg_ast.specs.Chains.{expr_place}
+use Rattle.sg_ast.proofs.FirstLaws.{or_else_assoc}
 use Rattle.sg_names.specs.declared.table.Table.{Table}
 use Rattle.sg_types.specs.declared.scope.Variable.{Variable}
 use Rattle.sg_types.specs.declared.found.FoundCase.{FoundCase}
 use Rattle.sg_types.specs.Bindings.{Owner}
-use Rattle.sg_ast.specs.Chains.{expr_place}
 use Rattle.sg_types.specs.Patterns.{mismatch_in, variables_of}
 use Rattle.sg_types.specs.Expressions.{type_in, mismatch_in as inside, where_wanted, mismatch_in_cases, recorded_cases}
 use Rattle.sg_types.specs.ExpressionsView.{IsCase, with_cases, case_of}
-
-or_else_assoc : {A : Type 0} (a b c : Option A) → or_else (or_else a b) c ≡ or_else a (or_else b c)
-or_else_assoc None b c = refl
-or_else_assoc (Some x) b c = refl
 
 or_else_twice : {A : Type 0} (a b c d : Option A) → or_else (or_else a (or_else b c)) d ≡ or_else a (or_else b (or_else c d))
 or_else_twice a b c d = or_else_assoc a (or_else b c) d ∙ ap (or_else a) (or_else_assoc b c d)

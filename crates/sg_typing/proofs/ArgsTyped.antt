@@ -9,14 +9,14 @@ use Rattle.sg_kinds.specs.Typing.{attr_types, slot_type, types_at}
 use Rattle.sg_kinds.specs.declared.spec.Attr.{Attr}
 use Rattle.sg_kinds.specs.declared.spec.Local.{Local}
 use Rattle.sg_kinds.specs.declared.spec.Occurrence.{Occurrence}
+use Rattle.sg_kinds.proofs.Elementary.{slice_get-before, slice_get-behind}
 use Rattle.sg_ast.specs.Expressions.{Expr, Exprs, Cases, Amount, Chars, Truth, Variable, Attribute, MadeOf, Paren, Single, Binary, Choice, Call, Let, With, NoExpr, AndExpr, NoCase, Default, Case}
 use Rattle.sg_ast.specs.declared.name.Reference.{Reference}
 use Rattle.sg_names.specs.Drafted.{drafted}
 use Rattle.sg_names.specs.Lookups.{attribute, attribute_at, local, occurrence, phylum_there, reference}
 use Rattle.sg_names.specs.declared.table.Table.{Table}
-use Rattle.sg_typing.specs.Arguments.{added, local_of, args_from, args_from_all, args_from_cases, args_in}
 use Rattle.sg_types.specs.Bindings.{is_at, own_slots}
-use Rattle.sg_typing.proofs.ExprTyped.{left, right}
+use Rattle.sg_typing.specs.Arguments.{added, local_of, args_from, args_from_all, args_from_cases, args_in}
 use Rattle.sg_typing.proofs.TableFacts.{position_there}
 
 -- a slot that has a type
@@ -37,7 +37,7 @@ attr_there t op at p s a there named = by at there
     slot = slice_get-map (λ (y : Attr). y.of) (attrs_of t.phyla p) s ∙ ap (option_map (λ (y : Attr). y.of)) x.1
 
     by : (at : ℕ) → phylum_there t op at ≡ Some p → HasType t op (record { at = at; slot = s })
-    by zero h = (x.0.of, ap (λ o. slice_get (attr_types (drafted t) o ++ map (λ (l : Local). l.of) (locals_of t.ops op)) s) h ∙ left (map (λ (y : Attr). y.of) (attrs_of t.phyla p)) (map (λ (l : Local). l.of) (locals_of t.ops op)) s x.0.of slot)
+    by zero h = (x.0.of, ap (λ o. slice_get (attr_types (drafted t) o ++ map (λ (l : Local). l.of) (locals_of t.ops op)) s) h ∙ slice_get-before (map (λ (y : Attr). y.of) (attrs_of t.phyla p)) (map (λ (l : Local). l.of) (locals_of t.ops op)) s x.0.of slot)
     by (suc k) h = (x.0.of, ap (λ o. slice_get (attr_types (drafted t) o) s) h ∙ slot)
 
 reference_typed : (t : Table) (op : ℕ) (r : Reference) (o : Occurrence) → reference t op r ≡ Some o → HasType t op o
@@ -59,7 +59,7 @@ reference_typed t op r o h = by (occurrence t op r.of) h
 pub local_typed : (t : Table) (op k : ℕ) (n : Bytes) → local t op n ≡ Some k → HasType t op (record { at = 0; slot = own_slots t op + k })
 local_typed t op k n h =
     let x = position_there (λ (l : Local). bytes_eq n l.name) (locals_of t.ops op) k h in
-    (x.0.of, right (attr_types (drafted t) (phylum_of t.ops op)) (map (λ (l : Local). l.of) (locals_of t.ops op)) k ∙ slice_get-map (λ (l : Local). l.of) (locals_of t.ops op) k ∙ ap (option_map (λ (l : Local). l.of)) x.1)
+    (x.0.of, slice_get-behind (attr_types (drafted t) (phylum_of t.ops op)) (map (λ (l : Local). l.of) (locals_of t.ops op)) k ∙ slice_get-map (λ (l : Local). l.of) (locals_of t.ops op) k ∙ ap (option_map (λ (l : Local). l.of)) x.1)
 
 name_typed : (t : Table) (op : ℕ) (n : Bytes) (o : Occurrence) → local_of t op n ≡ Some o → HasType t op o
 name_typed t op n o h = by (local t op n) refl h

@@ -4,6 +4,8 @@ use Rattle.sg_kinds.specs.Typing.{is_found, type_of}
 use Rattle.sg_kinds.specs.declared.spec.Spec.{Spec}
 use Rattle.sg_ast.specs.Expressions.{Expr}
 use Rattle.sg_ast.specs.Chains.{expr_place}
+use Rattle.sg_ast.specs.Written.{AreWritten}
+use Rattle.sg_ast.proofs.FirstLaws.{neither}
 use Rattle.sg_names.specs.Drafted.{HasTable, drafted}
 use Rattle.sg_names.specs.declared.table.Table.{Table}
 use Rattle.sg_names.proofs.DraftedLaws.{accepted_kept, type_kept}
@@ -11,10 +13,9 @@ use Rattle.sg_types.specs.declared.scope.Variable.{Variable}
 use Rattle.sg_types.specs.Bindings.{Owner}
 use Rattle.sg_types.specs.Expressions.{type_in, mismatch_in, mismatch_at, recorded}
 use Rattle.sg_types.specs.Types.{unless, fits_where}
-use Rattle.sg_ast.specs.Written.{AreWritten}
 use Rattle.sg_typing.specs.Written.{HasLists, AreOutside, known}
 use Rattle.sg_typing.proofs.Kept.{expr_kept}
-use Rattle.sg_typing.proofs.RecordTyped.{neither, unless_is}
+use Rattle.sg_typing.proofs.RecordTyped.{unless_is}
 
 -- what is wanted is known, and what is given is accepted there
 fits : (t : Table) (w : Owner) (vs : List Variable) (wanted : Option ℕ) (e : Expr) → mismatch_at t w vs wanted e ≡ None → (p : ℕ) × (wanted ≡ Some p) × (is_found (drafted t) p (type_in t w vs e) ≡ true) × (mismatch_in t w vs e ≡ None)

@@ -1,52 +1,43 @@
 -- Expressions of the record have the types that were found, where nothing mismatches.
-use Rattle.std.proofs.Common.{◌≡◌, refl, sym, ap, subst, ◌∙◌, ℕ, zero, suc, ◌+◌, Bool, true, false, List, [], ◌∷◌, ◌++◌, map, length, Option, Some, None, slice_get, append_assoc}
-use Rattle.std.specs.Prelude.{◌^◌, ◌&&◌, option_map, option_and_then, unwrap_or, is_some}
-use Rattle.std.proofs.Math.Nat.{suc-add, zero-add}
-use Rattle.std.proofs.lemmas.Option.{slice_get_within}
+use Rattle.std.proofs.Common.{◌≡◌, refl, sym, ap, subst, ◌∙◌, ℕ, zero, suc, ◌+◌, Bool, true, false, List, [], ◌∷◌, ◌++◌, map, Option, Some, None, slice_get, append_assoc}
+use Rattle.std.specs.Prelude.{◌^◌, option_map, option_and_then, unwrap_or, is_some}
 use Rattle.std.proofs.lemmas.Bool.{and_parts}
-use Rattle.sg_kinds.proofs.Elementary.{slice_get-front}
+use Rattle.sg_kinds.proofs.Elementary.{eq_itself, lt_true, slice_get-before, slice_get-behind}
 use Rattle.sg_kinds.specs.Values.{Bytes}
 use Rattle.sg_kinds.specs.Specification.{truths, numbers, texts, has_shape, is_list_shape}
 use Rattle.sg_kinds.specs.Typing as typing
-use Rattle.sg_kinds.specs.Typing.{type_of, all_fit, rest_fits, case_type, bound_types, unary_type, is_found}
+use Rattle.sg_kinds.specs.Typing.{type_of, all_fit, rest_fits, bound_types, unary_type, is_found}
 use Rattle.sg_kinds.specs.Expressions as kept
 use Rattle.sg_kinds.specs.declared.fault.Position.{Position}
 use Rattle.sg_kinds.specs.declared.marks.Unary.{Unary}
 use Rattle.sg_kinds.specs.declared.marks.Unary.TheVariants as unary
+use Rattle.sg_kinds.specs.declared.marks.Made.{Made}
 use Rattle.sg_ast.specs.FirstFault.{or_else}
 use Rattle.sg_ast.specs.Patterns as plain
 use Rattle.sg_ast.specs.Expressions.{Expr, Exprs, Cases, Amount, Chars, Truth, Variable, Attribute, MadeOf, Paren, Single, Binary, Choice, Call, Let, With, NoExpr, AndExpr, NoCase, Default, Case}
 use Rattle.sg_ast.specs.Chains.{expr_place, occurrence_place}
 use Rattle.sg_ast.specs.declared.name.Reference.{Reference}
-use Rattle.sg_kinds.specs.declared.marks.Made.{Made}
 use Rattle.sg_ast.specs.declared.expr.Infix.{Infix}
 use Rattle.sg_ast.specs.declared.expr.Infix.TheVariants.{Or, And, Equal, Unequal, Below, AtMost, Above, AtLeast, Cons, Join, Add, Sub, Mul, Div, Rem}
 use Rattle.sg_ast.specs.declared.expr.Prefix.{Prefix}
 use Rattle.sg_ast.specs.declared.expr.Prefix.TheVariants.{Minus, Not}
+use Rattle.sg_ast.specs.Written.{AreWritten, AreWrittenAll, AreWrittenCases}
+use Rattle.sg_ast.proofs.FirstLaws.{neither}
 use Rattle.sg_names.specs.declared.table.Table.{Table}
 use Rattle.sg_names.specs.declared.table.Callable.{Callable}
 use Rattle.sg_names.specs.declared.table.Callable.TheVariants as callable
 use Rattle.sg_names.specs.Names.{op_named}
 use Rattle.sg_names.specs.Lookups as look
-use Rattle.sg_types.specs.declared.scope.Variable as scope
 use Rattle.sg_names.specs.Drafted.{drafted, without_body}
+use Rattle.sg_types.specs.declared.scope.Variable as scope
 use Rattle.sg_types.specs.Types.{unless, fits_where, do_agree, list_of, list_at}
 use Rattle.sg_types.specs.Scopes.{found, place_of}
 use Rattle.sg_types.specs.Bindings.{Owner, outside, behind, reference_at, local_at, variable_at, type_there, place_there}
 use Rattle.sg_types.specs.Patterns.{variables_of, variables_of_all}
 use Rattle.sg_types.specs.Patterns as pattern
 use Rattle.sg_types.specs.Expressions.{type_in, mismatch_in, mismatch_in_all, mismatch_in_cases, recorded, recorded_all, recorded_cases, where_wanted, at_infix, given, infix_in, prefix_type, prefix_of, params_in, at_cons, pair_in, called_in, called_type}
-use Rattle.sg_ast.specs.Written.{AreWritten, AreWrittenAll, AreWrittenCases}
 use Rattle.sg_typing.specs.Written.{IsUsable, HasLists, AreOutside, IsCallable, AreCallable, is_builtin, known}
-use Rattle.sg_typing.proofs.RecordTyped.{neither, unless_is, untyped_is, below_is, equal_to, known-append, pattern_typed}
-
--- places in lists that are joined
-pub left : {A : Type 0} (xs ys : List A) (k : ℕ) (x : A) → slice_get xs k ≡ Some x → slice_get (xs ++ ys) k ≡ Some x
-left xs ys k x h = slice_get-front xs ys k (slice_get_within xs k x h) ∙ h
-
-pub right : {A : Type 0} (xs ys : List A) (k : ℕ) → slice_get (xs ++ ys) (length xs + k) ≡ slice_get ys k
-right [] ys k = rw (zero-add k) refl
-right (x ∷ xs) ys k = rw (suc-add (length xs) k) (right xs ys k)
+use Rattle.sg_typing.proofs.RecordTyped.{unless_is, untyped_is, known-append, pattern_typed}
 
 -- a variable that is known
 known_cons : (v : scope.Variable) (vs : List scope.Variable) (S : List ℕ) → known (v ∷ vs) ≡ Some S → (p : ℕ) × (ps : List ℕ) × (v.of ≡ Some p) × (known vs ≡ Some ps) × (S ≡ p ∷ ps)
@@ -155,7 +146,7 @@ module _ (t : Table) (lists : HasLists t) (G : List ℕ) (a b : kept.Expr) (q r 
   cons_typed : (x : ℕ × ℕ) (o : Option (ℕ × ℕ)) → o ≡ Some x → list_at t r ≡ Some x → is_found (drafted t) x.1 (Some q) ≡ true → type_of (drafted t) G (kept.Cons (pair_in o) a b) ≡ Some r
   cons_typed x o is e f =
       let l = lists r x e in
-      rw is (rw (ka, kb, l.0, l.1, list_shape t r x e, equal_to r, f) refl)
+      rw is (rw (ka, kb, l.0, l.1, list_shape t r x e, eq_itself r, f) refl)
 
   infix_typed : (s : Infix) (x y : Position) (m n : Option Position) → at_infix t s (Some q) (Some r) x y m n ≡ None → Gives t G (given s (Some r)) (infix_in t s (Some r) a b)
   infix_typed Equal x y m n h = let c = equal_parts (do_agree t (Some q) (Some r)) y m n h in (truths, refl, rw (ka, kb, c.2) refl)
@@ -252,7 +243,7 @@ call_typed t G place es (Some c) k u fit = called_typed t G c es (k c refl) fit
 
 module _ (t : Table) (usable : IsUsable t) (lists : HasLists t) (calls : AreCallable t) (w : Owner) (outer : List ℕ) (out : AreOutside t w outer) where
   outer_typed : (S : List ℕ) (x : ℕ × Option ℕ) (p : ℕ) → slice_get outer x.0 ≡ x.1 → x.1 ≡ Some p → slice_get (outer ++ S) x.0 ≡ Some p
-  outer_typed S x p at is = left outer S x.0 p (at ∙ is)
+  outer_typed S x p at is = slice_get-before outer S x.0 p (at ∙ is)
 
   reference_typed : (S : List ℕ) (r : Reference) (p : ℕ) (o : Option (ℕ × Option ℕ)) → reference_at t w r ≡ o → type_there o ≡ Some p → slice_get (outer ++ S) (place_there o) ≡ Some p
   reference_typed S r p None e h = cc
@@ -262,11 +253,11 @@ module _ (t : Table) (usable : IsUsable t) (lists : HasLists t) (calls : AreCall
       → type_there (or_else a (option_map (behind (outside w)) b)) ≡ Some p → slice_get (outer ++ S) (place_there (or_else a (option_map (behind (outside w)) b))) ≡ Some p
   variable_typed vs S n p k (Some x) b e f h = outer_typed S x p (out.locals n x e) h
   variable_typed vs S n p k None None e f h = cc
-  variable_typed vs S n p k None (Some y) e f h = rw (← out.count) (right outer S y.0 ∙ found_known vs S n y k f ∙ h)
+  variable_typed vs S n p k None (Some y) e f h = rw (← out.count) (slice_get-behind outer S y.0 ∙ found_known vs S n y k f ∙ h)
 
   mutual
     pub expr_typed : (vs : List scope.Variable) (S : List ℕ) (e : Expr) → known vs ≡ Some S → AreWritten e → mismatch_in t w vs e ≡ None → Gives t (outer ++ S) (type_in t w vs e) (recorded t w vs e)
-    expr_typed vs S (Amount n place) k v h = (numbers, refl, rw (below_is n (2 ^ 63) v) refl)
+    expr_typed vs S (Amount n place) k v h = (numbers, refl, rw (lt_true n (2 ^ 63) v) refl)
     expr_typed vs S (Chars s) k v h = (texts, refl, rw v refl)
     expr_typed vs S (Truth b place) k v h = (truths, refl, refl)
     expr_typed vs S (Variable n) k v h =

@@ -4,13 +4,13 @@ use Rattle.std.specs.Prelude.{is_some}
 use Rattle.sg_kinds.specs.Typing.{type_of, bound_types}
 use Rattle.sg_ast.specs.Patterns.{Pattern}
 use Rattle.sg_ast.specs.Expressions.{Expr}
+use Rattle.sg_ast.specs.Written.{HasValues, AreWritten}
 use Rattle.sg_names.specs.declared.table.Table.{Table}
-use Rattle.sg_types.specs.declared.scope.Variable.{Variable}
 use Rattle.sg_names.specs.Drafted.{drafted}
+use Rattle.sg_types.specs.declared.scope.Variable.{Variable}
 use Rattle.sg_types.specs.Bindings.{Owner}
 use Rattle.sg_types.specs.Patterns as pattern
 use Rattle.sg_types.specs.Expressions.{type_in, mismatch_in, recorded}
-use Rattle.sg_ast.specs.Written.{HasValues, AreWritten}
 use Rattle.sg_typing.specs.Written.{HasLists, AreOutside, known}
 use Rattle.sg_typing.proofs.RecordTyped.{pattern_typed}
 use Rattle.sg_typing.proofs.ExprTyped.{expr_type_kept, expr_has_type}

@@ -1,31 +1,27 @@
 -- The record that is made is typed as its definitions want, where nothing mismatches.
-use Rattle.std.proofs.Common.{◌≡◌, refl, sym, arith, ℕ, zero, suc, ◌<◌, Bool, true, false, nat_eq, List, [], ◌∷◌, ◌++◌, Option, Some, None}
-use Rattle.std.specs.Prelude.{◌^◌, nat_lt, option_map, option_and_then, unwrap_or}
-use Rattle.std.proofs.lemmas.Bool.Decides.{nat_tests}
+use Rattle.std.proofs.Common.{◌≡◌, refl, sym, arith, ℕ, zero, suc, ◌<◌, Bool, true, false, List, [], ◌∷◌, ◌++◌, Option, Some, None}
+use Rattle.std.specs.Prelude.{◌^◌, option_map, option_and_then, unwrap_or}
 use Rattle.sg_kinds.specs.Values.{is_number}
 use Rattle.sg_kinds.specs.Specification.{truths, numbers}
-use Rattle.sg_kinds.specs.Typing.{only_if, constant_type, constant_fits, bound_types, bound_types_all, is_textual, is_usable}
+use Rattle.sg_kinds.specs.Typing.{bound_types, bound_types_all, is_usable}
 use Rattle.sg_kinds.specs.Typing as typing
 use Rattle.sg_kinds.specs.Expressions as kept
 use Rattle.sg_kinds.specs.declared.marks.Made.{Made}
 use Rattle.sg_kinds.specs.declared.fault.Position.{Position}
-use Rattle.sg_ast.specs.FirstFault.{or_else}
+use Rattle.sg_kinds.proofs.Elementary.{lt_true}
 use Rattle.sg_ast.specs.Patterns.{Pattern, Patterns, Amount, Chars, Truth, Anything, Variable, MadeAs, Applied, NoPattern, AndPattern}
+use Rattle.sg_ast.specs.Written.{HasValues, HaveValues}
+use Rattle.sg_ast.proofs.FirstLaws.{neither}
 use Rattle.sg_names.specs.declared.table.Table.{Table}
 use Rattle.sg_names.specs.Lookups.{usable_named}
 use Rattle.sg_names.specs.Names.{op_named}
-use Rattle.sg_types.specs.declared.scope.Variable as scope
 use Rattle.sg_names.specs.Drafted.{drafted}
+use Rattle.sg_types.specs.declared.scope.Variable as scope
 use Rattle.sg_types.specs.Types.{unless, untyped, fits_where}
 use Rattle.sg_types.specs.Patterns.{is_wanted, takes_texts, is_operator_of, parts_of, mismatch_in, mismatch_in_all, variables_of, variables_of_all, recorded, recorded_all, signed}
-use Rattle.sg_ast.specs.Written.{HasValues, HaveValues}
 use Rattle.sg_typing.specs.Written.{IsUsable, known}
 
--- options and tests
-pub neither : {A : Type 0} (a b : Option A) → or_else a b ≡ None → (a ≡ None) × (b ≡ None)
-neither (Some x) b h = cc
-neither None b h = (refl, h)
-
+-- tests
 pub unless_is : (b : Bool) (place : Position) → unless b place ≡ None → b ≡ true
 unless_is true place h = refl
 unless_is false place h = cc
@@ -33,15 +29,6 @@ unless_is false place h = cc
 pub untyped_is : (o : Option ℕ) (place : Position) → untyped o place ≡ None → (p : ℕ) × (o ≡ Some p)
 untyped_is (Some p) place h = (p, refl)
 untyped_is None place h = cc
-
-pub equal_is : (a b : ℕ) → nat_eq a b ≡ true → a ≡ b
-equal_is a b h = grind (arith, nat_tests)
-
-pub equal_to : (a : ℕ) → nat_eq a a ≡ true
-equal_to a = grind (arith, nat_tests)
-
-pub below_is : (a b : ℕ) → a < b → nat_lt a b ≡ true
-below_is a b h = grind (arith, nat_tests)
 
 -- the known types of variables behind others
 pub known-append : (xs ys : List scope.Variable) → known (xs ++ ys) ≡ option_and_then (λ ps. option_map (λ qs. ps ++ qs) (known ys)) (known xs)
@@ -60,9 +47,9 @@ known-append (x ∷ xs) ys = rw (known-append xs ys) (by x.of (known xs) (known 
 
 -- numbers that are written are in range
 signed_is : (negative : Bool) (n : ℕ) → n < 2 ^ 63 → is_number (signed negative n) ≡ true
-signed_is false n h = below_is n (2 ^ 63) h
+signed_is false n h = lt_true n (2 ^ 63) h
 signed_is true zero h = refl
-signed_is true (suc n) h = below_is n (2 ^ 63) (omega (arith, h))
+signed_is true (suc n) h = lt_true n (2 ^ 63) (omega (arith, h))
 
 found_there : (t : Table) (p : ℕ) (o : Option ℕ) → fits_where t (Some p) o ≡ true → (q : ℕ) × (o ≡ Some q) × (typing.is_accepted (drafted t) q p ≡ true)
 found_there t p None h = cc

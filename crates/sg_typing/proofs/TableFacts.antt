@@ -1,11 +1,10 @@
 -- What holds of every table of names, and of the arguments of equations.
-use Rattle.std.proofs.Common.{◌≡◌, refl, sym, ap, subst, ◌∙◌, arith, ℕ, zero, suc, Bool, true, false, nat_eq, List, [], ◌∷◌, length, Option, Some, None, slice_get, get_or}
+use Rattle.std.proofs.Common.{◌≡◌, refl, sym, ap, subst, ◌∙◌, ℕ, zero, suc, Bool, true, false, nat_eq, List, [], ◌∷◌, length, Option, Some, None, slice_get, get_or}
 use Rattle.std.specs.Prelude.{◌&&◌, not, if◌then◌else◌, option_map, option_and_then, unwrap_or, bytes_eq, codes}
 use Rattle.std.specs.List.{position}
 use Rattle.std.proofs.lemmas.Bool.{and_parts}
 use Rattle.std.proofs.lemmas.List.Quantifiers.{position-Some}
 use Rattle.std.proofs.lemmas.Option.{slice_get-get_or}
-use Rattle.std.proofs.lemmas.Slice.Eq.{bytes_eq-Decides}
 use Rattle.sg_kinds.specs.Values.{Bytes}
 use Rattle.sg_kinds.specs.Specification.{has_shape, is_lexical_shape}
 use Rattle.sg_kinds.specs.Typing.{is_usable, slot_type, types_at}
@@ -14,6 +13,7 @@ use Rattle.sg_kinds.specs.declared.marks.Unary.TheVariants.{TextToNumber, Number
 use Rattle.sg_kinds.specs.declared.spec.Phylum.{Phylum}
 use Rattle.sg_kinds.specs.declared.spec.Operator.{Operator}
 use Rattle.sg_kinds.specs.declared.spec.Occurrence.{Occurrence}
+use Rattle.sg_kinds.proofs.Elementary.{eq_is, bytes_is}
 use Rattle.sg_ast.specs.FirstFault.{or_else}
 use Rattle.sg_ast.specs.declared.name.Reference.{Reference}
 use Rattle.sg_names.specs.declared.table.Signature.{Signature}
@@ -25,7 +25,6 @@ use Rattle.sg_names.specs.Lookups.{phylum_named, is_whitespace, function_named, 
 use Rattle.sg_names.specs.Drafted.{drafted}
 use Rattle.sg_types.specs.Bindings.{OfEquation, is_at, argument, local_slot}
 use Rattle.sg_typing.specs.Written.{IsUsable, IsCallable, AreCallable, AreOutside, is_builtin}
-use Rattle.sg_typing.proofs.RecordTyped.{equal_is}
 
 -- what stands at the first place that passes
 pub position_there : {A : Type 0} (test : A → Bool) (xs : List A) (k : ℕ) → position test xs ≡ Some k → (x : A) × (slice_get xs k ≡ Some x) × (test x ≡ true)
@@ -76,9 +75,6 @@ usable_there t q x e h =
     let f : bytes_eq x.name (codes "WHITESPACE") && is_lexical_shape x.shape ≡ false = rw shape at h in
     rw e (flipped (bytes_eq x.name (codes "WHITESPACE")) (is_lexical_shape x.shape) f)
 
-names_same : (n m : Bytes) → bytes_eq n m ≡ true → n ≡ m
-names_same n m h = grind (arith, bytes_eq-Decides)
-
 pub usable_is : (t : Table) → IsUsable t
 usable_is t n p h = by (phylum_named t n) refl h
   where
@@ -87,7 +83,7 @@ usable_is t n p h = by (phylum_named t n) refl h
     white q e false w f =
         let same : q ≡ p = cc in
         let x = position_there (λ (y : Phylum). bytes_eq n y.name) t.phyla q e in
-        let name : n ≡ x.0.name = names_same n x.0.name x.2 in
+        let name : n ≡ x.0.name = bytes_is n x.0.name x.2 in
         subst (λ k. is_usable (drafted t) k ≡ true) same (usable_there t q x.0 x.1 (subst (λ m. is_whitespace t q m ≡ false) name w))
 
     by : (o : Option ℕ) → phylum_named t n ≡ o → option_and_then (λ q. if is_whitespace t q n then None else Some q) o ≡ Some p → is_usable (drafted t) p ≡ true
@@ -128,8 +124,8 @@ argument_typed t op args A at slot x h g = by (position (is_at at slot) args) re
     by (Some k) e f =
         let y = position_there (is_at at slot) args k e in
         let b = and_parts (nat_eq at y.0.at) (nat_eq slot y.0.slot) y.2 in
-        let a : at ≡ y.0.at = equal_is at y.0.at b.0 in
-        let s : slot ≡ y.0.slot = equal_is slot y.0.slot b.1 in
+        let a : at ≡ y.0.at = eq_is at y.0.at b.0 in
+        let s : slot ≡ y.0.slot = eq_is slot y.0.slot b.1 in
         let z : slice_get A k ≡ slot_type (drafted t) op at slot = types_there t op args A k y.0 h y.1 ∙ ap (λ m. slot_type (drafted t) op m y.0.slot) (sym a) ∙ ap (slot_type (drafted t) op at) (sym s) in
         let same : (k, slot_type (drafted t) op at slot) ≡ x = cc in
         subst (λ (v : ℕ × Option ℕ). slice_get A v.0 ≡ v.1) same z

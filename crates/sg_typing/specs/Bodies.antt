@@ -15,13 +15,13 @@ use Rattle.sg_ast.specs.declared.decl.Target.{Target}
 use Rattle.sg_ast.specs.declared.decl.Target.TheVariants as target
 use Rattle.sg_names.specs.declared.table.Table.{Table}
 use Rattle.sg_names.specs.Lookups.{phylum_named, operator_at, reference, symbol_attrs}
-use Rattle.sg_types.specs.declared.scope.Variable.{Variable}
-use Rattle.sg_typing.specs.declared.bodies.TypedExpr.{TypedExpr}
 use Rattle.sg_names.specs.Drafted.{drafted}
+use Rattle.sg_types.specs.declared.scope.Variable.{Variable}
 use Rattle.sg_types.specs.Bindings.{Owner, OfEquation, OfProduction, OfNothing, local_slot}
-use Rattle.sg_typing.specs.Arguments.{args_in}
 use Rattle.sg_types.specs.Expressions.{type_in, mismatch_at, recorded}
 use Rattle.sg_types.specs.Patterns as pattern
+use Rattle.sg_typing.specs.declared.bodies.TypedExpr.{TypedExpr}
+use Rattle.sg_typing.specs.Arguments.{args_in}
 
 -- an expression of the record with its type, among these variables
 abbrev pub typed : Table → Owner → List Variable → List Occurrence → Expr → TypedExpr

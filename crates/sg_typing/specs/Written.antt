@@ -2,17 +2,17 @@
 use Rattle.std.specs.Prelude.{◌≡◌, ℕ, Bool, true, false, List, [], ◌∷◌, Option, Some, option_map, option_and_then, slice_get, length}
 use Rattle.sg_kinds.specs.Values.{Bytes}
 use Rattle.sg_kinds.specs.Typing.{is_usable}
+use Rattle.sg_kinds.specs.declared.marks.Unary.{Unary}
+use Rattle.sg_kinds.specs.declared.marks.Unary.TheVariants.{TextToNumber, NumberToText, TextLength}
+use Rattle.sg_kinds.specs.Specification.{phylum_of, args_of}
+use Rattle.sg_ast.specs.declared.name.Reference.{Reference}
 use Rattle.sg_names.specs.declared.table.Table.{Table}
 use Rattle.sg_names.specs.declared.table.Signature.{Signature}
 use Rattle.sg_names.specs.declared.table.Callable.{Callable}
 use Rattle.sg_names.specs.declared.table.Callable.TheVariants as callable
-use Rattle.sg_kinds.specs.declared.marks.Unary.{Unary}
-use Rattle.sg_kinds.specs.declared.marks.Unary.TheVariants.{TextToNumber, NumberToText, TextLength}
 use Rattle.sg_names.specs.Lookups.{usable_named, callable as callable_named}
-use Rattle.sg_types.specs.declared.scope.Variable.{Variable}
-use Rattle.sg_kinds.specs.Specification.{phylum_of, args_of}
-use Rattle.sg_ast.specs.declared.name.Reference.{Reference}
 use Rattle.sg_names.specs.Drafted.{drafted}
+use Rattle.sg_types.specs.declared.scope.Variable.{Variable}
 use Rattle.sg_types.specs.Types.{list_at}
 use Rattle.sg_types.specs.Bindings.{Owner, outside, reference_at, local_at}
 

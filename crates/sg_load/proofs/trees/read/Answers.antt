@@ -1,8 +1,8 @@
 use Rattle.std.proofs.Common.{◌≡◌, Ok}
 use Rattle.std.proofs.lemmas.Result.{IfOk-weaker}
 use Rattle.sg_ast.specs.View.{trees_of}
-use Rattle.sg_load.specs.Trees.{trees_in}
 use Rattle.sg_ast.specs.Written.{HaveWritten}
+use Rattle.sg_load.specs.Trees.{trees_in}
 use Rattle.sg_load.proofs.WrittenLaws.{read_written}
 use Rattle.sg_load.proofs.trees.read.Goals as goal
 
