@@ -179,6 +179,9 @@ fn texts_are_typed_in(rt: HostRuntime) {
         ),
         (12, 16, 9)
     );
+    assert!(rt; grammar.rules().len() == 9 && grammar.entries().len() == 2);
+    assert!(rt; grammar.right(2).len() == 3 && grammar.symbol_at(2, 1) == Some(4));
+    grammar.sound();
     loaded.facts();
     enter(&rt, &loaded.lexemes, &grammar, &loaded.tables);
 }

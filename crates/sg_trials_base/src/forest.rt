@@ -142,6 +142,9 @@ fn exchanges_inside_and_across_trees(rt: HostRuntime) {
     );
     drop_tree(&rt, &mut forest, pair);
     assert!(rt; !forest.contains(b) && forest.contains(a));
+    assert_eq!(rt; forest.label(a).kids, 0);
+    assert_eq!(rt; forest.set_part(a, 6), 1);
+    hang(&rt, &forest, &[(a, 6, Some((4, 0)))]);
 }
 
 #[test]

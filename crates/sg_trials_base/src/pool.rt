@@ -1,9 +1,10 @@
 //! Values with their sameness, their copies and their limits, and the numbers that a pool gives them.
 use sg_kinds::ids::OpId;
 use sg_kinds::marks::FaultKind;
-use sg_pool::pool::{Pool, PoolFault};
 use sg_kinds::text::Text;
 use sg_kinds::value::Value;
+use sg_pool::entry::Entry;
+use sg_pool::pool::{Pool, PoolFault};
 use std::process::Abort;
 
 /// A text of so many bytes.
@@ -71,4 +72,8 @@ fn values_over_the_limits_are_refused(rt: HostRuntime) {
     assert!(rt; matches!(deep, Err(PoolFault::Size)) && long.number < pool.len());
     let large = pool.node(OpId { number: 2 }, &[long]);
     assert!(rt; matches!(large, Err(PoolFault::Size)) && pool.len() == 1025);
+    let fault = pool.put_fault(FaultKind::Fuel).expect(&rt, "a number");
+    assert!(rt; fault.number < pool.len() && pool.len() == 1026);
+    assert!(rt; matches!(pool.entry(fault), Entry::Fault(_)));
+    pool.sound();
 }

@@ -68,6 +68,16 @@ fn pairs(relation: &Relation) -> usize {
     count
 }
 
+/// Whether a relation has these edges.
+fn has_all(relation: &Relation, edges: &[(usize, usize)]) -> bool {
+    for &(a, b) in edges {
+        if a >= relation.size() || !relation.holds(a, b) || !relation.successors(a).contains(b) {
+            return false;
+        }
+    }
+    true
+}
+
 #[test]
 fn graphs_with_their_closures_and_cycles(rt: HostRuntime) {
     for &(size, edges, closed, expected) in &GRAPHS {
@@ -80,6 +90,9 @@ fn graphs_with_their_closures_and_cycles(rt: HostRuntime) {
         let mut closure = relation.copy(rt.alloc()).expect(&rt, "a copy");
         closure.close();
         assert_eq!(rt; pairs(&closure), closed);
+        assert!(rt; has_all(&closure, edges) && closure.size() == relation.size());
+        let grown = closure.join(&relation);
+        assert!(rt; !grown);
     }
 }
 
@@ -108,7 +121,7 @@ fn numbers_flow_along_links(rt: HostRuntime) {
     rows.insert(2, 0);
     rows.insert(5, 64);
     rows.flow(&[(3, 4), (2, 3), (1, 2), (0, 1), (3, 1), (0, 3)]);
-    let rows = rows.copy(rt.alloc()).expect(&rt, "a copy");
+    let mut rows = rows.copy(rt.alloc()).expect(&rt, "a copy");
     for (row, numbers) in FLOWED.iter().enumerate() {
         for number in 0..100usize {
             assert_eq!(rt;
@@ -118,6 +131,13 @@ fn numbers_flow_along_links(rt: HostRuntime) {
             );
         }
     }
+    assert!(rt; rows.count() == 6 && rows.width() == 100);
+    let last = rows.row(5).copy(rt.alloc()).expect(&rt, "a copy");
+    assert!(rt; last.width() == rows.width());
+    let grown = rows.union_row(1, &last);
+    assert!(rt; grown && rows.holds(1, 64) && rows.count() == 6);
+    let joined = rows.join_row(1, 4);
+    assert!(rt; joined && rows.holds(4, 64));
 }
 
 #[test]
@@ -129,5 +149,9 @@ fn sets_at_the_edges_of_words(rt: HostRuntime) {
         let other = set.copy(rt.alloc()).expect(&rt, "a copy");
         set.insert(width / 2);
         assert_eq!(rt; set.first_shared(&other), Some(width - 1));
+        set.clear();
+        assert!(rt; !set.contains(width - 1) && set.width() == other.width());
+        let grown = set.union(&other);
+        assert!(rt; grown && set.contains(width - 1) && !set.contains(width));
     }
 }
