@@ -21,7 +21,7 @@ use Rattle.sg_ast.specs.declared.name.Name.{Name}
 use Rattle.sg_ast.specs.Written.{AreWritten, IsWritten}
 use Rattle.sg_ast.proofs.FirstLaws.{neither}
 use Rattle.sg_names.specs.Drafted.{HasTable, drafted}
-use Rattle.sg_names.specs.Lookups.{local, phylum_named, operator_at}
+use Rattle.sg_names.specs.Lookups.{local, phylum_named, operator_at, operator_named}
 use Rattle.sg_names.specs.Names.{if_of, op_named}
 use Rattle.sg_names.specs.declared.table.Table.{Table}
 use Rattle.sg_names.proofs.DraftedLaws.{slot_kept, types_kept}

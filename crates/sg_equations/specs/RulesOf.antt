@@ -4,6 +4,7 @@ use Rattle.sg_kinds.specs.declared.spec.Occurrence.{Occurrence}
 use Rattle.sg_kinds.specs.declared.spec.Rule.{Rule}
 use Rattle.sg_ast.specs.Declarations.{Decl, Equation, Equations}
 use Rattle.sg_names.specs.declared.table.Table.{Table}
+use Rattle.sg_names.specs.Lookups.{operator_at}
 use Rattle.sg_typing.specs.declared.bodies.TypedExpr.{TypedExpr}
 use Rattle.sg_typing.specs.Bodies.{expr_count}
 use Rattle.sg_equations.specs.Targets.{target_of}

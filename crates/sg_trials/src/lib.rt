@@ -1,5 +1,5 @@
-//! Trials over accepted specifications: what their records hold, their plans and tables, typed-in texts, the outcomes of
-//! expressions, and calls that may answer want of memory where memory is ample.
+//! Trials over accepted specifications: what their records hold, their plans and tables, typed-in texts, terms, and calls
+//! that may answer want of memory where memory is ample.
 #![tactic(auto)]
 
 #[cfg(test)]
@@ -8,10 +8,6 @@ mod entering;
 mod language;
 #[cfg(test)]
 mod loading;
-#[cfg(test)]
-mod outcome_rows;
-#[cfg(test)]
-mod outcomes;
 #[cfg(test)]
 mod plans;
 #[cfg(test)]

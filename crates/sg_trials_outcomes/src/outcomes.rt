@@ -1,15 +1,14 @@
 //! Outcomes of expressions over every operator, form and fault, and what an evaluation notes.
-use crate::language::language;
-use crate::loading::loaded;
 use crate::outcome_rows::parts;
 use sg_eval::made::MadeTerms;
 use sg_eval::{Evaluator, Instance, Journal};
 use sg_forest::NodeId;
 use sg_kinds::ids::RuleId;
 use sg_kinds::marks::FaultKind;
-use sg_pool::pool::Pool;
 use sg_kinds::text::Text;
 use sg_kinds::value::{Value, ValueNode};
+use sg_load::load;
+use sg_pool::pool::Pool;
 use std::process::Abort;
 
 /// Whether a value is printed so.
@@ -44,7 +43,7 @@ fn word(kind: FaultKind) -> &'static [u8] {
 
 /// The evaluator of the language of a text.
 fn evaluator(rt: &(impl Abort + AllocGlobal), text: &[u8]) -> Evaluator {
-    let loaded = loaded(rt, text);
+    let loaded = load(rt.alloc(), text).ok().expect(rt, "a language");
     Evaluator::new(rt.alloc(), &loaded.spec).expect(rt, "an evaluator")
 }
 
@@ -84,13 +83,19 @@ fn outcomes_of_expressions(rt: HostRuntime) {
     }
 }
 
-/// The first transformation gives back its one binding, and the second writes its two one behind the other.
+/// The first transformation gives back its one binding, and the second writes its two one behind the other. The second
+/// equation has two arguments, of which it takes the first twice.
 fn bindings() -> &'static [u8] {
     br#"root r;
 r : R() | Pair(r r) | Long(STR);
 r : R [ @ : ];
 r : Pair [ @ : @ @ ];
 r : Long [ @ : @ ];
+INT twice(INT n) { n + n };
+r { synthesized INT v; };
+r : R { $$.v = 0; };
+r : Pair { $$.v = twice(r$2.v) + twice(r$3.v + r$2.v); };
+r : Long { $$.v = 0; };
 transform STR on "same" s : s;
 transform r on "both" Pair(Long(s), Long(t)) : Long(s # t);
 "#
@@ -148,7 +153,7 @@ fn ran(
 
 #[test]
 fn an_equation_is_noted(rt: HostRuntime) {
-    let evaluator = evaluator(&rt, language());
+    let evaluator = evaluator(&rt, bindings());
     let mut journal = Journal::new(&rt);
     let who = Instance {
         node: NodeId { key: 7 },
