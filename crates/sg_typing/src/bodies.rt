@@ -107,10 +107,7 @@ pub(crate) fn target_type(names: &Names, op: OpId, target: &Target) -> Option<Ph
 pub(crate) fn operator(names: &Names, phylum: &Name, op: &Name) -> OpId
     ensures { result ≡ spec.operator names.now phylum.now op.now }
 {
-    let Some(phylum) = names.phylum_named(&phylum.text) else {
-        return op_or_none(None);
-    };
-    op_or_none(names.operator_named(phylum, &op.text))
+    op_or_none(names.operator_at(phylum, op))
 }
 
 // the expression of an equation with these arguments
