@@ -16,7 +16,7 @@ use Rattle.sg_ast.specs.declared.name.Name.{Name}
 use Rattle.sg_ast.specs.Declarations as decl
 use Rattle.sg_ast.specs.Declarations.{Decl}
 use Rattle.sg_names.specs.declared.table.Table.{Table}
-use Rattle.sg_names.specs.Lookups.{phylum_named, operator_named}
+use Rattle.sg_names.specs.Lookups.{phylum_named, operator_named, operator_at}
 use Rattle.sg_names.specs.Names.{owned, op_named, if_of}
 use Rattle.sg_names.proofs.Owned.{owned_append}
 use Rattle.sg_counts.specs.Definitions.{Schemes}
@@ -25,7 +25,6 @@ use Rattle.sg_counts.specs.Limits as limits
 use Rattle.sg_resolve.proofs.Counting.{equal_bytes, one_if, passes, count-all, count-owned, all_made}
 use Rattle.sg_resolve.proofs.Repeating.{defines, once}
 use Rattle.sg_resolve.proofs.ShapeLists.{each_map, each_always, each_split, none_owned}
-use Rattle.sg_schemes.specs.Shown.{operator_at}
 use Rattle.sg_typing.proofs.TableFacts.{position_there}
 use Rattle.sg_record.specs.Record.{scheme_of, schemes_under, schemes_at, schemes_of, with_scheme, with_schemes}
 

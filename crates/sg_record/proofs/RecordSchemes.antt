@@ -27,6 +27,7 @@ use Rattle.sg_ast.specs.Declarations.{Decl, Schemes}
 use Rattle.sg_ast.specs.FirstFault.{first}
 use Rattle.sg_ast.proofs.FirstLaws.{first-none}
 use Rattle.sg_ast.specs.Written.{IsWritten}
+use Rattle.sg_ast.specs.Parts.{target_place}
 use Rattle.sg_names.specs.declared.table.Table.{Table}
 use Rattle.sg_names.specs.Drafted.{drafted, HasTable}
 use Rattle.sg_names.specs.Lookups.{phylum_named, operator_named, reference, operator_at}
@@ -41,7 +42,7 @@ use Rattle.sg_schemes.specs.Shown.{fault_at}
 use Rattle.sg_types.specs.Bindings.{local_slot}
 use Rattle.sg_typing.specs.Bodies.{reference_type, target_type}
 use Rattle.sg_typing.specs.Bodies as body
-use Rattle.sg_typing.specs.Shown.{hidden, hidden_item, hidden_scheme, hidden_at, first_hidden, target_place}
+use Rattle.sg_typing.specs.Shown.{hidden, hidden_item, hidden_scheme, hidden_at, first_hidden}
 use Rattle.sg_typing.proofs.RecordTyped.{unless_is}
 use Rattle.sg_record.specs.Record.{first_slot, shown, item_of, scheme_of, schemes_under, schemes_at, schemes_of, with_scheme, with_schemes}
 use Rattle.sg_record.proofs.Lists.{each_append, each_both, each_flat, each_map, slice_get-map_from}

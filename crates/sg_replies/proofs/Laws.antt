@@ -16,7 +16,7 @@ raised_by-≤ : (n a b : ℕ) → a ≤ b → raised_by n a ≤ raised_by n b
 raised_by-≤ zero a b le = le
 raised_by-≤ (suc n) a b le = raised_by-≤ n (raised a) (raised b) (omega arith)
 
-≤-raised_by : (n count : ℕ) → count ≤ 18446744073709551615 → count ≤ raised_by n count
+pub ≤-raised_by : (n count : ℕ) → count ≤ 18446744073709551615 → count ≤ raised_by n count
 ≤-raised_by zero count le = omega arith
 ≤-raised_by (suc n) count le = let h = ≤-raised_by n (raised count) (omega arith) in omega (arith, h)
 
