@@ -1,5 +1,5 @@
 -- The depth of chains that grow at their ends.
-use Rattle.std.proofs.Common.{◌≡◌, ℕ, ◌+◌, max, min, List, [], ◌∷◌, ◌++◌, Some, None, arith}
+use Rattle.std.proofs.Common.{◌≡◌, ℕ, suc, ◌+◌, max, min, List, [], ◌∷◌, ◌++◌, Some, None, arith}
 use Rattle.sg_ast.specs.Patterns.{Pattern}
 use Rattle.sg_ast.specs.Expressions.{Expr}
 use Rattle.sg_ast.specs.Chains.{exprs_chain, cases_chain}
@@ -27,9 +27,9 @@ pub case_grown : (old whole : List (Pattern × Expr)) (c : Pattern × Expr) (d k
 case_grown old whole c d k is is_d is_k = rw is (omega (arith, case_depth_push old c))
 
 -- the depth over two parts, as far as 255
-pub above_two : (a b d k below : ℕ) → d ≡ min 255 a → k ≡ min 255 b → below ≡ max d k → min 255 (below + 1) ≡ min 255 (max a b + 1)
+pub above_two : (a b d k below : ℕ) → d ≡ min 255 a → k ≡ min 255 b → below ≡ max d k → min 255 (below + 1) ≡ min 255 (suc (max a b))
 above_two a b d k below is_d is_k is = omega (arith, is_d, is_k, is)
 
 -- and over three
-pub above_three : (a b c d k j below : ℕ) → d ≡ min 255 a → k ≡ min 255 b → j ≡ min 255 c → below ≡ max d (max k j) → min 255 (below + 1) ≡ min 255 (max a (max b c) + 1)
+pub above_three : (a b c d k j below : ℕ) → d ≡ min 255 a → k ≡ min 255 b → j ≡ min 255 c → below ≡ max d (max k j) → min 255 (below + 1) ≡ min 255 (suc (max a (max b c)))
 above_three a b c d k j below is_d is_k is_j is = omega (arith, is_d, is_k, is_j, is)

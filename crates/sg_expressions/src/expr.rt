@@ -56,7 +56,6 @@ fn completing(alloc: Global, tokens: &mut Tokens<'_>) -> Result<Node, Refusal>
 }
 
 /// `with` with these parts.
-#[tactic(auto, using(crate::proofs::Depths::above_three))]
 fn with_of(
     alloc: Global,
     scrutinee: Node,
@@ -77,7 +76,6 @@ fn with_of(
 }
 
 /// `a OPERATOR b` with these operands.
-#[tactic(auto, using(crate::proofs::Depths::above_two))]
 fn binary_of(alloc: Global, operator: Infix, left: Node, right: Node) -> Result<Node, NoMemory>
     ensures { IfOk result (λ n. node_of n ≡ plain.Binary operator (node_of left) (node_of right)) }
 {
@@ -88,7 +86,6 @@ fn binary_of(alloc: Global, operator: Infix, left: Node, right: Node) -> Result<
 }
 
 /// `a ? b : c` with these parts.
-#[tactic(auto, using(crate::proofs::Depths::above_three))]
 fn choice_of(alloc: Global, condition: Node, yes: Node, no: Node) -> Result<Node, NoMemory>
     ensures { IfOk result (λ n. node_of n ≡ plain.Choice (node_of condition) (node_of yes) (node_of no)) }
 {
@@ -100,7 +97,6 @@ fn choice_of(alloc: Global, condition: Node, yes: Node, no: Node) -> Result<Node
 }
 
 /// `let` with these parts.
-#[tactic(auto, using(crate::proofs::Depths::above_two))]
 fn let_of(
     alloc: Global,
     name: Name,
