@@ -13,14 +13,14 @@ ghost use Rattle.sg_small_screen.specs.Upward.{occurrence_in};
 ghost use Rattle.sg_small_screen.specs.Found.{slots_in, all_slots_in, texts_of, IsKnown, AreKnown};
 
 use crate::found::{Found, Slots, at, occurrence};
-use sg_pool::entry::Entry;
 use sg_kinds::ids::{OpId, ValueId};
 use sg_kinds::marks::{ChildPlace, FaultKind};
 use sg_kinds::memory::NoMemory;
-use sg_pool::pool::Pool;
 use sg_kinds::spec::{Item, Piece, Scheme, Spec};
 use sg_kinds::term::{Term, TermNode};
 use sg_kinds::text::Text;
+use sg_pool::entry::Entry;
+use sg_pool::pool::Pool;
 use std::alloc::Global;
 
 /// A node whose scheme is being written: its values, what was found of its children, and whether a separator is written.

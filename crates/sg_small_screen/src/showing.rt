@@ -10,10 +10,10 @@ use crate::visit::{Tour, visit};
 use sg_eval::made::MadeTerms;
 use sg_eval::{Evaluator, Journal};
 use sg_kinds::memory::NoMemory;
-use sg_pool::pool::Pool;
 use sg_kinds::spec::Spec;
 use sg_kinds::term::Term;
 use sg_kinds::text::Text;
+use sg_pool::pool::Pool;
 use std::alloc::Global;
 
 /// The screen after the command `new main`, in a window of 80 columns and 24 lines: the root's completing term with all

@@ -21,12 +21,12 @@ use sg_forest::NodeId;
 use sg_kinds::ids::{OpId, PhylumId, RuleId, ValueId};
 use sg_kinds::marks::FaultKind;
 use sg_kinds::memory::NoMemory;
-use sg_pool::pool::Pool;
 use sg_kinds::row::{Row, item};
 use sg_kinds::spec::{Occurrence, Spec};
 use sg_kinds::term::{Term, TermNode};
 use sg_kinds::text::Text;
 use sg_kinds::value::Value;
+use sg_pool::pool::Pool;
 use std::alloc::Global;
 
 /// What does not change while a term is visited.
