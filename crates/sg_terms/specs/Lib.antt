@@ -1,0 +1,5 @@
+pub mod Found
+pub mod Told
+pub mod Occurrences
+pub mod Storable
+pub mod Kept
