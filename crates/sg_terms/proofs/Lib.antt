@@ -5,3 +5,4 @@ pub mod Holding
 pub mod Moved
 pub mod Written
 pub mod Made
+pub mod Typed

@@ -3,3 +3,4 @@ pub mod Told
 pub mod Occurrences
 pub mod Storable
 pub mod Kept
+pub mod Entries

@@ -5,6 +5,7 @@ use Rattle.sg_kinds.specs.declared.spec.Occurrence.{Occurrence}
 use Rattle.sg_kinds.specs.declared.spec.Rule.{Rule}
 use Rattle.sg_kinds.specs.Evaluation.{untyped}
 use Rattle.sg_pool.specs.Pools.{value_at}
+use Rattle.sg_eval.specs.declared.journal.Instance.{Instance}
 use Rattle.sg_forest.specs.declared.node_id.NodeId.{NodeId}
 use Rattle.sg_forest.specs.Trees.{Trees, node_at, IsForest}
 use Rattle.sg_groves.specs.declared.kind.Kind.{Kind}
@@ -30,3 +31,17 @@ number_for trees n o = option_and_then (λ m. number_in trees m o.slot) (node_th
 
 abbrev pub value_for : Grove → NodeId → Occurrence → Value
 value_for g n o = unwrap_or (option_map (value_at g.pool) (number_for g.trees n o)) untyped
+
+-- what an equation defines at a node: the node at its target, and the slot
+pub record IsBearer (g : Grove) (n : NodeId) (r : Rule) (m : NodeId) (slot : ℕ) : Type 0 where
+  pub there : node_there g.trees n r.target.at ≡ Some m
+  pub slot_is : slot ≡ r.target.slot
+
+-- the entry of an evaluation at a node: what the equation defines there, and the number of the equation
+pub record IsEntryAt (g : Grove) (n : NodeId) (rule : ℕ) (r : Rule) (e : Instance) : Type 0 where
+  pub bearer : IsBearer g n r e.node e.slot
+  pub rule_is : e.rule ≡ rule
+
+-- a journal's list gained the entry, or nothing
+abbrev pub NotedAtMost : Grove → NodeId → ℕ → Rule → List Instance → List Instance → Type 0
+NotedAtMost g n rule r old new = (new ≡ old) ⊎ ((e : Instance) × IsEntryAt g n rule r e × (new ≡ old ++ e ∷ []))

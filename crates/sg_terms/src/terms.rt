@@ -11,6 +11,8 @@ ghost use Rattle.sg_kinds.specs.Specification.{args_of};
 ghost use Rattle.sg_kinds.specs.declared.spec.Rule.{Rule};
 ghost use Rattle.sg_kinds.specs.Typing.{slot_type};
 ghost use Rattle.sg_kinds.specs.declared.marks.FaultKind.TheVariants.{Fuel};
+ghost use Rattle.sg_eval.specs.Journal.{now_of, total_of};
+ghost use Rattle.sg_eval.specs.declared.journal.Instance.{Instance as IsInstance};
 ghost use Rattle.sg_forest.specs.Trees.{IsLive, IsRoot, IsChild, IsInside, room_below};
 ghost use Rattle.sg_forest.specs.Steps.{AreDistinct, SameSort, KeepsParts, IsPartSet, IsSwapped, IsDropped};
 ghost use Rattle.sg_forest.specs.Tree.{KeepsWaysWithin, MovesWays, KeepsWaysTo, KeepsWaysOutside};
@@ -21,12 +23,15 @@ ghost use Rattle.sg_groves.specs.Unchanged.{OnlyStored};
 ghost use Rattle.sg_terms.specs.Told.{op_of, scheme_of, elided_of, with_scheme, with_elided};
 ghost use Rattle.sg_terms.specs.Found.{op_at};
 ghost use Rattle.sg_terms.specs.Storable.{IsStorable, IsSlot, IsNoSlot};
+ghost use Rattle.sg_terms.specs.Occurrences.{value_for, IsBearer, NotedAtMost};
 ghost use Rattle.sg_terms.specs.Kept.{AllHold, AreRootsOf, IsAdded, KeepsTerms, KeepsTermsWithout, KeepsTermsNotOver, KeepsTermsOutside, ChangesTerms, ReplacesTerms};
 
 use crate::grown::{grow, grow_leaf};
 use crate::occurrences::{gather, number, there};
 use crate::parts::{put_elided, put_scheme, put_value};
 use crate::rows::{kind_of, unknown, widest};
+use sg_eval::made::MadeTerms;
+use sg_eval::{Evaluator, Instance, Journal};
 use sg_forest::{Forest, NodeId};
 use sg_groves::{Kind, Part};
 use sg_kinds::ids::{OpId, PhylumId, RuleId, ValueId};
@@ -56,6 +61,7 @@ pub struct Terms {
     spec: Spec,
     trees: Forest<Kind, Part>,
     pool: Pool,
+    made: MadeTerms,
     // the numbers of an equation's arguments, while it is evaluated
     args: Vec<ValueId>,
 }
@@ -73,6 +79,7 @@ impl Model for Terms {
     ghost use Rattle.sg_groves.specs.contracts.kind.Kind as the_kind;
     ghost use Rattle.sg_groves.specs.contracts.part.Part as the_part;
     ghost use Rattle.sg_groves.specs.Grove.{Grove, IsGrove};
+    ghost use Rattle.sg_eval.specs.MadeTerms.{AreMade};
 
     ghost Value = { Grove };
 
@@ -85,7 +92,7 @@ impl Model for Terms {
 
     ghost view = { λ t. record { spec = t.spec; trees = t.trees; pool = t.pool } };
 
-    ghost invariant = { λ t. IsGrove (record { spec = t.spec; trees = t.trees; pool = t.pool }) };
+    ghost invariant = { λ t. IsGrove (record { spec = t.spec; trees = t.trees; pool = t.pool }) × AreMade t.spec t.made t.pool };
 }
 
 impl Terms {
@@ -103,6 +110,7 @@ impl Terms {
             spec: spec.copy(alloc)?,
             trees: Forest::new(alloc)?,
             pool,
+            made: MadeTerms::new(alloc, spec)?,
             args: Vec::with_capacity(alloc, widest(spec))?,
         })
     }
@@ -370,5 +378,107 @@ impl Terms {
         ensures pool { self.new.pool ≡ self.old.pool }
     {
         self.trees.drop_tree(root);
+    }
+
+    /// The number of the outcome of an equation on the values of these numbers, after an entry of it in the journal.
+    pub fn evaluate(
+        &mut self,
+        ev: &Evaluator,
+        rule: RuleId,
+        args: &[ValueId],
+        who: Instance,
+        journal: &mut Journal,
+    ) -> Result<ValueId, NoMemory>
+        requires same { ev.now ≡ self.old.spec }
+        requires rule { rule < length self.old.spec.rules }
+        requires who { who.rule ≡ rule }
+        requires args { All (λ k. k < length self.old.pool) args.now }
+        ensures outcome { (r : Rule) → slice_get self.old.spec.rules rule ≡ Some r → IfOk result
+            (λ id. Stands self.new.pool id (outcome self.old.spec r (map (value_at self.old.pool) args.now))) }
+        ensures noted { OnOk result (now_of journal.new ≡ now_of journal.old ++ who ∷ []) }
+        ensures err { OnErr result ((now_of journal.new ≡ now_of journal.old)
+            ⊎ (now_of journal.new ≡ now_of journal.old ++ who ∷ [])) }
+        ensures total { total_of journal.new ≡ total_of journal.old }
+        ensures trees { self.new.trees ≡ self.old.trees }
+        ensures kept { OnlyStored self.old self.new IsNoSlot }
+    {
+        ev.run(rule, args, who, &mut self.pool, &mut self.made, journal)
+    }
+
+    /// Evaluates an equation of a node's operator on the values that are stored for its arguments, after an entry of it in the
+    /// journal, and stores the outcome for what the equation defines there.
+    pub fn evaluate_at(
+        &mut self,
+        ev: &Evaluator,
+        n: NodeId,
+        rule: RuleId,
+        journal: &mut Journal,
+    ) -> Result<Renewed, NoMemory>
+        requires same { ev.now ≡ self.old.spec }
+        requires rule { rule < length self.old.spec.rules }
+        requires operator { (r : Rule) → slice_get self.old.spec.rules rule ≡ Some r → op_at self.old n ≡ Some r.op }
+        ensures bearer { (r : Rule) → slice_get self.old.spec.rules rule ≡ Some r
+            → IfOk result (λ it. IsBearer self.old n r it.node it.slot) }
+        ensures outcome { (r : Rule) → slice_get self.old.spec.rules rule ≡ Some r → IfOk result
+            (λ it. Stands self.new.pool it.after (outcome self.old.spec r (map (value_for self.old n) r.args))) }
+        ensures before { IfOk result (λ it. number_at self.old it.node it.slot ≡ Some it.before) }
+        ensures after { IfOk result (λ it. number_at self.new it.node it.slot ≡ Some it.after) }
+        ensures kept { IfOk result (λ it. OnlyStored self.old self.new (IsSlot it.node it.slot)) }
+        ensures err { OnErr result (OnlyStored self.old self.new IsNoSlot) }
+        ensures noted { IfOk result (λ it. now_of journal.new
+            ≡ now_of journal.old ++ record { node = it.node; slot = it.slot; rule = rule } ∷ []) }
+        ensures noted_err { (r : Rule) → slice_get self.old.spec.rules rule ≡ Some r
+            → OnErr result (NotedAtMost self.old n rule r (now_of journal.old) (now_of journal.new)) }
+        ensures total { total_of journal.new ≡ total_of journal.old }
+    {
+        let (node, slot) = self.bearer(n, rule);
+        let after = self.outcome_at(ev, n, rule, node, slot, journal)?;
+        let before = self.store(node, slot, after);
+        Ok(Renewed {
+            node,
+            slot,
+            before,
+            after,
+        })
+    }
+
+    // what an equation defines at a node: the node at its target, and the slot
+    fn bearer(&self, n: NodeId, rule: RuleId) -> (NodeId, u32)
+        requires rule { rule < length self.now.spec.rules }
+        requires operator { (r : Rule) → slice_get self.now.spec.rules rule ≡ Some r → op_at self.now n ≡ Some r.op }
+        ensures { (r : Rule) → slice_get self.now.spec.rules rule ≡ Some r → IsBearer self.now n r result.0 result.1 }
+    {
+        let target = item(self.spec.rules.as_slice(), rule.number as usize).target;
+        (there(&self.trees, n, target.at), target.slot)
+    }
+
+    // the number of an equation's outcome on the values that are stored for its arguments at a node, after its entry
+    fn outcome_at(
+        &mut self,
+        ev: &Evaluator,
+        n: NodeId,
+        rule: RuleId,
+        node: NodeId,
+        slot: u32,
+        journal: &mut Journal,
+    ) -> Result<ValueId, NoMemory>
+        requires same { ev.now ≡ self.old.spec }
+        requires rule { rule < length self.old.spec.rules }
+        requires operator { (r : Rule) → slice_get self.old.spec.rules rule ≡ Some r → op_at self.old n ≡ Some r.op }
+        requires bearer { (r : Rule) → slice_get self.old.spec.rules rule ≡ Some r → IsBearer self.old n r node slot }
+        ensures outcome { (r : Rule) → slice_get self.old.spec.rules rule ≡ Some r → IfOk result
+            (λ id. Stands self.new.pool id (outcome self.old.spec r (map (value_for self.old n) r.args))) }
+        ensures storable { IfOk result (IsStorable self.new node slot) }
+        ensures noted { OnOk result (now_of journal.new ≡ now_of journal.old ++ record { node = node; slot = slot; rule = rule } ∷ []) }
+        ensures err { OnErr result ((now_of journal.new ≡ now_of journal.old)
+            ⊎ (now_of journal.new ≡ now_of journal.old ++ record { node = node; slot = slot; rule = rule } ∷ [])) }
+        ensures total { total_of journal.new ≡ total_of journal.old }
+        ensures trees { self.new.trees ≡ self.old.trees }
+        ensures kept { OnlyStored self.old self.new IsNoSlot }
+    {
+        let equation = item(self.spec.rules.as_slice(), rule.number as usize);
+        gather(&self.trees, n, equation.args.as_slice(), &mut self.args)?;
+        let who = Instance { node, slot, rule };
+        ev.run(rule, &self.args, who, &mut self.pool, &mut self.made, journal)
     }
 }

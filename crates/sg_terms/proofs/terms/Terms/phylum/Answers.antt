@@ -8,4 +8,4 @@ pub returns-clause-term : goal.returns-clause-term
 returns-clause-term c =
     let live = rw (← c.self.view_is) at c.requires in
     let same = c.label.ensures.label live.node live.found in
-    rw (← c.self.view_is) (λ t h. subst (λ (l : Kind). Fits c.self.inside.spec t l.phylum) (sym same) (held_fits _ c.self.invariant c.args.n live.node t live.found h))
+    rw (← c.self.view_is) (λ t h. subst (λ (l : Kind). Fits c.self.inside.spec t l.phylum) (sym same) (held_fits _ c.self.invariant.0 c.args.n live.node t live.found h))

@@ -9,7 +9,7 @@ loop-above-preserved c =
     let live = c.loop-above.invariant.live in
     let child : IsChild (node_at trees) c.loop-above.top c.in-Some.above c.in-Some.field-0-1 = record { node = live.node; found = live.found; hangs = sym (c.in-Some.ensures.up live.node live.found) } in
     record {
-      live = parent_is_live (node_at trees) c.self.invariant.forest.linked c.loop-above.top c.in-Some.above c.in-Some.field-0-1 child;
+      live = parent_is_live (node_at trees) c.self.invariant.0.forest.linked c.loop-above.top c.in-Some.above c.in-Some.field-0-1 child;
       inside = inside_append (node_at trees) c.args.n c.loop-above.top c.in-Some.above c.loop-above.invariant.inside
           (record { path = c.in-Some.field-0-1 ∷ []; climbs = (c.in-Some.above, child, refl) });
     }

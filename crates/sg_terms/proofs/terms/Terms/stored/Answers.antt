@@ -13,13 +13,13 @@ returns-clause-number c = rw (← c.self.view_is) c.number.ensures
 
 pub returns-clause-within : goal.returns-clause-within
 returns-clause-within c =
-    let v = number_stands _ c.self.invariant c.args.n c.args.slot c.number.result c.number.ensures in
+    let v = number_stands _ c.self.invariant.0 c.args.n c.args.slot c.number.result c.number.ensures in
     rw (← c.self.view_is) (slice_get_within _ _ _ v.1)
 
 pub returns-clause-typed : goal.returns-clause-typed
-returns-clause-typed c = rw (← c.self.view_is) (λ op is. storable_again _ c.self.invariant c.args.n c.args.slot c.number.result op c.number.ensures is)
+returns-clause-typed c = rw (← c.self.view_is) (λ op is. storable_again _ c.self.invariant.0 c.args.n c.args.slot c.number.result op c.number.ensures is)
 
 pub returns-clause-leaf : goal.returns-clause-leaf
 returns-clause-leaf c =
     rw (← c.self.view_is)
-    (λ p v h. let x = number_node (grove c.self.inside.spec c.self.inside.trees c.self.inside.pool) c.args.n c.args.slot c.number.result c.number.ensures in leaf_told _ c.self.invariant c.args.n x.0 x.1 p v c.args.slot c.number.result h c.number.ensures)
+    (λ p v h. let x = number_node (grove c.self.inside.spec c.self.inside.trees c.self.inside.pool) c.args.n c.args.slot c.number.result c.number.ensures in leaf_told _ c.self.invariant.0 c.args.n x.0 x.1 p v c.args.slot c.number.result h c.number.ensures)
