@@ -1,5 +1,5 @@
 -- What keeps a grove: steps that keep what nodes are, and whose nodes keep or gain parts that fit.
-use Rattle.std.proofs.Common.{◌≡◌, ◌<◌, ◌⊎◌, ℕ, zero, suc, List, [], ◌∷◌, length, Option, Some, None, refl, sym, ◌∙◌, ap, subst, inl, inr}
+use Rattle.std.proofs.Common.{◌≡◌, ◌<◌, ℕ, List, Option, Some, None, refl, sym, ◌∙◌, ap, subst}
 use Rattle.std.specs.List.{slice_get}
 use Rattle.std.specs.Prelude.{MatchOption}
 use Rattle.sg_kinds.specs.Values.{Value}
@@ -8,13 +8,13 @@ use Rattle.sg_kinds.specs.declared.spec.Spec.{Spec}
 use Rattle.sg_kinds.specs.declared.spec.Phylum.{Phylum}
 use Rattle.sg_kinds.specs.Fits.{MayHold}
 use Rattle.sg_kinds.specs.Typing.{slots_there}
-use Rattle.sg_pool.specs.Pools.{IsGrown, Stands}
+use Rattle.sg_pool.specs.Pools.{IsGrown}
 use Rattle.sg_forest.specs.declared.node_id.NodeId.{NodeId}
 use Rattle.sg_forest.specs.Node.{Node}
-use Rattle.sg_forest.specs.Trees.{Trees, node_at, IsChild, Lists}
+use Rattle.sg_forest.specs.Trees.{Trees, node_at, IsChild}
 use Rattle.sg_groves.specs.declared.kind.Kind.{Kind}
 use Rattle.sg_groves.specs.declared.part.Part.{Part}
-use Rattle.sg_groves.specs.Grove.{Grove, nodes, IsTyped, AreTyped, IsOperation, IsLeaf, IsNode, IsGrove}
+use Rattle.sg_groves.specs.Grove.{Grove, AreTyped, IsOperation, IsLeaf, IsNode, IsGrove}
 use Rattle.sg_terms.proofs.Same.{Stands-grown, AreTyped-grown}
 use Rattle.sg_terms.specs.Occurrences.{AreTrees}
 

@@ -1,5 +1,5 @@
 -- What a node of a grove tells of the term that it holds.
-use Rattle.std.proofs.Common.{◌≡◌, ℕ, zero, suc, Bool, false, List, [], ◌∷◌, Option, Some, None, refl, sym, ◌∙◌, ap, subst}
+use Rattle.std.proofs.Common.{◌≡◌, ℕ, zero, suc, List, [], ◌∷◌, Option, Some, None, refl, sym, ◌∙◌, ap, subst}
 use Rattle.std.specs.List.{slice_get}
 use Rattle.std.specs.Prelude.{option_map, option_and_then, unwrap_or, MatchOption}
 use Rattle.sg_kinds.specs.Evaluation.{untyped}
@@ -18,7 +18,6 @@ use Rattle.sg_groves.specs.Grove.{Grove, nodes, IsLeaf, IsOperation, IsGrove}
 use Rattle.sg_groves.specs.Stored.{kept, number_at}
 use Rattle.sg_groves.specs.Holds.{term_over, term_of, terms_under, Holds}
 use Rattle.sg_terms.specs.Told.{op_of, scheme_of, elided_of}
-use Rattle.sg_terms.specs.Found.{op_at}
 use Rattle.sg_terms.specs.Kept.{AllHold}
 
 -- the term that a node holds is one over what it is and keeps

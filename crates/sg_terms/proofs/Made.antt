@@ -1,10 +1,10 @@
 -- What a new root does to a grove.
 use Rattle.std.proofs.Common.{◌≡◌, ◌<◌, ℕ, List, [], ◌∷◌, length, Option, Some, None, Result, Ok, Err, refl, sym, ◌∙◌, ap, subst, inl, arith}
 use Rattle.std.specs.List.{slice_get}
-use Rattle.std.specs.Prelude.{All, MatchOption, IsTrue, true, IfOk, OnErr, false, option_and_then, option_map, unwrap_or}
+use Rattle.std.specs.Prelude.{All, MatchOption, IsTrue, true, IfOk, OnErr, false, option_and_then, unwrap_or}
 use Rattle.sg_kinds.proofs.Elementary.{slice_get-there, slice_get-All}
 use Rattle.sg_kinds.specs.Values.{Value, Truth, Number, Chars, Tree, Fault}
-use Rattle.sg_kinds.specs.Terms.{Term, Terms, Leaf, Node}
+use Rattle.sg_kinds.specs.Terms.{Terms, Leaf, Node}
 use Rattle.sg_kinds.specs.Evaluation.{untyped}
 use Rattle.sg_kinds.specs.Fits.{Fits, MayHold}
 use Rattle.sg_kinds.specs.Specification.{args_of, phylum_of}
@@ -15,7 +15,7 @@ use Rattle.sg_kinds.specs.declared.marks.Shape.{Shape}
 use Rattle.sg_kinds.specs.declared.marks.Shape.TheVariants.{Truths, Numbers, Texts, Lexemes, Ordinary, Optional, Listed, OptionalListed}
 use Rattle.sg_kinds.specs.declared.marks.FaultKind.TheVariants.{Fuel}
 use Rattle.std.proofs.lemmas.Option.{slice_get_within}
-use Rattle.sg_pool.specs.Pools.{IsGrown, Stands as StandsFor, value_at, is_kept}
+use Rattle.sg_pool.specs.Pools.{IsGrown, Stands as StandsFor, is_kept}
 use Rattle.sg_forest.specs.declared.node_id.NodeId.{NodeId}
 use Rattle.sg_forest.specs.Node.{Node as ForestNode}
 use Rattle.sg_forest.specs.Trees.{Trees, node_at, IsLive}
@@ -23,8 +23,8 @@ use Rattle.sg_forest.specs.Tree.{node, end, GrowsTree}
 use Rattle.sg_forest.specs.Steps.{KeepsKids, IsGrown as IsRootMade}
 use Rattle.sg_groves.specs.declared.kind.Kind.{Kind}
 use Rattle.sg_groves.specs.declared.part.Part.{Part}
-use Rattle.sg_groves.specs.Grove.{Grove, nodes, IsNode, IsLeaf, IsOperation, IsTyped, AreTyped, IsGrove}
-use Rattle.sg_groves.specs.Stored.{kept, number_at}
+use Rattle.sg_groves.specs.Grove.{Grove, IsLeaf, IsOperation, IsTyped, IsGrove}
+use Rattle.sg_groves.specs.Stored.{number_at}
 use Rattle.sg_groves.specs.Holds.{terms_under, Holds}
 use Rattle.sg_terms.specs.Occurrences.{AreTrees}
 use Rattle.sg_terms.specs.Kept.{AllHold, AreRootsOf}

@@ -1,5 +1,5 @@
 -- What steps on the trees do to the terms that nodes hold, and to their numbers.
-use Rattle.std.proofs.Common.{◌≡◌, ◌≢◌, ◌⊎◌, ℕ, zero, suc, List, [], ◌∷◌, Option, Some, None, refl, sym, ◌∙◌, ap, subst, inl, inr}
+use Rattle.std.proofs.Common.{◌≡◌, ℕ, List, ◌∷◌, Option, Some, None, refl, sym, ◌∙◌, ap, inl, inr}
 use Rattle.std.specs.List.{slice_get}
 use Rattle.std.specs.Prelude.{option_and_then}
 use Rattle.sg_kinds.specs.Values.{Value}
@@ -16,14 +16,13 @@ use Rattle.sg_forest.specs.Steps.{KeepsParts, SameSort, IsSwapped}
 use Rattle.sg_forest.proofs.Paths.{root_or_child}
 use Rattle.sg_groves.specs.declared.kind.Kind.{Kind}
 use Rattle.sg_groves.specs.declared.part.Part.{Part}
-use Rattle.sg_groves.specs.Grove.{Grove, nodes, IsGrove}
+use Rattle.sg_groves.specs.Grove.{IsGrove}
 use Rattle.sg_groves.specs.Stored.{number_at}
 use Rattle.sg_groves.specs.Holds.{term_of, Holds}
 use Rattle.sg_groves.proofs.Frames.{grown_term}
 use Rattle.sg_groves.proofs.Held.{place_held}
 use Rattle.sg_groves.proofs.Replacing.{tree_replaced}
 use Rattle.sg_terms.specs.Occurrences.{AreTrees}
-use Rattle.sg_terms.proofs.Same.{node_at-same}
 use Rattle.sg_terms.proofs.Steps.{grove, IsGrove-same, IsGrove-swapped}
 
 -- the number that a node has in a slot

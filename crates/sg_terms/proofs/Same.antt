@@ -1,7 +1,5 @@
 -- Values of a pool that grows, and groves of the same nodes.
-use Rattle.std.proofs.Common.{◌≡◌, ℕ, zero, suc, List, [], ◌∷◌, ◌++◌, Option, Some, None, refl, sym, ◌∙◌, ap, subst, rules}
-use Rattle.std.specs.List.{slice_get}
-use Rattle.std.specs.Prelude.{MatchOption}
+use Rattle.std.proofs.Common.{◌≡◌, ℕ, List, Some, refl, sym, ◌∙◌, ap, subst}
 use Rattle.std.specs.FinMap as finmap
 use Rattle.sg_kinds.proofs.Elementary.{slice_get-before}
 use Rattle.sg_kinds.specs.Values.{Value}
@@ -14,7 +12,7 @@ use Rattle.sg_forest.specs.Steps.{KeepsShape}
 use Rattle.sg_forest.proofs.Shape.{KeepsShape-same}
 use Rattle.sg_groves.specs.declared.kind.Kind.{Kind}
 use Rattle.sg_groves.specs.declared.part.Part.{Part}
-use Rattle.sg_groves.specs.Grove.{Grove, IsTyped, AreTyped}
+use Rattle.sg_groves.specs.Grove.{IsTyped, AreTyped}
 use Rattle.sg_groves.specs.Unchanged.{KeepsPart, OnlyStored}
 use Rattle.sg_terms.specs.Storable.{IsNoSlot}
 

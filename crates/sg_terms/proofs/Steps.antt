@@ -1,5 +1,5 @@
 -- What each step on the trees keeps of a grove.
-use Rattle.std.proofs.Common.{◌≡◌, ◌≢◌, ◌<◌, ◌⊎◌, ℕ, zero, suc, List, [], ◌∷◌, length, set, Option, Some, None, refl, sym, ◌∙◌, ap, subst, inl, inr, arith}
+use Rattle.std.proofs.Common.{◌≡◌, ◌≢◌, ◌⊎◌, ℕ, List, set, Option, Some, None, refl, sym, ◌∙◌, ap, subst, inl, inr}
 use Rattle.std.specs.List.{slice_get}
 use Rattle.std.proofs.lemmas.Option.{slice_get_within}
 use Rattle.std.proofs.lemmas.Bool.Decides.{eqb_tells}
@@ -9,9 +9,9 @@ use Rattle.sg_kinds.specs.declared.spec.Spec.{Spec}
 use Rattle.sg_pool.specs.Pools.{IsGrown}
 use Rattle.sg_forest.specs.declared.node_id.NodeId.{NodeId}
 use Rattle.sg_forest.specs.Node.{Node}
-use Rattle.sg_forest.specs.Trees.{Trees, node_at, IsLive, IsRoot, IsChild, IsInside, IsForest}
-use Rattle.sg_forest.specs.Steps.{AreDistinct, SameSort, KeepsParts, KeepsKids, KeepsShape, IsPartSet, IsSwapped, IsGrown as IsRootMade, IsDropped}
-use Rattle.sg_forest.proofs.Paths.{cases_id, inside_or_not, parent_differs}
+use Rattle.sg_forest.specs.Trees.{Trees, node_at, IsLive, IsChild, IsInside}
+use Rattle.sg_forest.specs.Steps.{SameSort, KeepsParts, KeepsKids, KeepsShape, IsPartSet, IsSwapped, IsGrown as IsRootMade, IsDropped}
+use Rattle.sg_forest.proofs.Paths.{cases_id}
 use Rattle.sg_forest.proofs.Moves.{slice_get-set_same, slice_get-set_other}
 use Rattle.sg_forest.proofs.Shape.{KeepsShape-part_set, IsForest-shape}
 use Rattle.sg_groves.specs.declared.kind.Kind.{Kind}

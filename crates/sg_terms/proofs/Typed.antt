@@ -1,13 +1,13 @@
 -- The values that are stored for an equation's arguments are of their types, and so is what it may store.
-use Rattle.std.proofs.Common.{◌≡◌, ◌<◌, ◌⊎◌, ℕ, zero, suc, Bool, true, false, List, [], ◌∷◌, ◌++◌, length, map, get_or, Option, Some, None, Result, Ok, Err, refl, sym, ◌∙◌, ap, subst, inl, inr, arith}
+use Rattle.std.proofs.Common.{◌≡◌, ◌<◌, ℕ, zero, suc, Bool, true, false, List, [], ◌∷◌, length, map, Option, Some, None, Result, Ok, Err, refl, sym, ◌∙◌, ap, subst, inl, inr, arith}
 use Rattle.std.specs.List.{slice_get}
-use Rattle.std.specs.Prelude.{MatchOption, IfOk, All, IsSome, IsTrue, option_map, option_and_then, unwrap_or}
+use Rattle.std.specs.Prelude.{MatchOption, IfOk, All, IsSome, option_map, option_and_then, unwrap_or}
 use Rattle.std.specs.Option.{is_some}
 use Rattle.std.proofs.lemmas.Option.{slice_get_within}
 use Rattle.sg_kinds.proofs.Elementary.{option_map_some, slice_get-there, slice_get-before, slice_get-All}
 use Rattle.sg_kinds.specs.Values.{Value}
 use Rattle.sg_kinds.specs.Terms.{Leaf}
-use Rattle.sg_kinds.specs.Specification.{args_of, attrs_of, locals_of, phylum_of, is_inherited, is_way_inherited, rules_of}
+use Rattle.sg_kinds.specs.Specification.{args_of, locals_of, phylum_of, is_inherited, is_way_inherited, rules_of}
 use Rattle.sg_kinds.specs.declared.spec.Spec.{Spec}
 use Rattle.sg_kinds.specs.declared.spec.Rule.{Rule}
 use Rattle.sg_kinds.specs.declared.spec.Phylum.{Phylum}
@@ -20,12 +20,12 @@ use Rattle.sg_kinds.specs.Fits.{MayHold}
 use Rattle.sg_kinds.specs.OfType.{IsOfType}
 use Rattle.sg_kinds.specs.Dependencies.{phylum_there}
 use Rattle.sg_kinds.specs.Typing.{slot_type, slots_there, attr_types, types_at, is_typed}
-use Rattle.sg_kinds.specs.Sound.{IsSound, IsShaped, IsValue, is_owed, is_inherited_there, is_rule_typed}
+use Rattle.sg_kinds.specs.Sound.{IsShaped, IsValue, is_owed, is_rule_typed}
 use Rattle.sg_kinds.specs.declared.marks.Shape.TheVariants.{Truths, Numbers, Texts, Lexemes, Ordinary, Optional, Listed, OptionalListed}
 use Rattle.sg_pool.specs.Pools.{value_at, Stands}
 use Rattle.sg_forest.specs.declared.node_id.NodeId.{NodeId}
 use Rattle.sg_forest.specs.Node.{Node}
-use Rattle.sg_forest.specs.Trees.{node_at, IsChild}
+use Rattle.sg_forest.specs.Trees.{IsChild}
 use Rattle.sg_eval.specs.Typed.{AreOfTypes}
 use Rattle.sg_eval.proofs.TypeFacts.{there}
 use Rattle.sg_eval.proofs.OfTypes.{rule_typed}
@@ -33,7 +33,7 @@ use Rattle.sg_kinds.specs.Outcome.{outcome}
 use Rattle.sg_terms.proofs.Written.{op_node}
 use Rattle.sg_groves.specs.declared.kind.Kind.{Kind}
 use Rattle.sg_groves.specs.declared.part.Part.{Part}
-use Rattle.sg_groves.specs.Grove.{Grove, nodes, IsTyped, IsLeaf, IsOperation, IsNode, IsGrove}
+use Rattle.sg_groves.specs.Grove.{Grove, nodes, IsTyped, IsLeaf, IsOperation, IsGrove}
 use Rattle.sg_terms.specs.Found.{op_at}
 use Rattle.sg_terms.specs.Occurrences.{node_there, number_in, number_for, value_for, IsBearer}
 use Rattle.sg_terms.specs.Storable.{IsStorable}
@@ -139,10 +139,11 @@ module _ (g : Grove) (held : IsGrove g) where
       at_leaf is =
           let l = leaf n y found is in
           let p = leaf_value n y found is in
-          let s = value_slot y.label.phylum slot type p.0.attrs p.2 (rw p.1 at has) in
-          (l.id,
-          ap (λ (w : Option (Node Kind Part)). option_and_then (λ z. slice_get z.part.values slot) w) found ∙ ap (λ vs. slice_get vs slot) l.values ∙ ap (λ k. slice_get (l.id ∷ []) k) s.0,
-          record { value = l.value; stands = l.stands; typed = inr (inl (Leaf type l.value, (refl, subst (λ t. MatchOption (slice_get g.spec.phyla t) ⊥ (λ (x : Phylum). MayHold g.spec x.shape l.value)) (sym s.1) l.held), refl)) })
+          let s = value_slot y.label.phylum slot type p.0.attrs p.2 (rw p.1 at has) in (
+            l.id,
+            ap (λ (w : Option (Node Kind Part)). option_and_then (λ z. slice_get z.part.values slot) w) found ∙ ap (λ vs. slice_get vs slot) l.values ∙ ap (λ k. slice_get (l.id ∷ []) k) s.0,
+            record { value = l.value; stands = l.stands; typed = inr (inl (Leaf type l.value, (refl, subst (λ t. MatchOption (slice_get g.spec.phyla t) ⊥ (λ (x : Phylum). MayHold g.spec x.shape l.value)) (sym s.1) l.held), refl)) },
+          )
 
       by : (w : Option ℕ) → y.label.op ≡ w → (id : ℕ) × (number_in g.trees n slot ≡ Some id) × IsTyped g.spec g.pool type id
       by None is = at_leaf is
@@ -180,9 +181,10 @@ module _ (g : Grove) (held : IsGrove g) where
         let ps = option_map_some (λ qs. p.0 ∷ qs) (types_at g.spec op os) types p.2 in
         let it = stored_for n x op o p.0 found is p.1 in
         let v = value_stored n o p.0 it in
-        let rest = args_are os ps.0 ps.1 in
-        (more o os (ap is_some v.0) rest.0,
-        subst (λ ts. AreOfTypes g.spec ts (map (value_for g n) (o ∷ os))) ps.2 (subst (IsOfType g.spec p.0) (sym v.1) it.typed.typed, rest.1))
+        let rest = args_are os ps.0 ps.1 in (
+          more o os (ap is_some v.0) rest.0,
+          subst (λ ts. AreOfTypes g.spec ts (map (value_for g n) (o ∷ os))) ps.2 (subst (IsOfType g.spec p.0) (sym v.1) it.typed.typed, rest.1),
+        )
       where
         more : (o : Occurrence) (os : List Occurrence) → IsSome (number_for g.trees n o) → All (λ o. IsSome (number_for g.trees n o)) os → All (λ o. IsSome (number_for g.trees n o)) (o ∷ os)
         more o os one rest zero d l = one
@@ -264,9 +266,10 @@ module _ (g : Grove) (held : IsGrove g) where
       let rest_is : map Some ids ≡ map (number_for g.trees n) os = cc e in
       let same : id ≡ it.0 = cc (first, it.1) in
       let stands : Stands g.pool id it.2 = subst (λ k. Stands g.pool k it.2) (sym same) it.3 in
-      let rest = numbers_are n os ids rest_is (λ p k at. known p (suc k) at) in
-      (more id ids (slice_get_within g.pool id it.2 stands) rest.0,
-      ap (λ v. v ∷ map (value_at g.pool) ids) (ap (λ w. unwrap_or (option_map (value_at g.pool) w) untyped) first) ∙ ap (λ vs. value_for g n o ∷ vs) rest.1)
+      let rest = numbers_are n os ids rest_is (λ p k at. known p (suc k) at) in (
+        more id ids (slice_get_within g.pool id it.2 stands) rest.0,
+        ap (λ v. v ∷ map (value_at g.pool) ids) (ap (λ w. unwrap_or (option_map (value_at g.pool) w) untyped) first) ∙ ap (λ vs. value_for g n o ∷ vs) rest.1,
+      )
     where
       more : (id : ℕ) (ids : List ℕ) → id < length g.pool → All (λ k. k < length g.pool) ids → All (λ k. k < length g.pool) (id ∷ ids)
       more id ids one rest zero d l = one

@@ -1,5 +1,5 @@
 -- What a written part does to a grove: another number in a slot, another scheme number, another mark.
-use Rattle.std.proofs.Common.{◌≡◌, ◌≢◌, ◌<◌, ◌⊎◌, ℕ, zero, suc, List, [], ◌∷◌, length, set, Option, Some, None, refl, sym, ◌∙◌, ap, subst, inl, inr, arith}
+use Rattle.std.proofs.Common.{◌≡◌, ◌≢◌, ◌<◌, ◌⊎◌, ℕ, List, length, set, Option, Some, None, refl, sym, ◌∙◌, ap, subst, inl, inr, arith}
 use Rattle.std.specs.List.{slice_get}
 use Rattle.std.specs.Prelude.{option_and_then}
 use Rattle.std.proofs.lemmas.Option.{slice_get_within}
@@ -14,7 +14,7 @@ use Rattle.sg_pool.proofs.Grown.{grown_itself}
 use Rattle.sg_forest.specs.declared.node_id.NodeId.{NodeId}
 use Rattle.sg_forest.specs.Node.{Node as ForestNode}
 use Rattle.sg_forest.specs.Trees.{Trees, node_at, IsLive, Climbs, room_below}
-use Rattle.sg_forest.specs.Tree.{Tree, Row, node, changed, with_part}
+use Rattle.sg_forest.specs.Tree.{Tree, node, changed, with_part}
 use Rattle.sg_forest.specs.Steps.{IsPartSet}
 use Rattle.sg_forest.proofs.Paths.{cases_id}
 use Rattle.sg_forest.proofs.Moves.{slice_get-set_same, slice_get-set_other}
@@ -30,7 +30,6 @@ use Rattle.sg_groves.proofs.Held.{place_held}
 use Rattle.sg_groves.proofs.Replacing.{tree_changed}
 use Rattle.sg_terms.specs.Found.{op_at}
 use Rattle.sg_terms.specs.Storable.{IsStorable, IsSlot}
-use Rattle.sg_terms.specs.Told.{with_scheme, with_elided}
 use Rattle.sg_terms.proofs.Held.{PartFits, operation_at, part_after}
 use Rattle.sg_terms.proofs.Holding.{Holds-over, over_leaf, over_op}
 use Rattle.sg_terms.proofs.Steps.{grove, cases_place, IsGrove-part}

@@ -1,5 +1,5 @@
 -- What calls note in a journal, as the entries of instances of the term that a root holds.
-use Rattle.std.specs.Prelude.{◌≡◌, ◌≢◌, ℕ, List, [], ◌∷◌, ◌++◌, All, AllPairs, Contains, Some, slice_get, ⊤}
+use Rattle.std.specs.Prelude.{◌≡◌, ◌≢◌, List, [], ◌∷◌, ◌++◌, All, AllPairs, Contains, Some, slice_get, ⊤}
 use Rattle.sg_kinds.specs.Terms.{Term}
 use Rattle.sg_kinds.specs.Specification.{rules_of}
 use Rattle.sg_kinds.specs.Places.{Place}

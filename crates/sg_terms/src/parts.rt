@@ -1,6 +1,6 @@
 // What a node keeps, written in place.
 ghost use Rattle.std.specs.Prelude.{◌≡◌, ◌<◌, Some, length, slice_get, slice_set};
-ghost use Rattle.sg_forest.specs.Trees.{node_at, IsLive, IsForest, room_below};
+ghost use Rattle.sg_forest.specs.Trees.{node_at, IsLive, room_below};
 ghost use Rattle.sg_forest.specs.Steps.{IsPartSet};
 
 use sg_forest::{Forest, NodeId};

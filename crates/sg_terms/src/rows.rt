@@ -1,8 +1,7 @@
 // What a new node is and keeps.
-ghost use Rattle.std.specs.Prelude.{◌≡◌, ◌<◌, ◌≤◌, Some, All, IfOk, length};
+ghost use Rattle.std.specs.Prelude.{◌≡◌, ◌<◌, Some, All, IfOk, length};
 ghost use Rattle.sg_kinds.specs.Specification.{args_of, phylum_of};
 ghost use Rattle.sg_kinds.specs.declared.spec.Operator.{Operator};
-ghost use Rattle.sg_kinds.specs.declared.spec.Phylum.{Phylum};
 ghost use Rattle.sg_kinds.specs.Typing.{slots_there};
 ghost use Rattle.sg_kinds.specs.Sound.{AreCounted};
 

@@ -1,23 +1,22 @@
 // Terms in trees, with stored values.
-ghost use Rattle.std.specs.Prelude.{◌≡◌, ◌≢◌, ◌<◌, ◌≤◌, ◌↔◌, ◌⊎◌, ℕ, Bool, List, [], ◌∷◌, ◌++◌, length, map, All, slice_get, IsTrue, IsSome, IsOk, IfOk, IfErr, IfSome, OnOk, OnErr, Some, None};
+ghost use Rattle.std.specs.Prelude.{◌≡◌, ◌≢◌, ◌<◌, ◌≤◌, ◌↔◌, ◌⊎◌, ℕ, List, [], ◌∷◌, ◌++◌, length, map, All, slice_get, IsTrue, IsSome, IfOk, IfErr, IfSome, OnOk, OnErr, Some, None};
 ghost use Rattle.sg_kinds.specs.Values.{Fault};
 ghost use Rattle.sg_kinds.specs.Terms.{Term, Leaf, Node};
 ghost use Rattle.sg_kinds.specs.Fits.{Fits};
 ghost use Rattle.sg_kinds.specs.Places.{child};
 ghost use Rattle.sg_kinds.specs.Outcome.{outcome};
-ghost use Rattle.sg_pool.specs.Pools.{Stands, IsGrown, value_at};
+ghost use Rattle.sg_pool.specs.Pools.{Stands, value_at};
 ghost use Rattle.sg_kinds.specs.Sound.{IsSound};
 ghost use Rattle.sg_kinds.specs.Specification.{args_of};
 ghost use Rattle.sg_kinds.specs.declared.spec.Rule.{Rule};
 ghost use Rattle.sg_kinds.specs.Typing.{slot_type};
 ghost use Rattle.sg_kinds.specs.declared.marks.FaultKind.TheVariants.{Fuel};
 ghost use Rattle.sg_eval.specs.Journal.{now_of, total_of};
-ghost use Rattle.sg_eval.specs.declared.journal.Instance.{Instance as IsInstance};
 ghost use Rattle.sg_forest.specs.Trees.{IsLive, IsRoot, IsChild, IsInside, room_below};
 ghost use Rattle.sg_forest.specs.Steps.{AreDistinct, SameSort, KeepsParts, IsPartSet, IsSwapped, IsDropped};
 ghost use Rattle.sg_forest.specs.Tree.{KeepsWaysWithin, MovesWays, KeepsWaysTo, KeepsWaysOutside};
 ghost use Rattle.sg_groves.specs.Grove.{nodes, IsGrove};
-ghost use Rattle.sg_groves.specs.Stored.{number_at, value_there};
+ghost use Rattle.sg_groves.specs.Stored.{number_at};
 ghost use Rattle.sg_groves.specs.Holds.{Holds};
 ghost use Rattle.sg_groves.specs.Unchanged.{OnlyStored};
 ghost use Rattle.sg_terms.specs.Told.{op_of, scheme_of, elided_of, with_scheme, with_elided};
@@ -92,7 +91,8 @@ impl Model for Terms {
 
     ghost view = { λ t. record { spec = t.spec; trees = t.trees; pool = t.pool } };
 
-    ghost invariant = { λ t. IsGrove (record { spec = t.spec; trees = t.trees; pool = t.pool }) × AreMade t.spec t.made t.pool };
+    ghost invariant = { λ t. IsGrove (record { spec = t.spec; trees = t.trees; pool = t.pool })
+        × AreMade t.spec t.made t.pool };
 }
 
 impl Terms {
@@ -469,7 +469,8 @@ impl Terms {
         ensures outcome { (r : Rule) → slice_get self.old.spec.rules rule ≡ Some r → IfOk result
             (λ id. Stands self.new.pool id (outcome self.old.spec r (map (value_for self.old n) r.args))) }
         ensures storable { IfOk result (IsStorable self.new node slot) }
-        ensures noted { OnOk result (now_of journal.new ≡ now_of journal.old ++ record { node = node; slot = slot; rule = rule } ∷ []) }
+        ensures noted { OnOk result
+            (now_of journal.new ≡ now_of journal.old ++ record { node = node; slot = slot; rule = rule } ∷ []) }
         ensures err { OnErr result ((now_of journal.new ≡ now_of journal.old)
             ⊎ (now_of journal.new ≡ now_of journal.old ++ record { node = node; slot = slot; rule = rule } ∷ [])) }
         ensures total { total_of journal.new ≡ total_of journal.old }
@@ -479,6 +480,13 @@ impl Terms {
         let equation = item(self.spec.rules.as_slice(), rule.number as usize);
         gather(&self.trees, n, equation.args.as_slice(), &mut self.args)?;
         let who = Instance { node, slot, rule };
-        ev.run(rule, &self.args, who, &mut self.pool, &mut self.made, journal)
+        ev.run(
+            rule,
+            &self.args,
+            who,
+            &mut self.pool,
+            &mut self.made,
+            journal,
+        )
     }
 }

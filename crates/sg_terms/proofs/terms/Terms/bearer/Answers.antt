@@ -24,5 +24,5 @@ returns c =
     let is_at : slice_get c.self.inside.spec.rules c.args.rule ≡ Some c.item.result.now = ap (λ l. slice_get l c.args.rule) (sym c.as_slice.ensures) ∙ ap (slice_get c.as_slice.result.now) (sym c.rule.view_is) ∙ c.item.ensures in
     rw (← c.self.view_is)
     (λ r at. let same : c.item.result.now ≡ r = cc (is_at, at) in
-        subst (λ (q : Rule). IsBearer (grove c.self.inside.spec c.self.inside.trees c.self.inside.pool) c.args.n q c.there.result c.item.result.now.target.slot) same
-        (record { there = c.there.ensures; slot_is = refl }))
+    subst (λ (q : Rule). IsBearer (grove c.self.inside.spec c.self.inside.trees c.self.inside.pool) c.args.n q c.there.result c.item.result.now.target.slot) same
+    (record { there = c.there.ensures; slot_is = refl }))

@@ -4,9 +4,10 @@ use Rattle.sg_terms.proofs.Steps.{IsGrove-dropped}
 use Rattle.sg_terms.proofs.terms.Terms.drop_tree.Goals as goal
 
 pub invariant_of-self : goal.invariant_of-self
-invariant_of-self c =
-    (IsGrove-dropped c.self.inside.spec c.self.inside.trees c.drop_tree.new.self c.self.inside.pool c.self.inside.pool (grown_itself c.self.inside.pool) c.self.invariant.0 c.args.root c.drop_tree.ensures.dropped c.drop_tree.ensures.forest,
-     c.self.invariant.1)
+invariant_of-self c = (
+  IsGrove-dropped c.self.inside.spec c.self.inside.trees c.drop_tree.new.self c.self.inside.pool c.self.inside.pool (grown_itself c.self.inside.pool) c.self.invariant.0 c.args.root c.drop_tree.ensures.dropped c.drop_tree.ensures.forest,
+  c.self.invariant.1,
+)
 
 pub returns-clause-dropped : goal.returns-clause-dropped
 returns-clause-dropped c = rw (← c.self.view_is) c.drop_tree.ensures.dropped

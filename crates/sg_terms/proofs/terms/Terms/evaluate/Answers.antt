@@ -1,4 +1,4 @@
-use Rattle.std.proofs.Common.{◌≡◌, ◌<◌, ℕ, map, length, Some, sym, refl, subst}
+use Rattle.std.proofs.Common.{◌≡◌, ◌<◌, map, length, Some, sym, refl, subst}
 use Rattle.std.specs.List.{slice_get}
 use Rattle.std.specs.Prelude.{IfOk}
 use Rattle.sg_kinds.specs.Outcome.{outcome}
@@ -26,9 +26,10 @@ run-requires-clause-made c =
 
 pub invariant_of-self : goal.invariant_of-self
 invariant_of-self c =
-    let same = rw (← c.self.view_is) at c.requires.same in
-    (IsGrove-same c.self.inside.spec c.self.inside.trees c.self.inside.trees c.self.inside.pool c.run.new.pool c.run.ensures.grown c.self.invariant.0 refl,
-     subst (λ (s : Spec). AreMade s c.run.new.made c.run.new.pool) same c.run.ensures.made)
+    let same = rw (← c.self.view_is) at c.requires.same in (
+      IsGrove-same c.self.inside.spec c.self.inside.trees c.self.inside.trees c.self.inside.pool c.run.new.pool c.run.ensures.grown c.self.invariant.0 refl,
+      subst (λ (s : Spec). AreMade s c.run.new.made c.run.new.pool) same c.run.ensures.made,
+    )
 
 pub returns-clause-outcome : goal.returns-clause-outcome
 returns-clause-outcome c =

@@ -13,16 +13,18 @@ pub grow_leaf-requires : goal.grow_leaf-requires
 grow_leaf-requires c = c.self.invariant.0.forest
 
 pub invariant_of-self : goal.invariant_of-self
-invariant_of-self c =
-    (IsGrove-same c.self.inside.spec c.self.inside.trees c.self.inside.trees c.self.inside.pool c.put.new.self c.put.ensures.grown c.self.invariant.0 refl,
-     made_later c.self.inside.spec c.self.inside.made c.self.inside.pool c.put.new.self c.self.invariant.1 c.put.ensures.grown)
+invariant_of-self c = (
+  IsGrove-same c.self.inside.spec c.self.inside.trees c.self.inside.trees c.self.inside.pool c.put.new.self c.put.ensures.grown c.self.invariant.0 refl,
+  made_later c.self.inside.spec c.self.inside.made c.self.inside.pool c.put.new.self c.self.invariant.1 c.put.ensures.grown,
+)
 
 pub invariant_of-self-2 : goal.invariant_of-self-2
 invariant_of-self-2 c =
-    let fits = rw (← c.self.view_is) at c.requires in
-    (IsGrove-leaf c.self.inside.spec c.self.inside.trees c.grow_leaf.new.trees c.self.inside.pool c.put.new.self c.put.ensures.grown c.self.invariant.0 c.grow_leaf.ensures.kids c.grow_leaf.ensures.forest
-    c.args.p c.in_ok-id.id c.args.v.now c.grow_leaf.result fits c.in_ok-id.ensures.stands c.grow_leaf.ensures.grown c.grow_leaf.ensures.err,
-     made_later c.self.inside.spec c.self.inside.made c.self.inside.pool c.put.new.self c.self.invariant.1 c.put.ensures.grown)
+    let fits = rw (← c.self.view_is) at c.requires in (
+      IsGrove-leaf c.self.inside.spec c.self.inside.trees c.grow_leaf.new.trees c.self.inside.pool c.put.new.self c.put.ensures.grown c.self.invariant.0 c.grow_leaf.ensures.kids c.grow_leaf.ensures.forest
+          c.args.p c.in_ok-id.id c.args.v.now c.grow_leaf.result fits c.in_ok-id.ensures.stands c.grow_leaf.ensures.grown c.grow_leaf.ensures.err,
+      made_later c.self.inside.spec c.self.inside.made c.self.inside.pool c.put.new.self c.self.invariant.1 c.put.ensures.grown,
+    )
 
 pub returns-clause-held : goal.returns-clause-held
 returns-clause-held c =

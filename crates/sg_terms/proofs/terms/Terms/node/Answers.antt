@@ -2,7 +2,7 @@ use Rattle.std.proofs.Common.{◌≡◌, refl, sym, ap, ◌∙◌, subst, length
 use Rattle.std.specs.Prelude.{All}
 use Rattle.sg_pool.proofs.Grown.{grown_itself}
 use Rattle.sg_forest.proofs.Laws.{KeepsTrees-kids}
-use Rattle.sg_terms.proofs.Made.{IsGrove-node, held_node, was_free, unknown_node}
+use Rattle.sg_terms.proofs.Made.{IsGrove-node, held_node, unknown_node}
 use Rattle.sg_terms.proofs.Moved.{Holds-stays}
 use Rattle.sg_terms.proofs.terms.Terms.node.Goals as goal
 
@@ -29,11 +29,12 @@ grow-requires-clause-roots c = let roots = rw (← c.self.view_is) at c.requires
 
 pub invariant_of-self : goal.invariant_of-self
 invariant_of-self c =
-    let roots = rw (← c.self.view_is) at c.requires.roots in
-    (IsGrove-node c.self.inside.spec c.self.inside.trees c.grow.new.trees c.self.inside.pool c.self.inside.pool (grown_itself c.self.inside.pool) c.self.invariant.0 c.grow.ensures.kids c.grow.ensures.forest
-    c.args.op c.kind_of-kind.result (record { scheme = c.args.scheme; elided = c.args.elided; values = c.new.result }) c.args.kids.items c.grow.result c.kind_of-kind.ensures.op c.kind_of-kind.ensures.phylum c.kind_of-kind.ensures.arity c.requires.scheme
-    (ap length c.new.ensures ∙ c.in-Ok.ensures.count) (subst (All (λ k. k ≡ 0)) (sym c.new.ensures) c.in-Ok.ensures.zero) roots c.grow.ensures.grown c.grow.ensures.err,
-     c.self.invariant.1)
+    let roots = rw (← c.self.view_is) at c.requires.roots in (
+      IsGrove-node c.self.inside.spec c.self.inside.trees c.grow.new.trees c.self.inside.pool c.self.inside.pool (grown_itself c.self.inside.pool) c.self.invariant.0 c.grow.ensures.kids c.grow.ensures.forest
+          c.args.op c.kind_of-kind.result (record { scheme = c.args.scheme; elided = c.args.elided; values = c.new.result }) c.args.kids.items c.grow.result c.kind_of-kind.ensures.op c.kind_of-kind.ensures.phylum c.kind_of-kind.ensures.arity c.requires.scheme
+          (ap length c.new.ensures ∙ c.in-Ok.ensures.count) (subst (All (λ k. k ≡ 0)) (sym c.new.ensures) c.in-Ok.ensures.zero) roots c.grow.ensures.grown c.grow.ensures.err,
+      c.self.invariant.1,
+    )
 
 pub returns-clause-held : goal.returns-clause-held
 returns-clause-held c =

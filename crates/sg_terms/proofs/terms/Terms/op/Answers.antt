@@ -1,5 +1,4 @@
-use Rattle.std.proofs.Common.{sym, ap, ◌∙◌}
-use Rattle.std.specs.Prelude.{option_and_then}
+use Rattle.std.proofs.Common.{ap, ◌∙◌}
 use Rattle.sg_groves.specs.declared.kind.Kind.{Kind}
 use Rattle.sg_terms.proofs.Holding.{op_told}
 use Rattle.sg_terms.proofs.terms.Terms.op.Goals as goal

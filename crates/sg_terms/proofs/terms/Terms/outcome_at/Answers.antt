@@ -1,4 +1,4 @@
-use Rattle.std.proofs.Common.{◌≡◌, ◌<◌, ℕ, map, length, Some, sym, ◌∙◌, ap, refl, subst}
+use Rattle.std.proofs.Common.{◌≡◌, ◌<◌, map, length, Some, sym, ◌∙◌, ap, refl, subst}
 use Rattle.std.specs.List.{slice_get}
 use Rattle.std.specs.Prelude.{All, IfOk, IsSome}
 use Rattle.sg_kinds.specs.Outcome.{outcome}
@@ -7,7 +7,7 @@ use Rattle.sg_kinds.specs.declared.spec.Rule.{Rule}
 use Rattle.sg_pool.specs.Pools.{Stands, value_at}
 use Rattle.sg_pool.proofs.Grown.{grown_itself}
 use Rattle.sg_eval.specs.MadeTerms.{AreMade}
-use Rattle.sg_terms.specs.Occurrences.{number_for, value_for, IsEntryAt}
+use Rattle.sg_terms.specs.Occurrences.{number_for, value_for}
 use Rattle.sg_terms.proofs.Same.{OnlyStored-none}
 use Rattle.sg_terms.proofs.Steps.{grove, IsGrove-same}
 use Rattle.sg_terms.proofs.Typed.{ready, storable_result}
@@ -52,9 +52,10 @@ run-requires-clause-made c =
 
 pub invariant_of-self-2 : goal.invariant_of-self-2
 invariant_of-self-2 c =
-    let same = rw (← c.self.view_is) at c.requires.same in
-    (IsGrove-same c.self.inside.spec c.self.inside.trees c.self.inside.trees c.self.inside.pool c.run.new.pool c.run.ensures.grown c.self.invariant.0 refl,
-     subst (λ (s : Spec). AreMade s c.run.new.made c.run.new.pool) same c.run.ensures.made)
+    let same = rw (← c.self.view_is) at c.requires.same in (
+      IsGrove-same c.self.inside.spec c.self.inside.trees c.self.inside.trees c.self.inside.pool c.run.new.pool c.run.ensures.grown c.self.invariant.0 refl,
+      subst (λ (s : Spec). AreMade s c.run.new.made c.run.new.pool) same c.run.ensures.made,
+    )
 
 pub returns-clause-outcome : goal.returns-clause-outcome
 returns-clause-outcome c =
@@ -69,7 +70,7 @@ returns-clause-outcome c =
     let here = subst (λ vs. IfOk c.run.result (λ id. Stands c.run.new.pool id (outcome c.self.inside.spec r vs))) (ap (map (value_at c.self.inside.pool)) c.deref.ensures.value ∙ known.1) (run r at) in
     rw (← c.self.view_is)
     (λ q at_q. let one : r ≡ q = cc (at, at_q) in
-        subst (λ (z : Rule). IfOk c.run.result (λ id. Stands c.run.new.pool id (outcome c.self.inside.spec z (map (value_for g c.args.n) z.args)))) one here)
+    subst (λ (z : Rule). IfOk c.run.result (λ id. Stands c.run.new.pool id (outcome c.self.inside.spec z (map (value_for g c.args.n) z.args)))) one here)
 
 pub returns-clause-storable : goal.returns-clause-storable
 returns-clause-storable c =

@@ -1,4 +1,4 @@
-use Rattle.std.proofs.Common.{◌≡◌, Some, ℕ, sym, ◌∙◌, refl, [], ◌∷◌}
+use Rattle.std.proofs.Common.{sym, refl, [], ◌∷◌}
 use Rattle.sg_forest.specs.Trees.{node_at, IsChild}
 use Rattle.sg_forest.proofs.Paths.{inside_append, parent_is_live}
 use Rattle.sg_terms.proofs.terms.Terms.root_of.Goals as goal

@@ -1,4 +1,4 @@
-use Rattle.std.proofs.Common.{refl, sym, ap, ◌∙◌, subst}
+use Rattle.std.proofs.Common.{refl, sym, ap, subst}
 use Rattle.sg_kinds.specs.Places.{put}
 use Rattle.sg_pool.proofs.Grown.{grown_itself}
 use Rattle.sg_forest.proofs.Laws.{KeepsTreesWithout-part_set}
@@ -16,9 +16,10 @@ pub invariant_of-self : goal.invariant_of-self
 invariant_of-self c =
     let live = rw (← c.self.view_is) at c.requires.live in
     let node = rw (← c.self.view_is) at c.requires.node in
-    let x = op_there (grove c.self.inside.spec c.self.inside.trees c.self.inside.pool) c.args.n live node in
-    (IsGrove-marked c.self.inside.spec c.self.inside.trees c.put_elided.new.trees c.self.inside.pool c.self.invariant.0 c.args.n x.0 x.1 x.2 x.3 (record x.0.part { elided = c.args.on }) refl (c.put_elided.ensures.set x.0 x.1) (part_after c.self.inside.spec c.self.inside.trees c.self.inside.trees c.self.inside.pool c.self.inside.pool (grown_itself c.self.inside.pool) c.self.invariant.0 c.args.n x.0 x.2 x.1 x.3).scheme,
-     c.self.invariant.1)
+    let x = op_there (grove c.self.inside.spec c.self.inside.trees c.self.inside.pool) c.args.n live node in (
+      IsGrove-marked c.self.inside.spec c.self.inside.trees c.put_elided.new.trees c.self.inside.pool c.self.invariant.0 c.args.n x.0 x.1 x.2 x.3 (record x.0.part { elided = c.args.on }) refl (c.put_elided.ensures.set x.0 x.1) (part_after c.self.inside.spec c.self.inside.trees c.self.inside.trees c.self.inside.pool c.self.inside.pool (grown_itself c.self.inside.pool) c.self.invariant.0 c.args.n x.0 x.2 x.1 x.3).scheme,
+      c.self.invariant.1,
+    )
 
 pub returns-clause-set : goal.returns-clause-set
 returns-clause-set c = rw (← c.self.view_is) c.put_elided.ensures.set

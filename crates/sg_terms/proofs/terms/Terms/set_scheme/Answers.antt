@@ -1,4 +1,4 @@
-use Rattle.std.proofs.Common.{refl, sym, ap, ◌∙◌, subst}
+use Rattle.std.proofs.Common.{refl, sym, ap, subst}
 use Rattle.sg_kinds.specs.Places.{put}
 use Rattle.sg_pool.proofs.Grown.{grown_itself}
 use Rattle.sg_forest.proofs.Laws.{KeepsTreesWithout-part_set}
@@ -6,7 +6,6 @@ use Rattle.sg_groves.specs.Grove.{Grove}
 use Rattle.sg_groves.specs.Holds.{Holds}
 use Rattle.sg_terms.specs.Kept.{ChangesTerms}
 use Rattle.sg_terms.specs.Told.{with_scheme}
-use Rattle.sg_terms.proofs.Held.{part_after}
 use Rattle.sg_terms.proofs.Moved.{Holds-stays}
 use Rattle.sg_terms.proofs.Steps.{grove}
 use Rattle.sg_terms.proofs.Written.{op_there, IsGrove-marked, numbers_marked, Holds-marked}
@@ -16,9 +15,10 @@ pub invariant_of-self : goal.invariant_of-self
 invariant_of-self c =
     let live = rw (← c.self.view_is) at c.requires.live in
     let node = rw (← c.self.view_is) at c.requires.node in
-    let x = op_there (grove c.self.inside.spec c.self.inside.trees c.self.inside.pool) c.args.n live node in
-    (IsGrove-marked c.self.inside.spec c.self.inside.trees c.put_scheme.new.trees c.self.inside.pool c.self.invariant.0 c.args.n x.0 x.1 x.2 x.3 (record x.0.part { scheme = c.args.k }) refl (c.put_scheme.ensures.set x.0 x.1) c.requires.scheme,
-     c.self.invariant.1)
+    let x = op_there (grove c.self.inside.spec c.self.inside.trees c.self.inside.pool) c.args.n live node in (
+      IsGrove-marked c.self.inside.spec c.self.inside.trees c.put_scheme.new.trees c.self.inside.pool c.self.invariant.0 c.args.n x.0 x.1 x.2 x.3 (record x.0.part { scheme = c.args.k }) refl (c.put_scheme.ensures.set x.0 x.1) c.requires.scheme,
+      c.self.invariant.1,
+    )
 
 pub returns-clause-set : goal.returns-clause-set
 returns-clause-set c = rw (← c.self.view_is) c.put_scheme.ensures.set

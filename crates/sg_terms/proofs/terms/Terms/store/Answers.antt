@@ -22,9 +22,10 @@ put_value-requires-clause-slot c =
 pub invariant_of-self : goal.invariant_of-self
 invariant_of-self c =
     let s = rw (← c.self.view_is) at c.requires in
-    let x = op_node (grove c.self.inside.spec c.self.inside.trees c.self.inside.pool) c.args.n s.op s.is in
-    (IsGrove-stored c.self.inside.spec c.self.inside.trees c.put_value.new.trees c.self.inside.pool c.self.invariant.0 c.args.n x.0 x.1 c.args.slot c.args.v s (c.put_value.ensures.set x.0 x.1),
-     c.self.invariant.1)
+    let x = op_node (grove c.self.inside.spec c.self.inside.trees c.self.inside.pool) c.args.n s.op s.is in (
+      IsGrove-stored c.self.inside.spec c.self.inside.trees c.put_value.new.trees c.self.inside.pool c.self.invariant.0 c.args.n x.0 x.1 c.args.slot c.args.v s (c.put_value.ensures.set x.0 x.1),
+      c.self.invariant.1,
+    )
 
 pub returns-clause-before : goal.returns-clause-before
 returns-clause-before c =

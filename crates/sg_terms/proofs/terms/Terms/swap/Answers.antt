@@ -15,9 +15,10 @@ pub invariant_of-self : goal.invariant_of-self
 invariant_of-self c =
     let live = rw (← c.self.view_is) at c.requires.live in
     let root = rw (← c.self.view_is) at c.requires.root in
-    let phyla = rw (← c.self.view_is) at c.requires.phyla in
-    (IsGrove-exchanged c.self.inside.spec c.self.inside.trees c.swap.new.self c.self.inside.pool c.self.invariant.0 c.args.at c.args.detached live root c.swap.ensures.swapped c.swap.ensures.unchanged c.swap.ensures.parts phyla c.swap.ensures.forest,
-     c.self.invariant.1)
+    let phyla = rw (← c.self.view_is) at c.requires.phyla in (
+      IsGrove-exchanged c.self.inside.spec c.self.inside.trees c.swap.new.self c.self.inside.pool c.self.invariant.0 c.args.at c.args.detached live root c.swap.ensures.swapped c.swap.ensures.unchanged c.swap.ensures.parts phyla c.swap.ensures.forest,
+      c.self.invariant.1,
+    )
 
 pub returns-clause-swapped : goal.returns-clause-swapped
 returns-clause-swapped c = rw (← c.self.view_is) c.swap.ensures.swapped
