@@ -1,0 +1,5 @@
+pub mod Marking
+pub mod Chained
+pub mod Telling
+pub mod Showing
+pub mod Texts

@@ -1,0 +1,5 @@
+pub mod Changes
+pub mod Chain
+pub mod Told
+pub mod Captured
+pub mod Top
