@@ -1,8 +1,7 @@
 -- Changes undone and done again.
-use Rattle.std.specs.Prelude.{◌≡◌, refl, ℕ, zero, suc, List, [], ◌∷◌, take}
-use Rattle.std.proofs.Common.{sym, ap, ◌∙◌, subst}
+use Rattle.std.specs.Prelude.{◌≡◌, ℕ, zero, suc, List, [], ◌∷◌, take}
+use Rattle.std.proofs.Common.{sym, ◌∙◌, subst}
 use Rattle.sg_kinds.specs.Terms.{Term}
-use Rattle.sg_kinds.specs.Places.{put}
 use Rattle.sg_kinds.specs.Sound.{IsSmall}
 use Rattle.sg_kinds.specs.declared.spec.Spec.{Spec}
 use Rattle.sg_kinds.proofs.TermLaws.{sub_put, put_sub}

@@ -1,12 +1,11 @@
 -- What steps stand for, where tops hold the same, and where a step goes to the other side.
-use Rattle.std.specs.Prelude.{◌≡◌, refl, ℕ, zero, suc, List, [], ◌∷◌, ◌++◌, take, Contains, Some}
+use Rattle.std.specs.Prelude.{◌≡◌, refl, ℕ, zero, suc, List, [], ◌∷◌, take, Some}
 use Rattle.std.proofs.Common.{sym, ap, ◌∙◌, subst}
 use Rattle.std.proofs.lemmas.List.Elements.{Contains-append_left, Contains-append_right}
 use Rattle.sg_kinds.specs.Terms.{Term}
 use Rattle.sg_kinds.specs.Places.{place_of, put, sub}
 use Rattle.sg_kinds.specs.Sound.{IsSmall}
 use Rattle.sg_kinds.specs.declared.spec.Spec.{Spec}
-use Rattle.sg_kinds.proofs.TermLaws.{sub_put}
 use Rattle.sg_groves.proofs.Lists.{contains_first}
 use Rattle.sg_forest.specs.declared.node_id.NodeId.{NodeId}
 use Rattle.sg_changes.specs.declared.spot.Spot.{Spot}

@@ -1,6 +1,6 @@
 -- Texts put together from parts of a text.
-use Rattle.std.specs.Prelude.{◌≡◌, refl, ℕ, Bool, true, [], ◌∷◌, ◌++◌, ◌&&◌, take, drop}
-use Rattle.std.proofs.Common.{sym, ap, ◌∙◌, subst}
+use Rattle.std.specs.Prelude.{◌≡◌, refl, ℕ, true, [], ◌∷◌, ◌++◌, take, drop}
+use Rattle.std.proofs.Common.{ap, ◌∙◌}
 use Rattle.std.proofs.lemmas.Bool.{and_parts}
 use Rattle.std.proofs.lemmas.List.{take-append-drop}
 use Rattle.sg_kinds.specs.Values.{Bytes, is_text, is_text_byte}
