@@ -1,0 +1,5 @@
+pub mod Settling
+pub mod Changing
+pub mod Propagating
+pub mod Members
+pub mod Marking

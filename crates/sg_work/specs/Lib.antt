@@ -1,0 +1,3 @@
+pub mod Settled
+pub mod Change
+pub mod Worklist
