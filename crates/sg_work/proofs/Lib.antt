@@ -3,3 +3,4 @@ pub mod Changing
 pub mod Propagating
 pub mod Members
 pub mod Marking
+pub mod Readers
