@@ -1,5 +1,5 @@
 -- The equations outside a subterm that is put at a place: both terms' values solve them, and a visit without marks is settled.
-use Rattle.std.specs.Prelude.{◌≡◌, ◌≢◌, ◌⊎◌, ℕ, zero, suc, ◌<◌, ◌≤◌, Bool, true, false, cond, List, [], ◌∷◌, ◌++◌, length, map, Option, None, Some, Contains}
+use Rattle.std.specs.Prelude.{◌≡◌, ◌≢◌, ◌⊎◌, ℕ, zero, suc, ◌<◌, Bool, true, false, cond, List, [], ◌∷◌, ◌++◌, length, map, Some, Contains}
 use Rattle.std.proofs.Common.{refl, sym, ap, ◌∙◌, subst, get_or, arith, inl, inr}
 use Rattle.std.proofs.lemmas.Bool.{cases_lt, false≢true}
 use Rattle.std.proofs.lemmas.Option.{same_Some}
@@ -23,12 +23,12 @@ use Rattle.sg_orders.proofs.Fixpoint.{less_itself, site_induction}
 use Rattle.sg_orders.proofs.KeysFall.{site_found}
 use Rattle.sg_orders.proofs.ValidFacts.{keys_fall, valid_timed}
 use Rattle.sg_plans.specs.Planned.{IsPlanned}
-use Rattle.sg_plans.specs.Segments.{IsGivenBy, IsLeafSlot, IsOfVisit, IsOutside, IsTaken, bearer}
+use Rattle.sg_plans.specs.Segments.{IsOfVisit, IsOutside, IsTaken, bearer}
 use Rattle.sg_plans.proofs.Bearers.{ranges, bearer_found, bearer_no_leaf, found_bears, inherited_at}
 use Rattle.sg_plans.proofs.Closed.{closed}
 use Rattle.sg_plans.proofs.Outside.{live_before}
 use Rattle.sg_plans.proofs.Solved.{solved}
-use Rattle.sg_work.specs.Change.{IsOutsideSite, IsOutsideLeaf, IsPassed, IsGivenOutside}
+use Rattle.sg_work.specs.Change.{IsOutsideSite, IsOutsideLeaf, IsGivenOutside}
 use Rattle.sg_work.specs.Settled as settled
 use Rattle.sg_work.specs.Settled.{IsUnderWay}
 use Rattle.sg_work.proofs.Settling as settling
@@ -175,10 +175,15 @@ module _ (spec : Spec) (plans : Plans) (t s : Term) (u : Place) (was_planned : I
                   let h = gives.0 in
                   let le = gives.1 in
                   let bears = found_bears rules (put t u s) (referred net i.node o) g.site g.found in
-                  inr (g.site, outside_of h g.site g.of_visit, bears, elim (cases_lt h j) [
-                    | inl less ↦ before h g.site less g.of_visit
-                    | inr past ↦ rest o names g.site g.found (subst (λ n. IsOfVisit (rules_of spec) plans (put t u s) c n g.site) (let e : h ≡ j = omega (arith, le, past) in e) g.of_visit)
-                  ])
+                  inr (
+                    g.site,
+                    outside_of h g.site g.of_visit,
+                    bears,
+                    elim (cases_lt h j) [
+                      | inl less ↦ before h g.site less g.of_visit
+                      | inr past ↦ rest o names g.site g.found (subst (λ n. IsOfVisit (rules_of spec) plans (put t u s) c n g.site) (let e : h ≡ j = omega (arith, le, past) in e) g.of_visit)
+                    ],
+                  )
             ]
 
             known : (a : Reference Place) → Contains (args_at (net_of (put t u s)) i) a → IsKnown done given a

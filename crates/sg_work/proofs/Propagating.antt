@@ -1,6 +1,6 @@
 -- The moments of a propagation: its start, an equation evaluated, a visit of the new subterm passed, and its end.
-use Rattle.std.specs.Prelude.{◌≡◌, ◌≢◌, ◌⊎◌, ℕ, suc, ◌+◌, ◌<◌, ◌≤◌, false, cond, List, [], length, Some, option_map, unwrap_or, slice_index, Contains}
-use Rattle.std.proofs.Common.{refl, sym, ap, ◌∙◌, subst, arith, inl, inr}
+use Rattle.std.specs.Prelude.{◌≡◌, ◌⊎◌, ℕ, suc, ◌<◌, cond, [], length, Some, option_map, unwrap_or, slice_index, Contains}
+use Rattle.std.proofs.Common.{sym, ap, ◌∙◌, arith, inl, inr}
 use Rattle.std.proofs.lemmas.Bool.{cases_lt}
 use Rattle.std.proofs.lemmas.Option.{same_Some, slice_get_past}
 use Rattle.sg_kinds.specs.declared.plans.Plans.{Plans}
@@ -9,9 +9,9 @@ use Rattle.sg_kinds.specs.declared.spec.Rules.{Rules}
 use Rattle.sg_kinds.specs.declared.spec.Phylum.{Phylum}
 use Rattle.sg_kinds.specs.Values.{Value}
 use Rattle.sg_kinds.specs.Terms.{Term}
-use Rattle.sg_kinds.specs.Specification.{attrs_of, is_inherited, rules_of}
-use Rattle.sg_kinds.specs.Places.{Place, put, sub}
-use Rattle.sg_kinds.specs.Nets.{Net, NodeLabel, Operation, Holding, Missing, Reference, phylum_at, label_of, net_of}
+use Rattle.sg_kinds.specs.Specification.{attrs_of, rules_of}
+use Rattle.sg_kinds.specs.Places.{Place, put}
+use Rattle.sg_kinds.specs.Nets.{Net, Reference, net_of}
 use Rattle.sg_kinds.specs.Instances.{Site, args_at, is_inherited_at, site_above, site_at, site_of}
 use Rattle.sg_kinds.specs.Dependencies.{IsAttr, occurrence}
 use Rattle.sg_kinds.specs.FromScratch.{value_in}
@@ -19,11 +19,11 @@ use Rattle.sg_kinds.specs.Visits.{row_at}
 use Rattle.sg_orders.proofs.KeysFall.{site_found}
 use Rattle.sg_orders.proofs.ValidFacts.{visit_low}
 use Rattle.sg_plans.specs.Planned.{IsPlanned}
-use Rattle.sg_plans.specs.Segments.{IsOutside, bearer}
-use Rattle.sg_plans.proofs.Bearers.{ranges, bearer_found, inherited_at}
+use Rattle.sg_plans.specs.Segments.{bearer}
+use Rattle.sg_plans.proofs.Bearers.{bearer_found, inherited_at}
 use Rattle.sg_plans.proofs.Outside.{label_outside}
 use Rattle.sg_plans.proofs.Solved.{leaf_value}
-use Rattle.sg_work.specs.Change.{IsOutsideSite, IsOutsideLeaf, IsPassed, IsGivenOutside, IsPassedAt}
+use Rattle.sg_work.specs.Change.{IsOutsideSite, IsGivenOutside, IsPassedAt}
 use Rattle.sg_work.specs.Settled as settled
 use Rattle.sg_work.specs.Settled.{IsUnderWay, IsChanged}
 use Rattle.sg_work.proofs.Changing as changing

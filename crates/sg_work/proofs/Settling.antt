@@ -1,7 +1,7 @@
 -- Why each equation is right when a propagation meets it, whatever the order in which it works.
-use Rattle.std.specs.Prelude.{◌≡◌, ◌≢◌, ◌⊎◌, ℕ, zero, suc, ◌<◌, List, [], ◌∷◌, length, map, Contains}
+use Rattle.std.specs.Prelude.{◌≡◌, ◌≢◌, ◌⊎◌, suc, List, [], ◌∷◌, map, Contains}
 use Rattle.std.proofs.Common.{refl, sym, ap, ◌∙◌, subst, arith, inl, inr}
-use Rattle.sg_work.specs.Settled.{IsChanged, IsDirty, Dirty, Settled, Known, IsUnderWay, DoneToo, MarkedThen, GivenToo, MarkedToo}
+use Rattle.sg_work.specs.Settled.{IsChanged, Dirty, Settled, Known, IsUnderWay, DoneToo, MarkedThen, GivenToo, MarkedToo}
 
 -- two functions that agree on a list's elements
 same_map : {X Y : Type 0} (f g : X → Y) (xs : List X) → ((x : X) → Contains xs x → f x ≡ g x) → map f xs ≡ map g xs
