@@ -8,8 +8,8 @@ use sg_kinds::memory::NoMemory;
 use std::alloc::Global;
 use std::marker::Model;
 
-/// The equations that are marked to be evaluated, each at its node, and the nodes that are active: those at or below which
-/// some may be marked. Contracts see two lists whose order says nothing.
+/// The equations that are marked to be evaluated, each at its node, and the nodes that are active: those at or below
+/// which some may be marked. Contracts see two lists whose order says nothing.
 #[derive(Drop)]
 pub struct Work {
     marked: IndexSet<(usize, u32)>,
