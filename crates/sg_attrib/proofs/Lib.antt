@@ -1,0 +1,10 @@
+pub mod Placed
+pub mod Listed
+pub mod Composed
+pub mod Nodes
+pub mod Leaves
+pub mod Evaluated
+pub mod Descended
+pub mod Stepped
+pub mod Attributed
+pub mod Calls
