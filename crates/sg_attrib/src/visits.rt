@@ -74,8 +74,9 @@ fn take(
     }
 }
 
-/// Evaluates the equations of visit `k` of a node, counted from 1, each once, and stores their values: the piece of which
-/// attribution is made. At a leaf it does nothing. It is refused for want of memory alone, with some of them evaluated.
+/// Evaluates the equations of visit `k` of a node, counted from 1, each once, and stores their values: the piece of
+/// which attribution is made. At a leaf it does nothing. It is refused for want of memory alone, with some of them
+/// evaluated.
 #[cycle(visit)]
 pub fn visit(
     terms: &mut Terms,

@@ -50,8 +50,9 @@ fn all_visits(
     Ok(())
 }
 
-/// Gives every attribute of a tree its from-scratch value: evaluates each equation of the tree once and stores its value. It is
-/// refused for want of memory alone, with some of them evaluated. It allocates nothing but values and entries of the journal.
+/// Gives every attribute of a tree its from-scratch value: evaluates each equation of the tree once and stores its
+/// value. It is refused for want of memory alone, with some of them evaluated. It allocates nothing but values and
+/// entries of the journal.
 pub fn attribute(
     terms: &mut Terms,
     root: NodeId,
