@@ -1,5 +1,5 @@
 -- The visits of a root, one after another, and what they make of its tree.
-use Rattle.std.specs.Prelude.{◌≡◌, ◌⊎◌, refl, ℕ, zero, suc, ◌+◌, ◌<◌, ◌≤◌, false, List, [], ◌∷◌, map, Result, Ok, Err, None, Some, OnOk, MatchResult, All, Contains}
+use Rattle.std.specs.Prelude.{◌≡◌, ◌⊎◌, refl, ℕ, ◌+◌, false, List, [], map, Result, Ok, Err, None, Some, MatchResult, All, Contains}
 use Rattle.std.proofs.Common.{sym, ap, ◌∙◌, subst, inl, inr, arith}
 use Rattle.std.proofs.lemmas.Bool.{cases_lt}
 use Rattle.std.proofs.lemmas.List.{append-nil}
@@ -11,7 +11,7 @@ use Rattle.sg_kinds.specs.Fits.{Fits}
 use Rattle.sg_kinds.specs.Places.{Place, sub}
 use Rattle.sg_kinds.specs.Nets as nets
 use Rattle.sg_kinds.specs.Nets.{Reference, net_of, referred}
-use Rattle.sg_kinds.specs.Instances.{Site, site_of, args_at, instances}
+use Rattle.sg_kinds.specs.Instances.{Site, instances}
 use Rattle.sg_kinds.specs.FromScratch.{value_in}
 use Rattle.sg_kinds.specs.Keys.{operator_in}
 use Rattle.sg_kinds.specs.Specification.{is_inherited, phylum_of, rules_of}
@@ -30,8 +30,8 @@ use Rattle.sg_groves.specs.Stored.{value_there}
 use Rattle.sg_groves.specs.Holds.{Holds, IsPlaced}
 use Rattle.sg_groves.specs.IsRight.{IsRight, IsRightAt}
 use Rattle.sg_groves.specs.Unchanged.{OnlyStored}
-use Rattle.sg_groves.proofs.Frames.{only_more, only_climbs, only_climbed}
-use Rattle.sg_groves.proofs.Held.{held_fits, one_term, live_holds}
+use Rattle.sg_groves.proofs.Frames.{only_more}
+use Rattle.sg_groves.proofs.Held.{held_fits, live_holds}
 use Rattle.sg_groves.proofs.InstancesOnce.{instance_has, instance_site}
 use Rattle.sg_orders.specs.LiveSites.{IsLive}
 use Rattle.sg_orders.specs.Vertices.{IsVertex}
@@ -48,9 +48,9 @@ use Rattle.sg_terms.specs.Entries.{Gained, GainedAll}
 use Rattle.sg_terms.specs.Occurrences.{IsBearer, value_for}
 use Rattle.sg_attrib.specs.Visited as visited
 use Rattle.sg_attrib.specs.Visited.{AreRight, IsKnown, IsGiven, IsGivenUpTo, IsNothing, IsSlotOf, IsSolved, HasEquation, Gives}
-use Rattle.sg_attrib.proofs.Placed.{Sets, one_place, placed_still}
+use Rattle.sg_attrib.proofs.Placed.{one_place, placed_still}
 use Rattle.sg_attrib.proofs.Listed.{gained_more, gained_same}
-use Rattle.sg_attrib.proofs.Composed.{IsWithin, gives_again, gives_nothing, gives_twice}
+use Rattle.sg_attrib.proofs.Composed.{gives_again, gives_nothing, gives_twice}
 use Rattle.sg_attrib.proofs.Evaluated.{mapped_alike}
 use Rattle.sg_attrib.proofs.Leaves.{leaf_right}
 use Rattle.sg_attrib.proofs.Nodes.{op_label, label_op, planned, stands_there, value_is}

@@ -1,5 +1,5 @@
 -- What the steps of a visit need of the node, so that they can be taken.
-use Rattle.std.specs.Prelude.{◌≡◌, ℕ, ◌-◌, ◌<◌, ◌≤◌, List, ◌∷◌, length, Option, None, Some, Ok, MatchOption, slice_get, option_and_then}
+use Rattle.std.specs.Prelude.{◌≡◌, ℕ, ◌-◌, ◌<◌, ◌≤◌, List, ◌∷◌, length, None, Some, Ok, MatchOption, slice_get, option_and_then}
 use Rattle.std.proofs.Common.{sym, ap, ◌∙◌, subst, arith}
 use Rattle.std.proofs.lemmas.Option.{none-some, slice_get_within}
 use Rattle.sg_kinds.proofs.Elementary.{option_map_some}
@@ -30,7 +30,7 @@ use Rattle.sg_terms.specs.Found.{op_at}
 use Rattle.sg_attrib.specs.Visited.{IsGiven, IsKnown, IsVisited, IsStepAt, Gives}
 use Rattle.sg_attrib.proofs.Placed.{Slots, HasPlace, has_place, kid_placed}
 use Rattle.sg_attrib.proofs.Composed.{gives_nothing}
-use Rattle.sg_attrib.proofs.Nodes.{op_live, op_in, label_op, operation_is, planned, has_visit, is_visited, step_at}
+use Rattle.sg_attrib.proofs.Nodes.{op_live, op_in, label_op, operation_is, planned, has_visit, is_visited}
 
 module _ (g : Grove) (is : IsGrove g) (plans : Plans) (valid : AreValid (rules_of g.spec) plans) where
   module _ (n : NodeId) (k : ℕ) (v : IsVisited plans g n k) where

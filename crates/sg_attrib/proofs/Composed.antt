@@ -1,7 +1,6 @@
 -- What a call stores and lists after another, or where its set of references is told in another way.
-use Rattle.std.specs.Prelude.{◌≡◌, ◌⊎◌, refl, List, Result, Ok, Err, OnOk, MatchResult}
-use Rattle.std.proofs.Common.{sym, ap, ◌∙◌, subst, inl, inr}
-use Rattle.sg_kinds.specs.Values.{Value}
+use Rattle.std.specs.Prelude.{◌⊎◌, List, Result, Ok, Err, OnOk, MatchResult}
+use Rattle.std.proofs.Common.{sym, ap, ◌∙◌, inl, inr}
 use Rattle.sg_kinds.specs.Terms.{Term}
 use Rattle.sg_kinds.specs.Places.{Place}
 use Rattle.sg_kinds.specs.Nets.{Reference}
@@ -11,7 +10,6 @@ use Rattle.sg_eval.specs.declared.journal.Instance.{Instance}
 use Rattle.sg_forest.specs.declared.node_id.NodeId.{NodeId}
 use Rattle.sg_forest.specs.Trees.{Climbs}
 use Rattle.sg_groves.specs.Grove.{Grove, nodes, IsGrove}
-use Rattle.sg_groves.specs.Stored.{value_there}
 use Rattle.sg_groves.specs.Holds.{IsPlaced}
 use Rattle.sg_groves.specs.IsRight.{IsRightAt}
 use Rattle.sg_groves.specs.Unchanged.{OnlyStored}

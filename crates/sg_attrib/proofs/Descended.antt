@@ -1,10 +1,9 @@
 -- A visit of a child as a step of its parent's visit.
-use Rattle.std.specs.Prelude.{◌≡◌, refl, ℕ, List, ◌∷◌, Result, Ok, Err, OnOk, MatchResult}
-use Rattle.std.proofs.Common.{sym, subst}
+use Rattle.std.specs.Prelude.{ℕ, List, ◌∷◌, Result, Ok, Err, OnOk, MatchResult}
+use Rattle.std.proofs.Common.{subst}
 use Rattle.sg_kinds.specs.Terms.{Term}
 use Rattle.sg_kinds.specs.Places.{Place}
 use Rattle.sg_kinds.specs.Nets.{Reference}
-use Rattle.sg_kinds.specs.Specification.{rules_of}
 use Rattle.sg_kinds.specs.declared.plans.Plans.{Plans}
 use Rattle.sg_kinds.specs.declared.plans.PlanStep.TheVariants.{Visit}
 use Rattle.sg_kinds.specs.declared.spec.Rules.{Rules}

@@ -1,6 +1,6 @@
 -- What the evaluation of an equation at a node stores and lists.
-use Rattle.std.specs.Prelude.{◌≡◌, ◌⊎◌, refl, ℕ, zero, suc, List, [], ◌∷◌, ◌++◌, length, map, All, Contains, Result, Ok, Err, Some, slice_get, option_map, unwrap_or}
-use Rattle.std.proofs.Common.{sym, ap, ◌∙◌, subst, inl, inr, arith}
+use Rattle.std.specs.Prelude.{◌≡◌, refl, ℕ, List, [], ◌∷◌, ◌++◌, map, All, Contains, Ok, Err, Some, slice_get, option_map, unwrap_or}
+use Rattle.std.proofs.Common.{sym, ap, ◌∙◌, subst, inl, inr}
 use Rattle.std.proofs.lemmas.Option.{same_Some}
 use Rattle.std.proofs.lemmas.List.Elements.{All-contains}
 use Rattle.sg_kinds.proofs.Elementary.{slice_get-Contains, slice_get-All}

@@ -1,5 +1,5 @@
 -- What the place of a node tells of its label, of what stands beside it, and of its visits.
-use Rattle.std.specs.Prelude.{◌≡◌, refl, ℕ, zero, suc, ◌+◌, ◌<◌, ◌≤◌, List, [], ◌∷◌, length, Option, Some, None, slice_get, option_map, option_and_then, unwrap_or, MatchOption}
+use Rattle.std.specs.Prelude.{◌≡◌, refl, ℕ, zero, suc, ◌+◌, ◌<◌, ◌≤◌, ◌∷◌, Option, Some, None, slice_get, option_map, option_and_then, unwrap_or, MatchOption}
 use Rattle.std.proofs.Common.{sym, ap, ◌∙◌, subst, arith}
 use Rattle.std.proofs.lemmas.Option.{none-some, same_Some}
 use Rattle.sg_kinds.specs.Values.{Value}

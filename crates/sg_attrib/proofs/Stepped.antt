@@ -1,15 +1,13 @@
 -- The steps of a visit, one after another.
-use Rattle.std.specs.Prelude.{◌≡◌, ◌⊎◌, refl, ℕ, zero, suc, ◌+◌, ◌<◌, ◌≤◌, true, List, [], ◌∷◌, ◌++◌, length, cond, Option, Result, Ok, Err, None, Some, slice_get, Contains}
+use Rattle.std.specs.Prelude.{◌≡◌, ◌⊎◌, refl, ℕ, suc, ◌+◌, true, List, [], ◌∷◌, ◌++◌, length, cond, Result, Ok, Err, None, Some, slice_get}
 use Rattle.std.proofs.Common.{sym, ap, ◌∙◌, subst, inl, inr, arith}
 use Rattle.std.proofs.lemmas.List.{length-append}
 use Rattle.std.proofs.lemmas.Option.{none-some, same_Some}
-use Rattle.sg_kinds.proofs.Elementary.{option_map_some, slice_get-All}
-use Rattle.sg_kinds.specs.Values.{Value}
+use Rattle.sg_kinds.proofs.Elementary.{option_map_some}
 use Rattle.sg_kinds.specs.Terms.{Term}
 use Rattle.sg_kinds.specs.Places.{Place, sub}
-use Rattle.sg_kinds.specs.Nets.{Reference, Operation, Holding, label_of, net_of, referred}
+use Rattle.sg_kinds.specs.Nets.{Reference, Operation, label_of, net_of, referred}
 use Rattle.sg_kinds.specs.Instances.{Site, is_inherited_at, site_above, site_at, site_of, rule_under}
-use Rattle.sg_kinds.specs.Dependencies.{occurrence}
 use Rattle.sg_kinds.specs.Keys.{operator_in}
 use Rattle.sg_kinds.specs.Specification.{rules_of}
 use Rattle.sg_kinds.specs.ValidPlans.{AreValid}
@@ -27,7 +25,7 @@ use Rattle.sg_groves.specs.Holds.{IsPlaced}
 use Rattle.sg_groves.specs.IsRight.{IsRightAt}
 use Rattle.sg_orders.specs.Vertices.{IsVertex}
 use Rattle.sg_plans.specs.Planned.{IsPlanned}
-use Rattle.sg_plans.specs.Segments.{HasVisit, IsGivenBy, IsTaken, IsOfVisit, IsLeafSlot, bearer}
+use Rattle.sg_plans.specs.Segments.{HasVisit, IsGivenBy, IsTaken, IsOfVisit, IsLeafSlot}
 use Rattle.sg_plans.specs.Stepping.{IsGivenBefore, IsOfStep, IsReady, leaf, taken, earlier, before, steps_of}
 use Rattle.sg_plans.proofs.Bearers as bearers
 use Rattle.sg_plans.proofs.Ways.{one_visit}
@@ -37,7 +35,7 @@ use Rattle.sg_attrib.specs.Visited as visited
 use Rattle.sg_attrib.specs.Visited.{IsKnown, IsGiven, IsArgument, IsNeeded, IsStepGiven, IsSlotOf, IsVisited, IsStepAt, Gives}
 use Rattle.sg_attrib.proofs.Placed.{Sets, placed_still}
 use Rattle.sg_attrib.proofs.Composed.{IsWithin, gives_twice, gives_again, gives_nothing}
-use Rattle.sg_attrib.proofs.Nodes.{not_held, op_in, op_label, label_op, planned, has_visit}
+use Rattle.sg_attrib.proofs.Nodes.{not_held, op_in, label_op, planned, has_visit}
 use Rattle.sg_attrib.proofs.Evaluated.{argument_vertex}
 use Rattle.sg_attrib.proofs.Leaves.{leaf_right}
 

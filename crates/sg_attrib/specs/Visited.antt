@@ -4,7 +4,6 @@ use Rattle.sg_kinds.specs.Terms.{Term}
 use Rattle.sg_kinds.specs.declared.spec.Rules.{Rules}
 use Rattle.sg_kinds.specs.declared.spec.Rule.{Rule}
 use Rattle.sg_kinds.specs.declared.spec.Occurrence.{Occurrence}
-use Rattle.sg_kinds.specs.Specification.{rules_of, is_inherited}
 use Rattle.sg_kinds.specs.Outcome.{outcome}
 use Rattle.sg_kinds.specs.Places.{Place}
 use Rattle.sg_kinds.specs.Nets.{Reference, net_of, referred}

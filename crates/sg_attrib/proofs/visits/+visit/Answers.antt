@@ -6,7 +6,6 @@ use Rattle.sg_kinds.specs.Specification.{rules_of}
 use Rattle.sg_kinds.specs.ValidPlans.{AreValid}
 use Rattle.sg_kinds.specs.declared.plans.Plans.{Plans}
 use Rattle.sg_kinds.specs.declared.plans.PlanStep.{PlanStep}
-use Rattle.sg_kinds.specs.declared.plans.PlanStep.TheVariants.{Eval, Visit}
 use Rattle.sg_kinds.specs.declared.spec.Spec.{Spec}
 use Rattle.sg_eval.specs.declared.journal.Instance.{Instance}
 use Rattle.sg_eval.specs.Journal.{now_of}
@@ -14,7 +13,7 @@ use Rattle.sg_forest.specs.declared.node_id.NodeId.{NodeId}
 use Rattle.sg_groves.specs.Grove.{Grove, IsGrove}
 use Rattle.sg_plans.specs.Stepping.{steps_of}
 use Rattle.sg_attrib.specs.Visited.{IsKnown, IsGiven, IsNeeded, IsStepGiven, IsSlotOf, IsVisited, Gives}
-use Rattle.sg_attrib.proofs.Calls.{step_operator, step_arity, step_visited, visited_still, step_still, visit_row, leaf_gives}
+use Rattle.sg_attrib.proofs.Calls.{step_operator, step_arity, step_visited, step_still, visit_row, leaf_gives}
 use Rattle.sg_attrib.proofs.Composed.{gives_ok, gives_err}
 use Rattle.sg_attrib.proofs.Descended.{gives_below}
 use Rattle.sg_attrib.proofs.Nodes.{op_live}

@@ -1,12 +1,9 @@
-use Rattle.std.proofs.Common.{sym, ap, ◌∙◌, subst}
+use Rattle.std.proofs.Common.{sym, ap, ◌∙◌}
 use Rattle.std.proofs.lemmas.Result.{err_from_is_err_and}
 use Rattle.std.specs.Prelude.{Some}
 use Rattle.std.proofs.lemmas.Option.{same_Some, slice_get_within}
-use Rattle.sg_kinds.specs.Specification.{rules_of}
-use Rattle.sg_kinds.specs.declared.plans.PlanStep.TheVariants.{Eval}
 use Rattle.sg_kinds.specs.declared.spec.Rule.{Rule}
 use Rattle.sg_eval.specs.Journal.{now_of}
-use Rattle.sg_attrib.specs.Visited.{IsArgument, IsStepGiven, Gives}
 use Rattle.sg_attrib.proofs.Evaluated.{evaluated, not_evaluated}
 use Rattle.sg_attrib.proofs.visits.evaluate.Goals as goal
 

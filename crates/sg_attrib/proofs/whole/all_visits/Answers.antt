@@ -1,6 +1,6 @@
 use Rattle.std.proofs.Common.{◌≡◌, ◌+◌, ◌≤◌, ◌∙◌, ℕ, false, List, refl, ap, sym, subst, arith}
 use Rattle.std.proofs.lemmas.Result.{err_from_is_err_and}
-use Rattle.std.specs.Prelude.{Ok, Err, Some, Result}
+use Rattle.std.specs.Prelude.{Ok, Err, Result}
 use Rattle.sg_kinds.specs.Specification.{is_inherited, rules_of}
 use Rattle.sg_kinds.specs.ValidPlans.{AreValid}
 use Rattle.sg_kinds.specs.declared.spec.Spec.{Spec}
@@ -13,7 +13,7 @@ use Rattle.sg_forest.specs.Trees.{IsRoot}
 use Rattle.sg_groves.specs.declared.kind.Kind.{Kind}
 use Rattle.sg_groves.specs.Grove.{Grove, nodes, IsGrove}
 use Rattle.sg_orders.proofs.SoundRules.{sound_range}
-use Rattle.sg_attrib.specs.Visited.{Gives, HasEquation, IsGiven, IsGivenUpTo, IsKnown, IsNothing, IsSlotOf, IsVisited}
+use Rattle.sg_attrib.specs.Visited.{Gives, HasEquation, IsGiven, IsGivenUpTo, IsKnown, IsNothing}
 use Rattle.sg_attrib.proofs.Attributed.{no_visits, next_visit, all_visits, some_visits, leaf_visits}
 use Rattle.sg_attrib.proofs.Calls.{op_there, count_is}
 use Rattle.sg_attrib.proofs.Composed.{gives_ok, gives_err}

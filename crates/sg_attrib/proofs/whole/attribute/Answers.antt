@@ -3,7 +3,7 @@ use Rattle.std.specs.Prelude.{Err}
 use Rattle.sg_kinds.specs.Specification.{rules_of}
 use Rattle.sg_eval.specs.Journal.{now_of}
 use Rattle.sg_groves.proofs.Frames.{only_holds}
-use Rattle.sg_attrib.specs.Visited.{Gives, HasEquation, IsNothing, IsSlotOf}
+use Rattle.sg_attrib.specs.Visited.{HasEquation, IsNothing, IsSlotOf}
 use Rattle.sg_attrib.proofs.Composed.{gives_err}
 use Rattle.sg_attrib.proofs.Attributed.{is_right, is_solved, noted_all, only_inside}
 use Rattle.sg_attrib.proofs.whole.attribute.Goals as goal
