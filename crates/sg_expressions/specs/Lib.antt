@@ -1,4 +1,3 @@
-pub mod PatternNests
 pub mod ExprNests
 pub mod Joined
 pub mod WithParts

@@ -13,7 +13,6 @@ ghost use Rattle.sg_expressions.specs.Joined.{joined};
 ghost use Rattle.sg_expressions.specs.WithParts as parts;
 
 use crate::nodes::{CaseChain, CaseNodes, Node, Nodes, chained, deeper};
-use crate::pattern::read_pattern;
 use sg_ast::expr::{Expr, Exprs, Infix, Prefix};
 use sg_ast::name::Name;
 use sg_ast::pattern::Pattern;
@@ -24,6 +23,7 @@ use sg_cursor::{
 use sg_kinds::fault::Position;
 use sg_kinds::marks::Made;
 use sg_kinds::memory::NoMemory;
+use sg_term_patterns::read_pattern;
 use sg_text::{Keyword, Symbol};
 use std::alloc::Global;
 use std::boxed::Box;

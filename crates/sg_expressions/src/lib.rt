@@ -1,9 +1,7 @@
-//! The reading of patterns and expressions.
+//! The reading of expressions.
 #![tactic(auto)]
 
 mod expr;
 mod nodes;
-mod pattern;
 
 pub use expr::read_expr;
-pub use pattern::read_pattern;

@@ -15,8 +15,9 @@ use sg_clauses::schemes::schemes;
 use sg_clauses::single::{entry, lexeme, listed, optional, root};
 use sg_clauses::typed::{locals, params};
 use sg_cursor::{Refusal, Tokens, target};
-use sg_expressions::{read_expr, read_pattern};
+use sg_expressions::read_expr;
 use sg_kinds::row::Row;
+use sg_term_patterns::read_pattern;
 use sg_text::{Keyword, Symbol};
 use std::alloc::Global;
 

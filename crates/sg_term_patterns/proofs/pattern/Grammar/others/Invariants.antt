@@ -5,7 +5,7 @@ use Rattle.sg_ast.specs.Reading.{another, pattern_within}
 use Rattle.sg_ast.specs.View.{pattern_of}
 use Rattle.sg_ast.specs.Readers.{more}
 use Rattle.sg_cursor.specs.Left.{left_of}
-use Rattle.sg_expressions.proofs.pattern.Grammar.others.Given as goal
+use Rattle.sg_term_patterns.proofs.pattern.Grammar.others.Given as goal
 
 abbrev pub invariant-loop-turn : goal.invariant-loop-turn
 invariant-loop-turn g l =

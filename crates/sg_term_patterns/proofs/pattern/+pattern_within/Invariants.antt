@@ -1,4 +1,4 @@
-use Rattle.sg_expressions.proofs.pattern.+pattern_within.Given as goal
+use Rattle.sg_term_patterns.proofs.pattern.+pattern_within.Given as goal
 
 abbrev pub decreases-pattern_within : goal.decreases-pattern_within
 decreases-pattern_within l = l.depth

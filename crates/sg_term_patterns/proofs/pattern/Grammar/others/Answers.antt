@@ -7,7 +7,7 @@ use Rattle.sg_ast.specs.Reading.{another, pattern_within}
 use Rattle.sg_ast.specs.View.{pattern_of}
 use Rattle.sg_cursor.specs.Left.{left_of}
 use Rattle.sg_cursor.proofs.Turns.{goes_on, fails, stops, ends}
-use Rattle.sg_expressions.proofs.pattern.Grammar.others.Goals as goal
+use Rattle.sg_term_patterns.proofs.pattern.Grammar.others.Goals as goal
 
 pub returns-then-not-sees_sign : goal.returns-then-not-sees_sign
 returns-then-not-sees_sign g c =

@@ -6,7 +6,7 @@ ghost use Rattle.sg_ast.specs.Reading as spec;
 ghost use Rattle.sg_ast.specs.Readers.{is_sign, sees, many};
 ghost use Rattle.sg_ast.specs.View.{pattern_of};
 ghost use Rattle.sg_cursor.specs.Left.{left_of, Reads};
-ghost use Rattle.sg_expressions.specs.PatternNests.{Nests};
+ghost use Rattle.sg_term_patterns.specs.PatternNests.{Nests};
 
 use sg_ast::name::Name;
 use sg_ast::pattern::{Pattern, Patterns};

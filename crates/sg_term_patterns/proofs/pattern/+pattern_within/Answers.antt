@@ -2,7 +2,7 @@ use Rattle.std.proofs.Common.{◌≡◌, ap, arith}
 use Rattle.sg_ast.specs.Reading.{pattern_within}
 use Rattle.sg_cursor.specs.Left.{left_of}
 use Rattle.sg_cursor.proofs.Turns.{deeper}
-use Rattle.sg_expressions.proofs.pattern.+pattern_within.Goals as goal
+use Rattle.sg_term_patterns.proofs.pattern.+pattern_within.Goals as goal
 
 pub returns-then-depth-eq0 : goal.returns-then-depth-eq0
 unfolding pattern_within

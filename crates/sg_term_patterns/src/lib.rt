@@ -1,0 +1,6 @@
+//! The reading of patterns.
+#![tactic(auto)]
+
+mod pattern;
+
+pub use pattern::read_pattern;
