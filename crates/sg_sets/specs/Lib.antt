@@ -1,4 +1,5 @@
 pub mod Cycles
+pub mod Flags
 pub mod Layers
 pub mod Members
 pub mod Paths

@@ -2,6 +2,7 @@
 ghost use Rattle.std.specs.Prelude.{◌≡◌, ℕ, ◌+◌, ◌*◌, ◌<◌, ◌≤◌, ◌↔◌, ◌⊎◌, Bool, false, true, not, if◌then◌else◌, List, [], length, replicate, slice_set, All, IfOk, IsTrue};
 ghost use Rattle.std.specs.Bool.{OnTrue, OnFalse};
 ghost use Rattle.sg_sets.specs.Members.{has, Has};
+ghost use Rattle.sg_sets.specs.Flags.{IsFresh, HasPassed, AreFlagged, Flows};
 ghost use Rattle.sg_sets.specs.Rows.{Table, table, row_of, Holds, all_missing, SameShape, AreRows, IsSettled};
 ghost use Rattle.sg_sets.specs.Paths.{Reaches, Linked};
 
@@ -152,41 +153,126 @@ impl Rows {
         ensures flows { (x y : ℕ) → Holds self.new.rows x y ↔ ((s : ℕ) × Holds self.old.rows s y × Reaches (Linked links.now) s x) }
         ensures shape { SameShape self.old self.new }
     {
-        while self.flow_once(links) {
-            self.flow_back(links);
-        }
+        let mut was = self.filled();
+        let mut fresh = flags(*self.rows.allocator(), self.rows.len());
+        while self.flow_both(links, &mut was, &mut fresh) {}
     }
 
-    /// Takes each link once, and returns whether a row changed.
-    fn flow_once(&mut self, links: &[(usize, usize)]) -> bool
-        requires { All (AreRows self.old.rows) links.now }
-        ensures sound { (x y : ℕ) → Holds self.new.rows x y → (s : ℕ) × Holds self.old.rows s y × Reaches (Linked links.now) s x }
-        ensures keeps { (x y : ℕ) → Holds self.old.rows x y → Holds self.new.rows x y }
+    /// Returns flags for the rows that have numbers.
+    fn filled(&self) -> BitSet
+        ensures { (a y : ℕ) → Holds self.now.rows a y → IsFresh result a }
+    {
+        let mut filled = flags(*self.rows.allocator(), self.rows.len());
+        for a in 0..self.rows.len() {
+            if self.rows[a].meets(&self.rows[a]) {
+                mark(&mut filled, a);
+            }
+        }
+        filled
+    }
+
+    /// Takes each link there and back, by the rows that changed before, and returns whether a row changed
+    /// on the way back. Along a chain of links that stand in either order, one of the two ways goes from end to end.
+    fn flow_both(&mut self, links: &[(usize, usize)], was: &mut BitSet, fresh: &mut BitSet) -> bool
+        requires rows { All (AreRows self.old.rows) links.now }
+        requires flagged { AreFlagged links.now self.old.rows was.old }
+        ensures flows { Flows links.now self.old self.new }
         ensures grows { OnTrue result (all_missing self.new.rows < all_missing self.old.rows) }
         ensures settled { OnFalse result (IsSettled links.now self.new.rows) }
-        ensures shape { SameShape self.old self.new }
+        ensures flagged { OnTrue result (AreFlagged links.now self.new.rows was.new) }
     {
+        self.flow_forth(links, was, fresh) && self.flow_back(links, fresh, was)
+    }
+
+    /// Takes each link once, unless its first row changed neither before nor on the way, and returns whether a
+    /// row changed. Those that did are flagged then.
+    fn flow_forth(&mut self, links: &[(usize, usize)], was: &BitSet, fresh: &mut BitSet) -> bool
+        requires rows { All (AreRows self.old.rows) links.now }
+        requires flagged { AreFlagged links.now self.old.rows was.now }
+        ensures flows { Flows links.now self.old self.new }
+        ensures grows { OnTrue result (all_missing self.new.rows < all_missing self.old.rows) }
+        ensures settled { OnFalse result (IsSettled links.now self.new.rows) }
+        ensures flagged { AreFlagged links.now self.new.rows fresh.new }
+    {
+        fresh.clear();
         let mut grown = false;
         for &(from, to) in links {
-            if self.join_row(from, to) {
+            if self.flow_along(from, to, was, fresh) {
                 grown = true;
             }
         }
         grown
     }
 
-    /// Takes each link once, from the last on. Along a chain of links that stand in either order, one of the two ways
-    /// goes from end to end.
-    fn flow_back(&mut self, links: &[(usize, usize)])
-        requires { All (AreRows self.old.rows) links.now }
-        ensures sound { (x y : ℕ) → Holds self.new.rows x y → (s : ℕ) × Holds self.old.rows s y × Reaches (Linked links.now) s x }
-        ensures keeps { (x y : ℕ) → Holds self.old.rows x y → Holds self.new.rows x y }
-        ensures fewer { all_missing self.new.rows ≤ all_missing self.old.rows }
-        ensures shape { SameShape self.old self.new }
+    /// The same from the last link on.
+    fn flow_back(&mut self, links: &[(usize, usize)], was: &BitSet, fresh: &mut BitSet) -> bool
+        requires rows { All (AreRows self.old.rows) links.now }
+        requires flagged { AreFlagged links.now self.old.rows was.now }
+        ensures flows { Flows links.now self.old self.new }
+        ensures grows { OnTrue result (all_missing self.new.rows < all_missing self.old.rows) }
+        ensures settled { OnFalse result (IsSettled links.now self.new.rows) }
+        ensures flagged { AreFlagged links.now self.new.rows fresh.new }
     {
+        fresh.clear();
+        let mut grown = false;
         for passed in 0..links.len() {
             let (from, to) = links[links.len() - 1 - passed];
-            self.join_row(from, to);
+            if self.flow_along(from, to, was, fresh) {
+                grown = true;
+            }
         }
+        grown
+    }
+
+    /// Takes a link, unless its first row is not flagged, and returns whether its second row changed, which is
+    /// flagged then.
+    fn flow_along(&mut self, from: usize, to: usize, was: &BitSet, fresh: &mut BitSet) -> bool
+        requires from_row { from < length self.old.rows }
+        requires to_row { to < length self.old.rows }
+        requires flagged { HasPassed self.old.rows from to ⊎ (IsFresh was.now from ⊎ IsFresh fresh.old from) }
+        ensures gains { (x y : ℕ) → Holds self.new.rows x y → Holds self.old.rows x y ⊎ ((x ≡ to) × Holds self.old.rows from y) }
+        ensures keeps { (x y : ℕ) → Holds self.old.rows x y → Holds self.new.rows x y }
+        ensures passed { HasPassed self.new.rows from to }
+        ensures grows { OnTrue result (all_missing self.new.rows < all_missing self.old.rows) }
+        ensures stays { OnFalse result (self.new ≡ self.old) }
+        ensures flags { (x : ℕ) → IsFresh fresh.old x → IsFresh fresh.new x }
+        ensures flag { OnTrue result (IsFresh fresh.new to) }
+        ensures shape { SameShape self.old self.new }
+    {
+        if !is_fresh(was, from) && !is_fresh(fresh, from) {
+            return false;
+        }
+        let grown = self.join_row(from, to);
+        if grown {
+            mark(fresh, to);
+        }
+        grown
+    }
+}
+
+/// Returns so many flags, or none where there is no memory for them: each row is then taken for flagged.
+fn flags(alloc: Global, count: usize) -> BitSet
+    ensures { (result ≡ replicate count false) ⊎ (result ≡ []) }
+{
+    match BitSet::new(alloc, count) {
+        Ok(set) => set,
+        Err(_) => BitSet::none(alloc),
+    }
+}
+
+/// Returns whether row `a` is flagged.
+fn is_fresh(flags: &BitSet, a: usize) -> bool
+    ensures { IsTrue result ↔ IsFresh flags.now a }
+{
+    flags.width() <= a || flags.contains(a)
+}
+
+/// Flags row `a`.
+fn mark(flags: &mut BitSet, a: usize)
+    ensures keeps { (x : ℕ) → IsFresh flags.old x → IsFresh flags.new x }
+    ensures marks { IsFresh flags.new a }
+{
+    if a < flags.width() {
+        flags.insert(a);
     }
 }

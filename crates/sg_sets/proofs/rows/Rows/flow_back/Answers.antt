@@ -1,9 +1,36 @@
-use Rattle.std.proofs.Common.{◌-◌, ◌<◌, length, arith}
-use Rattle.sg_sets.proofs.FlowLemmas.{flows_more}
+use Rattle.std.proofs.Common.{◌≡◌, ℕ, ◌+◌, ◌-◌, ◌<◌, ◌≤◌, ◌⊎◌, inl, inr, true, false, length, get_or, arith, subst}
+use Rattle.std.proofs.lemmas.Bool.{cases_lt}
+use Rattle.sg_sets.proofs.FlowLemmas.{Along, flowed-none, flowed-more, flowed-same, flowed-flagged, flowed-settled}
 use Rattle.sg_sets.proofs.rows.Rows.flow_back.Goals as goal
+use Rattle.sg_sets.proofs.rows.Rows.flow_back.Goals.{then-flow_along, else-flow_along}
+
+pub loop-passed-init : goal.loop-passed-init
+loop-passed-init c = flowed-none c.args.links.now c.args.self.now c.args.was.now c.clear.new.self (λ k. length c.args.links.now ≤ k + 0) (λ k low taken. omega (arith, low, taken)) c.requires.flagged
+
+pub flow_along-requires-clause-flagged : goal.flow_along-requires-clause-flagged
+flow_along-requires-clause-flagged c = c.loop-passed.invariant.ahead (length c.args.links.now - 1 - c.loop-passed.passed) (omega (arith, c.loop-passed-test.true))
 
 pub loop-passed-preserved : goal.loop-passed-preserved
 loop-passed-preserved c =
     let links = c.args.links.now in
-    let low : c.loop-passed.passed < length links = c.loop-passed-test.true in
-    flows_more links c.args.self.now c.loop-passed.self c.join_row.new.self (length links - 1 - c.loop-passed.passed) c.join_row.result (omega (arith, low)) c.loop-passed.invariant c.join_row.ensures.joins c.join_row.ensures.grows c.join_row.ensures.stays c.join_row.ensures.shape
+    let l = c.loop-passed in
+    let e = c.flow_along.ensures in
+    let m = (length c.args.links.now - 1 - c.loop-passed.passed) in
+    let low : m < length links = omega (arith, c.loop-passed-test.true) in
+    let along : Along l.self c.flow_along.new.self (get_or links m (0, 0)).0 (get_or links m (0, 0)).1 l.fresh c.flow_along.new.fresh c.flow_along.result =
+    record { gains = e.gains; keeps = e.keeps; passed = e.passed; grows = e.grows; stays = e.stays; flags = e.flags; flag = e.flag; shape = e.shape } in
+    let one : (k : ℕ) → k < length links → length links ≤ k + (l.passed + 1) → (length links ≤ k + l.passed) ⊎ (k ≡ m) = λ k there next. elim (cases_lt (k + l.passed) (length links)) [ inl at ↦ inr (omega (arith, next, at, there, low)) | inr before ↦ inl before ] in
+    elim c.if-flow_along.branch [
+      | then-flow_along w ↦
+          let more : Along l.self c.flow_along.new.self (get_or links m (0, 0)).0 (get_or links m (0, 0)).1 l.fresh c.flow_along.new.fresh true = subst (Along l.self c.flow_along.new.self (get_or links m (0, 0)).0 (get_or links m (0, 0)).1 l.fresh c.flow_along.new.fresh) w.if-flow_along.true along in
+          rw w.grown-is (flowed-more links c.args.self.now l.self c.flow_along.new.self c.args.was.now l.fresh c.flow_along.new.fresh (λ k. length links ≤ k + l.passed) (λ k. length links ≤ k + (l.passed + 1)) m l.grown low l.invariant one more)
+      | else-flow_along w ↦
+          let same : Along l.self c.flow_along.new.self (get_or links m (0, 0)).0 (get_or links m (0, 0)).1 l.fresh c.flow_along.new.fresh false = subst (Along l.self c.flow_along.new.self (get_or links m (0, 0)).0 (get_or links m (0, 0)).1 l.fresh c.flow_along.new.fresh) w.if-flow_along.false along in
+          rw w.grown-is (flowed-same links c.args.self.now l.self c.flow_along.new.self c.args.was.now l.fresh c.flow_along.new.fresh (λ k. length links ≤ k + l.passed) (λ k. length links ≤ k + (l.passed + 1)) m l.grown low l.invariant one same)
+    ]
+
+pub returns-clause-settled : goal.returns-clause-settled
+returns-clause-settled c = flowed-settled c.args.links.now c.args.self.now c.loop-passed.self c.args.was.now c.loop-passed.fresh (λ k. length c.args.links.now ≤ k + c.loop-passed.passed) c.loop-passed.grown c.loop-passed.invariant (λ k low. omega (arith, low, c.loop-passed-test.false))
+
+pub returns-clause-flagged : goal.returns-clause-flagged
+returns-clause-flagged c = flowed-flagged c.args.links.now c.args.self.now c.loop-passed.self c.args.was.now c.loop-passed.fresh (λ k. length c.args.links.now ≤ k + c.loop-passed.passed) c.loop-passed.grown c.loop-passed.invariant (λ k low. omega (arith, low, c.loop-passed-test.false))
