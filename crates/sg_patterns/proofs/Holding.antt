@@ -376,8 +376,8 @@ pub none-hold : HoldsIn [] [] [] [] []
 none-hold = record { trees = []; patterns = refl; at_roots = refl; stand = tt; above_each = refl; empty_each = refl; parts = λ k x is. absurd (cc); order = λ k a is. absurd (cc) }
 
 -- the tree made last is the program
-pub last-program : (nodes : List Node) (above : List Above) (empties : List Bool) (roots rest : List ℕ) (root : ℕ) (ps : List plain.Lexeme) (p : Program) → HoldsIn nodes above empties roots ps → roots ≡ rest ++ root ∷ [] → p.nodes.items ≡ nodes → p.above.items ≡ above → p.empties.items ≡ empties → p.root ≡ root → IsProgram p (first_of ps)
-last-program nodes above empties roots rest root ps p h last n a e r =
+pub last-program : (nodes : List Node) (above : List Above) (empties : List Bool) (roots rest : List ℕ) (root : ℕ) (ps : List plain.Lexeme) (p : Program) → HoldsIn nodes above empties roots ps → roots ≡ rest ++ root ∷ [] → p.nodes.items ≡ nodes → p.above.items ≡ above → p.empties.items ≡ empties → p.root ≡ root → p.barred.items ≡ [] → IsProgram p (first_of ps)
+last-program nodes above empties roots rest root ps p h last n a e r none =
     let d = the-one nodes above empties roots ps h rest root last in
     record {
       tree = d.t;
@@ -388,6 +388,7 @@ last-program nodes above empties roots rest root ps p h last n a e r =
       above_each = rw (n, a) h.above_each;
       empty_each = rw (n, e) h.empty_each;
       ordered = record { each = rw (n, a) h.above_each; parts = rw n h.parts; order = rw a h.order };
+      barred = λ b up. absurd (let down : false ≡ true = sym (ap (λ fs. flag_at fs b) none) ∙ up in cc);
     }
 
 -- without a root there is no pattern

@@ -17,3 +17,4 @@ pub mod Forms
 pub mod Emitting
 pub mod Defaults
 pub mod Worked
+pub mod Barring

@@ -1,6 +1,8 @@
 -- Which pattern the nodes of a program make, and which patterns those of a program in the making.
-use Rattle.std.specs.Prelude.{◌≡◌, ℕ, ◌<◌, ◌≤◌, Bool, false, List, [], ◌∷◌, ◌++◌, map, length, Some, slice_get, slice_index_or}
+use Rattle.std.specs.Prelude.{◌≡◌, ℕ, ◌+◌, ◌<◌, ◌≤◌, Bool, false, true, List, [], ◌∷◌, ◌++◌, map, length, Some, slice_get, slice_index_or}
 use Rattle.sg_kinds.specs.Lexemes as plain
+use Rattle.sg_kinds.specs.Matches.{MatchesFrom}
+use Rattle.sg_kinds.specs.Values.{Bytes}
 use Rattle.sg_patterns.specs.declared.program.Node.{Node}
 use Rattle.sg_patterns.specs.declared.program.Above.{Above}
 use Rattle.sg_patterns.specs.declared.program.Node.TheVariants.{Nothing, Leaf, Then, Either, Over}
@@ -79,6 +81,10 @@ pub record IsOrdered (p : Program) : Type 0 where
   pub parts : EachAfterParts p.nodes.items
   pub order : EachBeforeNode p.above.items
 
+-- no match of some bytes begins with this byte
+abbrev pub IsBarred : plain.Lexeme → ℕ → Type 0
+IsBarred p b = (text : Bytes) (at n : ℕ) → slice_get text at ≡ Some b → MatchesFrom p text at (at + n) → n ≡ 0
+
 -- the program of a pattern
 pub record IsProgram (p : Program) (pattern : plain.Lexeme) : Type 0 where
   pub tree : Tree
@@ -89,6 +95,7 @@ pub record IsProgram (p : Program) (pattern : plain.Lexeme) : Type 0 where
   pub above_each : length p.above.items ≡ length p.nodes.items
   pub empty_each : length p.empties.items ≡ length p.nodes.items
   pub ordered : IsOrdered p
+  pub barred : (b : ℕ) → flag_at p.barred.items b ≡ true → IsBarred pattern b
 
 -- the programs of these patterns
 pub record ArePrograms (programs : List Program) (patterns : List plain.Lexeme) : Type 0 where

@@ -4,10 +4,13 @@ ghost use Rattle.std.specs.List.{starts_with};
 ghost use Rattle.sg_kinds.specs.Values.{Bytes};
 ghost use Rattle.sg_patterns.specs.LongestMatch.{Literal, IsAnswer};
 ghost use Rattle.sg_patterns.specs.Lexemes.{is_blank, with_text, literals_in, literals_of, blank_of, IsTable};
+ghost use Rattle.sg_patterns.specs.Programs.{ArePrograms};
 
 mod making;
 
 use crate::longest_match::len_of;
+use crate::matcher::Matcher;
+use crate::program::Program;
 use indexmap::IndexSet;
 use sg_kinds::lexeme::Lexeme;
 use sg_kinds::marks::Shape;
@@ -29,8 +32,11 @@ pub struct Lexemes {
     pub blank: Option<u32>,
     /// for each byte the places of the literals that begin with it, in rising order
     table: Vec<Vec<usize>>,
+    /// the patterns again, with their programs
+    matcher: Matcher,
     ghost rows: { length table.items ≡ 256 },
     ghost in_table: { IsTable literals (map (λ v. v.items) table.items) },
+    ghost ready: { matcher ≡ patterns },
     ghost few: { first + length literals + length patterns < 2 ^ 32 },
 }
 
@@ -146,6 +152,13 @@ fn is_longer(literal: &[u8], rest: &[u8], len: usize) -> bool
 }
 
 impl Lexemes {
+    /// The programs of the patterns.
+    pub(crate) fn programs(&self) -> &[Program]
+        ensures { ArePrograms result.now self.now.patterns }
+    {
+        self.matcher.programs()
+    }
+
     /// Whether matches of the terminal are skipped, which is counted from the first literal on.
     pub fn is_blank(&self, number: usize) -> bool
         ensures { result ≡ is_blank self.now.blank (length self.now.literals) number }

@@ -3,9 +3,9 @@ ghost use Rattle.std.specs.Prelude.{◌≡◌, ◌+◌, ◌<◌, ◌^◌, ◌++�
 ghost use Rattle.sg_kinds.specs.Lexemes as plain;
 ghost use Rattle.sg_kinds.specs.Matches.{Matches};
 ghost use Rattle.sg_patterns.specs.LongestMatch.{Terminal, Pattern, IsAnswer, len_of};
-ghost use Rattle.sg_patterns.specs.Programs.{ArePrograms, AreOrdered, HaveRoom};
+ghost use Rattle.sg_patterns.specs.Programs.{IsProgram, ArePrograms, AreOrdered, HaveRoom};
 
-use crate::marks::longest_from;
+use crate::marks::{longest_from, with_barred};
 use crate::program::Program;
 use sg_kinds::lexeme::Lexeme;
 use sg_kinds::memory::NoMemory;
@@ -21,13 +21,21 @@ pub fn len_of(found: Option<(usize, usize)>) -> usize
     }
 }
 
+/// The program of a pattern, with the bytes with which no match begins.
+fn ready(alloc: Global, lexeme: &Lexeme) -> Result<Program, NoMemory>
+    ensures { IfOk result (λ p. IsProgram p lexeme.now) }
+{
+    let program = Program::new(alloc, lexeme)?;
+    with_barred(alloc, program)
+}
+
 /// The programs of patterns.
 pub fn programs_of(alloc: Global, all: &[Lexeme]) -> Result<Vec<Program>, NoMemory>
     ensures { IfOk result (λ ps. ArePrograms ps.items all.now) }
 {
     let mut programs = Vec::with_capacity(alloc, all.len())?;
     for lexeme in all {
-        programs.push(Program::new(alloc, lexeme)?)?;
+        programs.push(ready(alloc, lexeme)?)?;
     }
     Ok(programs)
 }

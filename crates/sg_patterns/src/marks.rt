@@ -1,12 +1,14 @@
 //! Matching by marks: which leaves of a pattern end a match of what stands before them.
-ghost use Rattle.std.specs.Prelude.{◌≡◌, ℕ, ◌<◌, ◌≤◌, false, length, vec_len};
+ghost use Rattle.std.specs.Prelude.{◌≡◌, ℕ, ◌<◌, ◌≤◌, false, true, length, vec_len, IfOk};
 ghost use Rattle.sg_kinds.specs.Lexemes as plain;
 ghost use Rattle.sg_patterns.specs.LongestMatch.{IsLength, Pattern};
 ghost use Rattle.sg_patterns.specs.Marks.{begin_value, HasBegins, final_value, HasFinalsTo, is_leaf, IsDead};
-ghost use Rattle.std.specs.Bool.{OnFalse};
-ghost use Rattle.sg_patterns.specs.Programs.{flag_at, IsOrdered, IsProgram};
+ghost use Rattle.std.specs.Bool.{OnTrue, OnFalse};
+ghost use Rattle.sg_patterns.specs.Programs.{flag_at, IsBarred, IsOrdered, IsProgram};
 
 use crate::program::{Above, Node, Program, flag};
+use sg_kinds::memory::NoMemory;
+use std::alloc::Global;
 
 /// Takes the first `count` flags down.
 fn clear(count: usize, flags: &mut [bool])
@@ -84,6 +86,47 @@ fn step(program: &Program, byte: u8, begins: &[bool], finals: &mut [bool]) -> bo
     alive
 }
 
+/// For each byte whether no match that has a byte begins with it. The flags are room for those of the program's nodes.
+fn barred_by(
+    alloc: Global,
+    program: &Program,
+    begins: &mut [bool],
+    finals: &mut [bool],
+) -> Result<Vec<bool>, NoMemory>
+    requires ordered { IsOrdered program.now }
+    requires begins_room { vec_len program.now.nodes ≤ length begins.old }
+    requires finals_room { vec_len program.now.nodes ≤ length finals.old }
+    ensures { IfOk result (λ v. (p : plain.Lexeme) → IsProgram program.now p → (b : ℕ) → flag_at v.items b ≡ true → IsBarred p b) }
+{
+    clear(program.nodes.len(), finals);
+    mark_begins(program, true, finals, begins);
+    let mut barred = Vec::with_capacity(alloc, 256)?;
+    for byte in 0..256usize {
+        let alive = step(program, byte as u8, begins, finals);
+        barred.push(!alive)?;
+    }
+    Ok(barred)
+}
+
+/// The program with the bytes with which no match begins.
+pub fn with_barred(alloc: Global, mut program: Program) -> Result<Program, NoMemory>
+    requires { IsOrdered program }
+    ensures { (p : plain.Lexeme) → IsProgram program p → IfOk result (λ q. IsProgram q p) }
+{
+    let mut begins = vec![in alloc; false; program.nodes.len()]?;
+    let mut finals = vec![in alloc; false; program.nodes.len()]?;
+    let barred = barred_by(alloc, &program, &mut begins, &mut finals)?;
+    program.barred = barred;
+    Ok(program)
+}
+
+/// Whether it is known that no match that has a byte begins at a place.
+fn is_barred(program: &Program, text: &[u8], at: usize) -> bool
+    ensures { OnTrue result ((p : plain.Lexeme) → IsProgram program.now p → IsLength (Pattern p) text.now at 0) }
+{
+    at < text.len() && flag(&program.barred, text[at] as usize)
+}
+
 /// The length of the longest match from a place on that has a byte, or 0 where there is none. The flags are room for
 /// those of the program's nodes.
 pub fn longest_from(
@@ -98,6 +141,9 @@ pub fn longest_from(
     requires finals_room { vec_len program.now.nodes ≤ length finals.old }
     ensures { (p : plain.Lexeme) → IsProgram program.now p → IsLength (Pattern p) text.now at result }
 {
+    if is_barred(program, text, at) {
+        return 0;
+    }
     clear(program.nodes.len(), finals);
     let mut longest = 0;
     for place in at..text.len() {

@@ -98,6 +98,13 @@ impl Matcher {
         })
     }
 
+    /// The programs of the patterns.
+    pub(crate) fn programs(&self) -> &[Program]
+        ensures { ArePrograms result.now self.now }
+    {
+        self.programs.as_slice()
+    }
+
     /// Whether the pattern at a place matches the whole text.
     pub fn matches(&mut self, k: usize, text: &[u8]) -> bool
         requires { k < length self.old }

@@ -86,6 +86,8 @@ pub struct Program {
     pub above: Vec<Above>,
     pub empties: Vec<bool>,
     pub root: usize,
+    /// for a byte whether it is known that no match begins with it
+    pub barred: Vec<bool>,
 }
 
 /// The trees that the steps of a pattern have made so far: their nodes and the numbers of their roots.
@@ -242,7 +244,7 @@ impl Building {
     }
 
     /// The program of the tree made last.
-    fn last(mut self) -> Program
+    fn last(mut self, alloc: Global) -> Program
         requires { 0 < vec_len self.roots }
         ensures { (ps : List plain.Lexeme) → Holds self ps → IsProgram result (first_of ps) }
     {
@@ -252,18 +254,19 @@ impl Building {
             above: self.above,
             empties: self.empties,
             root,
+            barred: Vec::new(alloc),
         }
     }
 
     /// The program of the tree made last, or of the empty text where there is none.
-    fn finish(mut self) -> Result<Program, NoMemory>
+    fn finish(mut self, alloc: Global) -> Result<Program, NoMemory>
         ensures { (ps : List plain.Lexeme) → Holds self ps → IfOk result (λ p. IsProgram p (first_of ps)) }
     {
         if !self.roots.is_empty() {
-            return Ok(self.last());
+            return Ok(self.last(alloc));
         }
         self.nothing()?;
-        Ok(self.last())
+        Ok(self.last(alloc))
     }
 }
 
@@ -281,7 +284,7 @@ impl Program {
         for step in lexeme.steps.as_slice() {
             building.add(alloc, step)?;
         }
-        building.finish()
+        building.finish(alloc)
     }
 
     /// Whether the pattern matches the empty text.

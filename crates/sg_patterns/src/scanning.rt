@@ -6,7 +6,7 @@ ghost use Rattle.sg_patterns.specs.Scan.{terminals_of, Scanned, StopsAt};
 ghost use Rattle.sg_patterns.specs.declared.scanning.ScanFault.TheVariants as fault;
 
 use crate::lexemes::Lexemes;
-use crate::longest_match::{longest_among, programs_of, room_of};
+use crate::longest_match::{longest_among, room_of};
 use crate::program::Program;
 use sg_kinds::memory::NoMemory;
 use std::alloc::{AllocError, AllocFailed, Global};
@@ -55,8 +55,8 @@ pub fn scan(alloc: Global, all: &Lexemes, text: &[u8]) -> Result<Vec<InToken>, S
     ensures tokens { IfOk result (λ ts. Scanned all.now text.now (length text.now) ts.items) }
     ensures bad { (k : ℕ) → result ≡ Err (fault.BadAt k) → StopsAt all.now text.now k }
 {
-    let programs = programs_of(alloc, all.patterns.as_slice())?;
-    let room = room_of(programs.as_slice());
+    let programs = all.programs();
+    let room = room_of(programs);
     let mut begins = vec![in alloc; false; room]?;
     let mut finals = vec![in alloc; false; room]?;
     let begins = begins.as_mut_slice();
@@ -64,7 +64,7 @@ pub fn scan(alloc: Global, all: &Lexemes, text: &[u8]) -> Result<Vec<InToken>, S
     let mut tokens = Vec::new(alloc);
     let mut at = 0;
     while at < text.len() {
-        let found = longest_at(all, programs.as_slice(), text, at, begins, finals);
+        let found = longest_at(all, programs, text, at, begins, finals);
         let Some((number, len)) = found else {
             return Err(ScanFault::BadAt(at));
         };

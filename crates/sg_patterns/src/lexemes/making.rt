@@ -4,6 +4,7 @@ ghost use Rattle.sg_patterns.specs.Lexemes.{literals_of, blank_of};
 ghost use Rattle.sg_patterns.specs.LexemesOf.{AreLexemesOf};
 
 use super::{Lexemes, blank_of, literals_of, table_of};
+use crate::matcher::Matcher;
 use sg_kinds::copy::TryCopy;
 use sg_kinds::memory::NoMemory;
 use sg_kinds::row::Row;
@@ -29,12 +30,15 @@ impl Lexemes {
         if entries > MOST || literals.len() > MOST || spec.lexemes.len() > MOST {
             return Err(NoMemory);
         }
+        let patterns = spec.lexemes.try_copy(alloc)?;
+        let matcher = Matcher::new(alloc, patterns.as_slice())?;
         Ok(Lexemes {
             first: entries + 1,
             literals: Row::new(literals),
-            patterns: spec.lexemes.try_copy(alloc)?,
+            patterns,
             blank: blank_of(spec.phyla.as_slice()),
             table,
+            matcher,
         })
     }
 }
