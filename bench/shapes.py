@@ -106,6 +106,18 @@ def statements(size=1000):
     return grammar(names, rows, "unit")
 
 
+def operators_right(size=1000):
+    """One level of binary operators that group to the right: behind each the core has all of them again."""
+    rows = [production("E", "P", f"'o{i}'", "E") for i in range(size)]
+    rows += [production("E", "P"), production("P", "'x'"), production("P", "'('", "E", "')'")]
+    return grammar(["E", "P"], rows, "E")
+
+
+def states(size=1023):
+    """So many productions of 16 tokens each, the most that a production may have: some 16,000 states."""
+    return grammar(["S"], [production("S", f"'t{i}'", *["'u'"] * 15) for i in range(size)], "S")
+
+
 def phyla(order, attrs):
     """A chain of phyla, one operator each, from phylum 0 down; the operators stand in this order.
 
