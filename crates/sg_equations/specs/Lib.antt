@@ -3,3 +3,4 @@ pub mod Owed
 pub mod Complete
 pub mod Keys
 pub mod RulesOf
+pub mod Literals

@@ -1,30 +1,28 @@
 -- What equations define.
-use Rattle.std.specs.Prelude.{ℕ, ◌+◌, ◌^◌, ◌<◌, List, [], ◌∷◌, length, flat_map, Option, Some, None, option_map, unwrap_or}
-use Rattle.sg_kinds.specs.Specification.{attrs_of, locals_of, phylum_of}
+use Rattle.std.specs.Prelude.{ℕ, ◌^◌, ◌<◌, List, [], ◌∷◌, length, flat_map, Option, Some, None, option_map}
+use Rattle.sg_kinds.specs.Typing.{slots_there}
 use Rattle.sg_kinds.specs.declared.spec.Occurrence.{Occurrence}
 use Rattle.sg_ast.specs.Parts.{target_place}
 use Rattle.sg_ast.specs.declared.decl.Target.{Target}
 use Rattle.sg_ast.specs.declared.decl.Target.TheVariants as written
 use Rattle.sg_ast.specs.Declarations.{Decl, Equation, Equations}
+use Rattle.sg_names.specs.Drafted.{drafted}
 use Rattle.sg_names.specs.declared.table.Table.{Table}
-use Rattle.sg_names.specs.Lookups.{operator_at, local, reference}
+use Rattle.sg_names.specs.Lookups.{operator_at, reference}
+use Rattle.sg_types.specs.Bindings.{local_slot}
 use Rattle.sg_equations.specs.declared.targets.Defined.{Defined}
-
--- locals stand behind the attributes of the left side
-abbrev pub attr_count : Table → ℕ → ℕ
-attr_count t op = length (attrs_of t.phyla (unwrap_or (phylum_of t.ops op) 0))
 
 -- operators and the slots of each left side are numbers of 32 bits
 pub record IsNarrow (t : Table) : Type 0 where
   pub ops : length t.ops < 2 ^ 32
-  pub slots : (op : ℕ) → attr_count t op + length (locals_of t.ops op) < 2 ^ 32
+  pub slots : (op : ℕ) → length (slots_there (drafted t) op 0) < 2 ^ 32
 
 abbrev pub own : ℕ → Occurrence
 own slot = record { at = 0; slot = slot }
 
 abbrev pub target_of : Table → ℕ → Target → Option Occurrence
 target_of t op (written.Attribute r) = reference t op r
-target_of t op (written.Local n) = option_map (λ k. own (attr_count t op + k)) (local t op n.text)
+target_of t op (written.Local n) = option_map own (local_slot t op n.text)
 
 -- what an equation defines; nothing where its target has no meaning
 abbrev pub defined_as : ℕ → Target → Option Occurrence → List Defined

@@ -1,36 +1,23 @@
 //! What the equations of an operator are to define.
 ghost use Rattle.std.specs.Prelude.{◌≡◌, ◌<◌, ◌^◌, length};
-ghost use Rattle.sg_kinds.specs.Dependencies.{phylum_there as there};
-ghost use Rattle.sg_kinds.specs.Specification.{rules_of};
 ghost use Rattle.sg_kinds.specs.Typing.{slots_there};
 ghost use Rattle.sg_names.specs.Drafted.{drafted};
 ghost use Rattle.sg_equations.specs.Owed.{owes as owes_by};
 ghost use Rattle.sg_equations.specs.Targets.{IsNarrow};
 
-use sg_kinds::ids::{OpId, PhylumId};
+use sg_kinds::ids::OpId;
 use sg_kinds::marks::Way;
 use sg_kinds::spec::Occurrence;
 use sg_names::names::Names;
 
-/// The phylum at an occurrence of an operator: 0 is the left side, k + 1 argument k.
-fn phylum_there(names: &Names, op: OpId, at: u32) -> Option<PhylumId>
-    ensures { result ≡ there (rules_of (drafted names.now)) op at }
-{
-    let operator = names.table().ops.place(op.number)?;
-    if at == 0 {
-        Some(operator.phylum)
-    } else {
-        operator.args.place(at - 1).copied()
-    }
-}
-
 /// How many slots an occurrence of an operator has: its attributes, and at the left side the locals behind them.
+#[tactic(auto, using(crate::proofs::Places::phylum_is, crate::proofs::Places::few_slots))]
 pub fn slot_count(names: &Names, op: OpId, at: u32) -> usize
     requires { IsNarrow names.now }
     ensures short { result < 2 ^ 32 }
     ensures count { result ≡ length (slots_there (drafted names.now) op at) }
 {
-    let attrs = match phylum_there(names, op, at) {
+    let attrs = match names.phylum_there(op, at) {
         Some(phylum) => names.attrs(phylum).len(),
         None => 0,
     };
@@ -43,11 +30,12 @@ pub fn slot_count(names: &Names, op: OpId, at: u32) -> usize
 
 /// Whether the equations of an operator are to define an occurrence: a synthesized attribute or local of its left side,
 /// or an inherited attribute of an argument.
+#[tactic(auto, using(crate::proofs::Places::phylum_is))]
 pub fn owes(names: &Names, op: OpId, o: Occurrence) -> bool
     requires { IsNarrow names.now }
     ensures { result ≡ owes_by names.now op o }
 {
-    let Some(phylum) = phylum_there(names, op, o.at) else {
+    let Some(phylum) = names.phylum_there(op, o.at) else {
         return false;
     };
     match names.attrs(phylum).get(o.slot as usize) {

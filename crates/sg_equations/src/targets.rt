@@ -9,6 +9,7 @@ use sg_kinds::ids::OpId;
 use sg_kinds::memory::NoMemory;
 use sg_kinds::spec::Occurrence;
 use sg_names::names::Names;
+use sg_types::bindings::local_slot;
 use std::alloc::Global;
 
 /// What an equation defines: an occurrence of an attribute, or a local, of an operator; and the place of its target.
@@ -19,6 +20,7 @@ pub struct Defined {
     pub place: Position,
 }
 
+#[tactic(auto, using(crate::proofs::Places::slot_fits))]
 pub(crate) fn target_of(names: &Names, op: OpId, target: &Target) -> Option<Occurrence>
     requires { spec.IsNarrow names.now }
     ensures { result ≡ spec.target_of names.now op target.now }
@@ -26,9 +28,8 @@ pub(crate) fn target_of(names: &Names, op: OpId, target: &Target) -> Option<Occu
     match target {
         Target::Attribute(reference) => names.reference(op, reference),
         Target::Local(name) => {
-            let place = names.local(op, &name.text)?;
-            let phylum = names.table().ops.place(op.number)?.phylum;
-            let slot = names.attrs(phylum).len() as u32 + place;
+            let slot = local_slot(names, op, &name.text)?;
+            let slot = slot as u32;
             Some(Occurrence { at: 0, slot })
         }
     }

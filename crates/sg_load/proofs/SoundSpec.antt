@@ -22,7 +22,7 @@ use Rattle.sg_schemes.specs.Strings.{scheme_text}
 use Rattle.sg_typing.specs.Checked.{first_fault}
 use Rattle.sg_typing.proofs.ListsThere.{lists_there}
 use Rattle.sg_equations.specs.Complete.{incomplete}
-use Rattle.sg_equations.proofs.RulesSound.{rules_sound}
+use Rattle.sg_equations.proofs.RulesSound.{rules_sound, written_literals}
 use Rattle.sg_record.specs.Record.{record_of}
 use Rattle.sg_record.proofs.TableKept.{table_kept, names_bare}
 use Rattle.sg_record.proofs.RecordSound.{no_mismatch, record_typed, record_shown, record_entered}
@@ -55,7 +55,7 @@ module _ (ds : List Decl) (lexemes : List Lexeme) (written : HaveWritten ds) (ro
   rules : HasRules (spec_with ds lexemes)
   unfolding record_of
   rules = rules_sound (names_of ds) ds (spec_with ds lexemes) table (lists_there (names_of ds) (spec_with ds lexemes) table shapes) (places_count ds)
-      written refl refl (no_mismatch (names_of ds) ds typed) complete
+      (written_literals ds written) refl refl (no_mismatch (names_of ds) ds typed) complete
 
   schemes : HasSchemes (spec_with ds lexemes)
   schemes =

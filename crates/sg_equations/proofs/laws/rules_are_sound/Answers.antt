@@ -1,5 +1,5 @@
 use Rattle.sg_equations.proofs.RulesSound.{rules_sound}
 use Rattle.sg_equations.proofs.laws.rules_are_sound.Goals as goal
 
-pub returns : goal.returns
-returns c = rules_sound
+pub returns-clause-sound : goal.returns-clause-sound
+returns-clause-sound c = rules_sound
