@@ -1,0 +1,15 @@
+//! Scripts: the commands that the lines of a text spell.
+#![tactic(auto)]
+
+pub mod command;
+pub mod fault;
+mod forms;
+mod lines;
+mod rows;
+mod script;
+mod verbs;
+mod words;
+
+pub use command::{Command, FileName};
+pub use fault::ScriptFault;
+pub use script::read;
