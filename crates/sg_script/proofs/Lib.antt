@@ -1,3 +1,5 @@
 pub mod Counts
-pub mod Lines
+pub mod FirstLines
 pub mod Names
+pub mod Spelled
+pub mod SpelledScripts

@@ -38,13 +38,13 @@ quoted make rest = option_map make (one_string rest)
 abbrev pub loaded : List ℕ → Option Command
 loaded rest =
     option_and_then (λ c. option_and_then (λ name. option_map (command.Load name) (one_file c.1)) (name_of c.0))
-        (next_word rest)
+    (next_word rest)
 
 -- a line, then a column
 abbrev pub placed : List ℕ → Option Command
 placed rest =
     option_and_then (λ c. option_and_then (λ line. option_map (command.Goto line) (one_count c.1)) (count_of c.0))
-        (next_word rest)
+    (next_word rest)
 
 -- the table of commands: the word of each, and how the rest of its line is read
 abbrev pub row_of : Verb → List ℕ × (List ℕ → Option Command)

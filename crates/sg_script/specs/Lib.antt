@@ -1,4 +1,5 @@
 pub mod Commands
 pub mod Forms
 pub mod Script
+pub mod Spelled
 pub mod Words

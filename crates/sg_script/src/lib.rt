@@ -4,6 +4,7 @@
 pub mod command;
 pub mod fault;
 mod forms;
+pub mod laws;
 mod lines;
 mod rows;
 mod script;

@@ -35,7 +35,7 @@ fn without_return(line: &[u8]) -> &[u8]
 }
 
 /// The first line that ends, and what follows it; None where no line ends.
-#[tactic(auto, using(crate::proofs::Lines::first_line_ends, crate::proofs::Lines::last_line_is))]
+#[tactic(auto, using(crate::proofs::FirstLines::last_line_is))]
 pub fn first_line(bytes: &[u8]) -> Option<FirstLine<'_>>
     ensures line { IfSome result (λ f. lines bytes.now ≡ f.line.now ∷ lines f.rest.now) }
     ensures shorter { IfSome result (λ f. length f.rest.now < length bytes.now) }

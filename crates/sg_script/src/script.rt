@@ -16,7 +16,12 @@ const MOST_BYTES: usize = 1_048_576;
 const MOST_COMMANDS: usize = 10_000;
 
 // puts the command of a line, where it says one, to those before it
-fn take_line(alloc: Global, line: &[u8], number: usize, commands: &mut Vec<Command>) -> Result<(), ScriptFault>
+fn take_line(
+    alloc: Global,
+    line: &[u8],
+    number: usize,
+    commands: &mut Vec<Command>,
+) -> Result<(), ScriptFault>
     ensures ok { OnOk result (commands.new.items ≡ commands.old.items ++ commands_said (meaning_of line.now)) }
     ensures known { OnOk result (is_unknown (meaning_of line.now) ≡ false) }
     ensures number { IfErr result (λ f. f ≢ ScriptFault.NoMemory → f ≡ Line number) }

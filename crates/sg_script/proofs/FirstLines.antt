@@ -2,7 +2,7 @@
 use Rattle.std.specs.Prelude.{◌≡◌, refl, ℕ, suc, ◌+◌, ◌<◌, ◌≤◌, Bool, true, false, not, ◌==◌, nat_lt, cond, if◌then◌else◌, List, [], ◌∷◌, length, take, drop, Option, Some, None, position}
 use Rattle.std.specs.List.{slice_split, onto_first, position_or_len}
 use Rattle.std.specs.Str.Lines.{lines, lines_of_parts, strip_carriage_return}
-use Rattle.std.proofs.Common.{sym, ◌∙◌, ap, arith}
+use Rattle.std.proofs.Common.{sym, ◌∙◌, ap, subst, arith}
 use Rattle.std.proofs.lemmas.List.Splits.{slice_split_first}
 use Rattle.sg_kinds.proofs.Elementary.{lt_is}
 use Rattle.sg_script.specs.Script.{last_line}
@@ -35,11 +35,11 @@ first_line_ends bytes n h = go (nat_lt (position_or_len is_newline bytes) (lengt
 
 whole : (bytes : List ℕ) → length bytes ≤ position_or_len is_newline bytes → slice_split is_newline bytes ≡ bytes ∷ []
 whole [] h = refl
-whole (b ∷ bytes) h = go (is_newline b) refl h
+whole (b ∷ bytes) h = go (is_newline b) h (whole bytes)
   where
-    go : (t : Bool) → is_newline b ≡ t → suc (length bytes) ≤ cond (not t) (1 + position_or_len is_newline bytes) 0 → cond t ([] ∷ slice_split is_newline bytes) (onto_first b (slice_split is_newline bytes)) ≡ (b ∷ bytes) ∷ []
-    go true e l = absurd (omega arith)
-    go false e l = ap (onto_first b) (whole bytes (omega arith))
+    go : (t : Bool) → suc (length bytes) ≤ cond (not t) (1 + position_or_len is_newline bytes) 0 → (length bytes ≤ position_or_len is_newline bytes → slice_split is_newline bytes ≡ bytes ∷ []) → cond t ([] ∷ slice_split is_newline bytes) (onto_first b (slice_split is_newline bytes)) ≡ (b ∷ bytes) ∷ []
+    go true l f = absurd (omega arith)
+    go false l f = ap (onto_first b) (f (omega arith))
 
 -- without a newline the text is one line, or none where it is empty
 pub last_line_is : (bytes : List ℕ) → position is_newline bytes ≡ None → lines bytes ≡ last_line bytes
