@@ -1,19 +1,19 @@
 -- The words of a spelled line are read back.
-use Rattle.std.specs.Prelude.{◌≡◌, refl, ℕ, zero, suc, ◌+◌, ◌-◌, ◌*◌, ◌^◌, ◌<◌, ◌≤◌, Bool, true, false, not, ◌&&◌, ◌||◌, ◌==◌, nat_le, nat_lt, if◌then◌else◌, List, [], ◌∷◌, ◌++◌, length, take, drop, map, fold, Option, Some, None, option_map}
-use Rattle.std.specs.List.{list_all, prefix_len, AllByRecursion}
+use Rattle.std.specs.Prelude.{◌≡◌, refl, ℕ, suc, ◌+◌, ◌-◌, ◌*◌, ◌<◌, ◌≤◌, Bool, true, false, not, ◌&&◌, ◌||◌, ◌==◌, nat_le, nat_lt, if◌then◌else◌, List, [], ◌∷◌, ◌++◌, length, take, drop, map, fold, Some, None, option_map}
+use Rattle.std.specs.List.{list_all, AllByRecursion}
 use Rattle.std.specs.Char.{is_ascii_digit}
 use Rattle.std.specs.Fmt.{decimal}
-use Rattle.std.specs.Int.Digits.{digits_of, number_from_digits, number_from_digits_after}
+use Rattle.std.specs.Int.Digits.{digits_of, number_from_digits_after}
 use Rattle.std.proofs.Common.{sym, ◌∙◌, ap, arith, get_or}
 use Rattle.std.proofs.Math.Seq.{take-append_seam, drop-append_seam, take-length, drop-length}
 use Rattle.std.proofs.lemmas.Bool.{and_parts}
 use Rattle.std.proofs.lemmas.Fmt.{decimal-digits_of}
 use Rattle.std.proofs.lemmas.Int.Digits.{all_below_base_digits_of, first_digits_of, length-digits_of-le, number_digits_of}
-use Rattle.sg_text.specs.Bytes.{newline, carriage_return, space, double_quote, backslash}
+use Rattle.sg_text.specs.Bytes.{newline, carriage_return, space, double_quote}
 use Rattle.sg_text.specs.Strings.{unescaped}
 use Rattle.sg_text.specs.Forms.{value_of}
 use Rattle.sg_kinds.proofs.Elementary.{and_true, eq_is, eq_false, le_is, le_true, lt_is, not_true}
-use Rattle.sg_script.specs.Words.{Cut, is_space, word_len, spaces_at, word_at, behind_spaces, next_word, closing, next_string, last_of}
+use Rattle.sg_script.specs.Words.{is_space, word_len, spaces_at, word_at, behind_spaces, next_word, closing, next_string, last_of}
 use Rattle.sg_script.specs.Forms.{is_name_byte, is_name, name_of, is_graphic, is_file_name, file_name_of, is_count, count_of, has_length}
 use Rattle.sg_script.specs.Spelled.{escaped, string_of, is_place, is_text}
 

@@ -1,25 +1,24 @@
 -- What spells commands is read as these commands.
-use Rattle.std.specs.Prelude.{◌≡◌, refl, ℕ, zero, suc, ◌+◌, ◌-◌, ◌<◌, ◌≤◌, Bool, true, false, not, ◌&&◌, ◌==◌, nat_lt, if◌then◌else◌, List, [], ◌∷◌, ◌++◌, length, take, map, codes, Option, Some, None, option_map, option_and_then, Ok, Err}
+use Rattle.std.specs.Prelude.{◌≡◌, refl, ℕ, zero, suc, ◌+◌, ◌-◌, ◌≤◌, Bool, true, false, not, ◌&&◌, ◌==◌, nat_le, nat_lt, if◌then◌else◌, List, [], ◌∷◌, ◌++◌, length, take, map, Some, None, option_map, option_and_then, Ok, Err}
 use Rattle.std.specs.List.{All, list_all, slice_split, join_with_byte}
 use Rattle.std.specs.Str.Lines.{lines, lines_of_parts, strip_carriage_return}
 use Rattle.std.specs.Fmt.{decimal}
-use Rattle.std.proofs.Common.{sym, ◌∙◌, ap, arith, get_or}
+use Rattle.std.proofs.Common.{◌∙◌, ap, arith, get_or}
 use Rattle.std.proofs.lemmas.Bool.{and_parts}
 use Rattle.std.proofs.lemmas.Bool.Decides.{nat_tests}
 use Rattle.std.proofs.lemmas.List.Elements.{All-nil, All-cons}
 use Rattle.std.proofs.lemmas.List.Splits.{slice_split_none, slice_split_at}
-use Rattle.sg_text.specs.Bytes.{newline, carriage_return, space}
+use Rattle.sg_text.specs.Bytes.{newline, space}
 use Rattle.sg_text.specs.Strings.{unescaped}
-use Rattle.sg_kinds.proofs.Elementary.{and_true, eq_false, not_true}
+use Rattle.sg_kinds.proofs.Elementary.{and_true, eq_false, le_is, not_true}
 use Rattle.sg_script.specs.declared.command.Command.{Command}
 use Rattle.sg_script.specs.declared.command.Command.TheVariants.{New, Load, Switch, Show, Next, Prev, Up, First, Sibling, Goto, Do, Delete, Remove, InsertBefore, InsertAfter, Cut as CutOut, Copy, Paste, Text, TypeIn, Erase, Enter, Abandon, Alternate, Elide, Undo, Redo, Save, SaveText}
 use Rattle.sg_script.specs.declared.lines.Said.TheVariants as said
-use Rattle.sg_script.specs.declared.fault.ScriptFault.TheVariants.{Long, Many}
-use Rattle.sg_script.specs.Words.{next_word, next_string, last_of}
+use Rattle.sg_script.specs.declared.fault.ScriptFault.TheVariants.{Long, Line, Many}
 use Rattle.sg_script.specs.Forms.{is_name, name_of, is_file_name, file_name_of, count_of}
 use Rattle.sg_script.specs.Commands.{one_name, one_file, one_count, one_string, loaded, placed, command_of}
-use Rattle.sg_script.specs.Script.{says_nothing, meaning_of, commands_said, commands_in, is_unknown, bad_line, verdict, script_of}
-use Rattle.sg_script.specs.Spelled.{escaped, string_of, line_of, is_place, is_text, has_forms, text_of}
+use Rattle.sg_script.specs.Script.{says_nothing, meaning_of, commands_said, commands_in, is_unknown, bad_line, fault_in, verdict, script_of}
+use Rattle.sg_script.specs.Spelled.{string_of, line_of, is_place, is_text, has_forms, text_of, is_script}
 use Rattle.sg_script.proofs.Spelled.{is_plain, first_word, name_word, name_plain, name_there, name_is, name_last, file_plain, file_is, file_last, place_word, place_plain, place_there, place_is, place_last, unescaped_escaped, string_last, plain_append, string_plain}
 
 one_name_is : (b : List ℕ) → is_name b ≡ true → one_name (space ∷ b) ≡ Some b
@@ -176,14 +175,18 @@ all_said (c ∷ cs) h =
     ap (λ s. commands_said s ++ commands_in (map line_of cs)) (line_means c p.0) ∙ ap (λ more. c ∷ more) (all_said cs p.1)
 
 -- a script of lines that spell commands is read as these commands
-pub spelled_script : (cs : List Command) → list_all has_forms cs ≡ true → length cs ≤ 10000 → length (text_of cs) ≤ 1048576 → script_of (text_of cs) ≡ Ok cs
+pub spelled_script : (cs : List Command) → is_script cs ≡ true → script_of (text_of cs) ≡ Ok cs
 unfolding script_of
-spelled_script cs h few short =
+spelled_script cs h =
+    let p = and_parts (list_all has_forms cs && nat_le (length cs) 10000) (nat_le (length (text_of cs)) 1048576) h in
+    let q = and_parts (list_all has_forms cs) (nat_le (length cs) 10000) p.0 in
+    let few : length cs ≤ 10000 = le_is (length cs) 10000 q.1 in
+    let short : length (text_of cs) ≤ 1048576 = le_is (length (text_of cs)) 1048576 p.1 in
     let long : nat_lt 1048576 (length (text_of cs)) ≡ false = grind (arith, nat_tests) in
     let many : nat_lt 10000 (length cs) ≡ false = grind (arith, nat_tests) in
-    let ls : lines (text_of cs) ≡ map line_of cs = spelled_lines (map line_of cs) (all_lines cs h) in
-    ap (λ t. if t then Err Long else verdict (bad_line 1 (lines (text_of cs))) (commands_in (lines (text_of cs)))) long
-    ∙ ap (λ l. verdict (bad_line 1 l) (commands_in l)) ls
-    ∙ ap (λ b. verdict b (commands_in (map line_of cs))) (none_bad 1 cs h)
-    ∙ ap (verdict None) (all_said cs h)
+    let ls : lines (text_of cs) ≡ map line_of cs = spelled_lines (map line_of cs) (all_lines cs q.0) in
+    ap (λ t. if t then Err Long else verdict (fault_in (lines (text_of cs))) (commands_in (lines (text_of cs)))) long
+    ∙ ap (λ l. verdict (fault_in l) (commands_in l)) ls
+    ∙ ap (λ b. verdict (option_map Line b) (commands_in (map line_of cs))) (none_bad 1 cs q.0)
+    ∙ ap (verdict None) (all_said cs q.0)
     ∙ ap (λ t. if t then Err (Many (length cs)) else Ok cs) many

@@ -5,21 +5,21 @@ use Rattle.sg_script.specs.declared.command.Command.{Command}
 use Rattle.sg_script.specs.declared.command.Command.TheVariants as command
 use Rattle.sg_script.specs.declared.verbs.Verb.{Verb}
 use Rattle.sg_script.specs.declared.verbs.Verb.TheVariants.{New, Load, Switch, Show, Next, Prev, Up, First, Sibling, Goto, Do, Delete, Remove, InsertBefore, InsertAfter, Cut as CutOut, Copy, Paste, Text, TypeIn, Erase, Enter, Abandon, Alternate, Elide, Undo, Redo, Save, SaveText}
-use Rattle.sg_script.specs.Words.{word_at, next_word, next_string, last_of, is_end}
+use Rattle.sg_script.specs.Words.{word_at, next_word, is_end, last_word, last_string}
 use Rattle.sg_script.specs.Forms.{name_of, file_name_of, count_of}
 
 -- the one word or the one string that stands behind the command's own
 abbrev pub one_name : List ℕ → Option (List ℕ)
-one_name rest = option_and_then name_of (last_of (next_word rest))
+one_name rest = option_and_then name_of (last_word rest)
 
 abbrev pub one_file : List ℕ → Option (List ℕ)
-one_file rest = option_and_then file_name_of (last_of (next_word rest))
+one_file rest = option_and_then file_name_of (last_word rest)
 
 abbrev pub one_count : List ℕ → Option ℕ
-one_count rest = option_and_then count_of (last_of (next_word rest))
+one_count rest = option_and_then count_of (last_word rest)
 
 abbrev pub one_string : List ℕ → Option (List ℕ)
-one_string rest = option_map unescaped (last_of (next_string rest))
+one_string rest = option_map unescaped (last_string rest)
 
 -- how the rest of a line is read: nothing more; the name of a buffer; that of a file; a string
 abbrev pub alone : Command → List ℕ → Option Command

@@ -1,5 +1,5 @@
 -- The commands of a script, or why it is none.
-use Rattle.std.specs.Prelude.{ℕ, ◌+◌, nat_lt, Bool, true, false, ◌==◌, if◌then◌else◌, List, [], ◌∷◌, length, flat_map, Option, Some, None, Result, Ok, Err}
+use Rattle.std.specs.Prelude.{ℕ, ◌+◌, nat_lt, Bool, true, false, ◌==◌, if◌then◌else◌, List, [], ◌∷◌, length, flat_map, Option, Some, None, option_map, Result, Ok, Err}
 use Rattle.std.specs.Option.{option_map_or}
 use Rattle.std.specs.Str.Lines.{lines}
 use Rattle.sg_script.specs.declared.command.Command as declared
@@ -39,12 +39,15 @@ abbrev pub bad_line : ℕ → List (List ℕ) → Option ℕ
 bad_line n [] = None
 bad_line n (line ∷ lines) = if is_unknown (meaning_of line) then Some n else bad_line (n + 1) lines
 
+abbrev pub fault_in : List (List ℕ) → Option ScriptFault
+fault_in lines = option_map Line (bad_line 1 lines)
+
 -- at most 10,000 commands, where no line is bad
-abbrev pub verdict : Option ℕ → List declared.Command → Result (List declared.Command) ScriptFault
-verdict (Some n) commands = Err (Line n)
+abbrev pub verdict : Option ScriptFault → List declared.Command → Result (List declared.Command) ScriptFault
+verdict (Some fault) commands = Err fault
 verdict None commands = if nat_lt 10000 (length commands) then Err (Many (length commands)) else Ok commands
 
 -- a script has at most 1,048,576 bytes. Its lines end with a newline, or with a carriage return and a newline
 unfoldable pub script_of : List ℕ → Result (List declared.Command) ScriptFault
 script_of bytes =
-    if nat_lt 1048576 (length bytes) then Err Long else verdict (bad_line 1 (lines bytes)) (commands_in (lines bytes))
+    if nat_lt 1048576 (length bytes) then Err Long else verdict (fault_in (lines bytes)) (commands_in (lines bytes))

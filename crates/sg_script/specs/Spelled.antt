@@ -1,5 +1,5 @@
 -- How a command is spelled, and a script of such lines.
-use Rattle.std.specs.Prelude.{ℕ, Bool, true, not, ◌&&◌, ◌||◌, ◌==◌, nat_lt, if◌then◌else◌, List, [], ◌∷◌, ◌++◌, map, codes}
+use Rattle.std.specs.Prelude.{ℕ, Bool, true, not, ◌&&◌, ◌||◌, ◌==◌, nat_le, nat_lt, if◌then◌else◌, List, [], ◌∷◌, ◌++◌, length, map, codes}
 use Rattle.std.specs.List.{list_all, join_with_byte}
 use Rattle.std.specs.Fmt.{decimal}
 use Rattle.sg_text.specs.Bytes.{newline, carriage_return, space, double_quote, backslash, letter_n}
@@ -49,8 +49,8 @@ line_of Redo = codes "redo"
 line_of (Save file) = codes "save " ++ file
 line_of (SaveText file) = codes "save-text " ++ file
 
--- whether its words have their forms: a line and a column are from 1 on and have at most nine digits, and a string holds no
--- carriage return
+-- whether its words have their forms: a line and a column are from 1 on and have at most nine digits, and a string
+-- holds no carriage return
 abbrev pub is_place : ℕ → Bool
 is_place n = nat_lt 0 n && nat_lt n 1000000000
 
@@ -72,3 +72,8 @@ has_forms _ = true
 -- the lines that spell commands, joined by newlines
 abbrev pub text_of : List Command → List ℕ
 text_of commands = join_with_byte newline (map line_of commands)
+
+-- whether they are a script: their words have their forms, and they are within the limits
+abbrev pub is_script : List Command → Bool
+is_script commands =
+    list_all has_forms commands && nat_le (length commands) 10000 && nat_le (length (text_of commands)) 1048576

@@ -57,3 +57,9 @@ is_end rest = list_all is_space rest
 -- a word behind which the line ends
 abbrev pub last_of : Option Cut → Option (List ℕ)
 last_of o = option_and_then (λ c. if is_end c.1 then Some c.0 else None) o
+
+abbrev pub last_word : List ℕ → Option (List ℕ)
+last_word rest = last_of (next_word rest)
+
+abbrev pub last_string : List ℕ → Option (List ℕ)
+last_string rest = last_of (next_string rest)

@@ -46,8 +46,8 @@ impl FileName {
     }
 }
 
-/// A command of a script, with its words: the name of a buffer, the name of a file, a line and a column from 1, or what a string
-/// stands for.
+/// A command of a script, with its words: the name of a buffer, the name of a file, a line and a column from 1, or what
+/// a string stands for.
 #[derive(Drop)]
 pub enum Command {
     New(Text),

@@ -1,15 +1,14 @@
 //! Laws of scripts, each as the contract of a function without code.
-ghost use Rattle.std.specs.Prelude.{◌≡◌, ◌≤◌, List, length, true, Some, Ok as IsOk};
-ghost use Rattle.std.specs.List.{list_all};
+ghost use Rattle.std.specs.Prelude.{◌≡◌, List, true, Some, Ok as IsOk};
 ghost use Rattle.sg_script.specs.declared.command.Command.{Command};
 ghost use Rattle.sg_script.specs.Commands.{command_of};
 ghost use Rattle.sg_script.specs.Script.{script_of};
-ghost use Rattle.sg_script.specs.Spelled.{line_of, has_forms, text_of};
+ghost use Rattle.sg_script.specs.Spelled.{line_of, has_forms, text_of, is_script};
 
-/// Each command whose words have their forms has a line that spells it, and is the command of that line. Lines that spell
-/// commands, joined by newlines, are a script of these commands, within the limits of scripts.
+/// Each command whose words have their forms has a line that spells it, and is the command of that line. Lines that
+/// spell commands, joined by newlines, are a script of these commands, within the limits of scripts.
 #[tactic(auto, using(crate::proofs::SpelledScripts::spelled, crate::proofs::SpelledScripts::spelled_script))]
 pub fn spelled_commands()
     ensures line { (c : Command) → has_forms c ≡ true → command_of (line_of c) ≡ Some c }
-    ensures script { (cs : List Command) → list_all has_forms cs ≡ true → length cs ≤ 10000 → length (text_of cs) ≤ 1048576 → script_of (text_of cs) ≡ IsOk cs }
+    ensures script { (cs : List Command) → is_script cs ≡ true → script_of (text_of cs) ≡ IsOk cs }
 {}

@@ -1,7 +1,7 @@
 // Scripts.
-ghost use Rattle.std.specs.Prelude.{◌≡◌, ◌≤◌, ◌≢◌, ◌++◌, true, false, length, None, Some, Ok as IsOk, Err as IsErr, option_map, IfOk, OnOk, IfErr};
+ghost use Rattle.std.specs.Prelude.{◌≡◌, ◌≤◌, ◌≢◌, ◌++◌, true, false, length, None, Some, Ok as IsOk, Err as IsErr, IfOk, OnOk, IfErr};
 ghost use Rattle.std.specs.Str.Lines.{lines};
-ghost use Rattle.sg_script.specs.Script.{meaning_of, commands_said, commands_in, is_unknown, bad_line, script_of};
+ghost use Rattle.sg_script.specs.Script.{meaning_of, commands_said, commands_in, is_unknown, fault_in, script_of};
 ghost use Rattle.sg_script.specs.declared.fault.ScriptFault.TheVariants.{Line};
 
 use crate::command::Command;
@@ -41,8 +41,8 @@ fn take_line(
 fn read_lines(alloc: Global, bytes: &[u8]) -> Result<Vec<Command>, ScriptFault>
     requires { length bytes.now ≤ 1048576 }
     ensures ok { IfOk result (λ cs. cs.items ≡ commands_in (lines bytes.now)) }
-    ensures known { IfOk result (λ cs. bad_line 1 (lines bytes.now) ≡ None) }
-    ensures fault { IfErr result (λ f. f ≢ ScriptFault.NoMemory → option_map Line (bad_line 1 (lines bytes.now)) ≡ Some f) }
+    ensures known { IfOk result (λ cs. fault_in (lines bytes.now) ≡ None) }
+    ensures fault { IfErr result (λ f. f ≢ ScriptFault.NoMemory → fault_in (lines bytes.now) ≡ Some f) }
 {
     let mut commands = Vec::new(alloc);
     let mut number = 1;
@@ -60,9 +60,9 @@ fn read_lines(alloc: Global, bytes: &[u8]) -> Result<Vec<Command>, ScriptFault>
 
 /// The commands that the lines of a script spell, in their order.
 ///
-/// An empty line and a line that begins with `#` say nothing. Of several faults the first is answered: `Long` where there are
-/// over 1,048,576 bytes, else `Line` with the number of the first line that is no command, counted from 1 over all lines, else
-/// `Many` with the number of commands where it is over 10,000. `NoMemory` may come at any text.
+/// An empty line and a line that begins with `#` say nothing. Of several faults the first is answered: `Long` where
+/// there are over 1,048,576 bytes, else `Line` with the number of the first line that is no command, counted from 1
+/// over all lines, else `Many` with the number of commands where it is over 10,000. `NoMemory` may come at any text.
 #[tactic(auto, unfolding(crate::specs::Script::script_of))]
 pub fn read(alloc: Global, bytes: &[u8]) -> Result<Vec<Command>, ScriptFault>
     ensures ok { IfOk result (λ cs. script_of bytes.now ≡ IsOk cs.items) }

@@ -1,7 +1,7 @@
 // Words of a line.
 ghost use Rattle.std.specs.Prelude.{◌≡◌, ◌<◌, ◌≤◌, not, false, length, MatchOption, Some, None, IfSome};
 ghost use Rattle.std.specs.List.{prefix_len};
-ghost use Rattle.sg_script.specs.Words.{word_len, word_at, spaces_at, behind_spaces, next_word, closing, string_in, string_at, next_string, is_end, last_of};
+ghost use Rattle.sg_script.specs.Words.{word_len, word_at, spaces_at, behind_spaces, next_word, closing, string_in, string_at, next_string, is_end, last_word, last_string};
 
 /// A word, or what stands between the quotes of a string, and what follows it on the line.
 #[derive(Clone, Copy)]
@@ -84,23 +84,23 @@ fn closing(bytes: &[u8]) -> Option<usize>
 }
 
 // a string behind its quote
-fn string_in(inner: &[u8]) -> Option<Cut<'_>>
-    ensures { MatchOption result (string_in inner.now ≡ None) (λ c. string_in inner.now ≡ Some (c.word.now, c.rest.now)) }
+fn string_in(text: &[u8]) -> Option<Cut<'_>>
+    ensures { MatchOption result (string_in text.now ≡ None) (λ c. string_in text.now ≡ Some (c.word.now, c.rest.now)) }
 {
-    match closing(inner) {
+    match closing(text) {
         Some(place) => Some(Cut {
-            word: &inner[..place],
-            rest: &inner[place + 1..],
+            word: &text[..place],
+            rest: &text[place + 1..],
         }),
         None => None,
     }
 }
 
 // a string that begins with its quote
-fn string_at(bytes: &[u8]) -> Option<Cut<'_>>
-    ensures { MatchOption result (string_at bytes.now ≡ None) (λ c. string_at bytes.now ≡ Some (c.word.now, c.rest.now)) }
+fn string_at(text: &[u8]) -> Option<Cut<'_>>
+    ensures { MatchOption result (string_at text.now ≡ None) (λ c. string_at text.now ≡ Some (c.word.now, c.rest.now)) }
 {
-    match bytes {
+    match text {
         [] => None,
         [first, inner @ ..] => {
             if *first == b'"' {
@@ -113,10 +113,10 @@ fn string_at(bytes: &[u8]) -> Option<Cut<'_>>
 }
 
 // the next string, behind one or more spaces
-fn next_string(rest: &[u8]) -> Option<Cut<'_>>
-    ensures { MatchOption result (next_string rest.now ≡ None) (λ c. next_string rest.now ≡ Some (c.word.now, c.rest.now)) }
+fn next_string(text: &[u8]) -> Option<Cut<'_>>
+    ensures { MatchOption result (next_string text.now ≡ None) (λ c. next_string text.now ≡ Some (c.word.now, c.rest.now)) }
 {
-    match behind_spaces(rest) {
+    match behind_spaces(text) {
         Some(bytes) => string_at(bytes),
         None => None,
     }
@@ -131,7 +131,7 @@ pub fn is_end(rest: &[u8]) -> bool
 
 /// The next word, where only spaces follow it.
 pub fn last_word(rest: &[u8]) -> Option<&[u8]>
-    ensures { MatchOption result (last_of (next_word rest.now) ≡ None) (λ w. last_of (next_word rest.now) ≡ Some w.now) }
+    ensures { MatchOption result (last_word rest.now ≡ None) (λ w. last_word rest.now ≡ Some w.now) }
 {
     match next_word(rest) {
         Some(cut) if is_end(cut.rest) => Some(cut.word),
@@ -141,7 +141,7 @@ pub fn last_word(rest: &[u8]) -> Option<&[u8]>
 
 /// The next string, where only spaces follow it.
 pub fn last_string(rest: &[u8]) -> Option<&[u8]>
-    ensures { MatchOption result (last_of (next_string rest.now) ≡ None) (λ w. last_of (next_string rest.now) ≡ Some w.now) }
+    ensures { MatchOption result (last_string rest.now ≡ None) (λ w. last_string rest.now ≡ Some w.now) }
 {
     match next_string(rest) {
         Some(cut) if is_end(cut.rest) => Some(cut.word),

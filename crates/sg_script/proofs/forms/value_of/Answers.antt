@@ -1,4 +1,4 @@
-use Rattle.std.proofs.Common.{◌≡◌, ◌<◌, ◌≤◌, ◌^◌, length, slice_index_or, arith}
+use Rattle.std.proofs.Common.{◌≤◌, ◌^◌, length, slice_index_or, arith}
 use Rattle.sg_script.proofs.Counts.{digit_at, at_most_nine, tens}
 use Rattle.sg_script.proofs.forms.value_of.Goals as goal
 
