@@ -31,11 +31,14 @@ known_at n [] k id h e = cc
 known_at n (l ∷ ls) zero id h e = let same : l ≡ live.Kept id = cc in subst (IsKnown n) same h.0
 known_at n (l ∷ ls) (suc k) id h e = known_at n ls k id h.1 e
 
--- what is known stays known in a larger pool
 known_more_one : (m n : ℕ) (l : Live) → m ≤ n → IsKnown m l → IsKnown n l
 known_more_one m n (live.Truth b) le h = tt
 known_more_one m n (live.Number z) le h = tt
 known_more_one m n (live.Kept k) le h = omega (arith, h)
+
+-- what is known stays known in a larger pool
+pub known_stays : (us vs : List Value) (l : Live) → IsGrown us vs → IsKnown (length us) l → IsKnown (length vs) l
+known_stays us vs l g h = known_more_one (length us) (length vs) l (grown_longer us vs g) h
 
 pub known_more : (m n : ℕ) (ls : List Live) → m ≤ n → AreKnown m ls → AreKnown n ls
 known_more m n [] l h = tt

@@ -149,14 +149,11 @@ pub with_body : (inside : Inside) (pool : List Value) (o : Option Expr) (e : Exp
 with_body inside pool o e vs fuel left a is h = subst (λ x. IsReached pool a left (limited (body_reached inside x vs fuel))) (sym is) (reached_limited pool a left (inside e vs fuel) h)
 
 -- a case whose pattern matches, and one whose pattern does not
-module _ (spec : Spec) (inside : Inside) (start pool last : List Value) (args : List ℕ) (env0 env env2 : List Live) (x : Live) (p tree : Pattern) (e : Expr) (rest : Cases) (fuel0 fuel : ℕ) (whole : Reached)
-    (same_pool : pool ≡ start) (same_env : env ≡ env0) (same_fuel : fuel ≡ fuel0) (same_tree : tree ≡ p) (known : IsKnown (length start) x) (g : IsGrown pool last)
+module _ (spec : Spec) (inside : Inside) (pool last : List Value) (args : List ℕ) (env0 env env2 : List Live) (x : Live) (p tree : Pattern) (e : Expr) (rest : Cases) (fuel0 fuel : ℕ) (whole : Reached)
+    (same_env : env ≡ env0) (same_fuel : fuel ≡ fuel0) (same_tree : tree ≡ p) (known : IsKnown (length pool) x) (g : IsGrown pool last)
     (is : first_case spec inside (value_in last x) (Case p e rest) (bound_in last args env0) fuel0 ≡ whole) where
-  known_there : IsKnown (length pool) x
-  known_there = subst (λ l. IsKnown (length l) x) (sym same_pool) known
-
   bound_there : (o : Option (List Value)) → bound_by spec tree (value_in pool x) ≡ o → bound_by spec p (value_in last x) ≡ o
-  bound_there o b = ap (bound_by spec p) (live_stays pool last x g known_there) ∙ ap (λ t. bound_by spec t (value_in pool x)) (sym same_tree) ∙ b
+  bound_there o b = ap (bound_by spec p) (live_stays pool last x g known) ∙ ap (λ t. bound_by spec t (value_in pool x)) (sym same_tree) ∙ b
 
   pub case_taken : IsMatched pool (bound_by spec tree (value_in pool x)) env env2 true → inside e (bound_in last args env2) fuel ≡ whole
   case_taken m =

@@ -6,7 +6,7 @@ ghost use Rattle.sg_kinds.specs.PatternView.{literal_of};
 ghost use Rattle.sg_kinds.specs.ExprView.{expr_of, exprs_of, cases_of};
 ghost use Rattle.sg_kinds.specs.Expressions.{Single, Binary, Logical, Cons, Choice, Apply, Call, Let, With};
 ghost use Rattle.sg_kinds.specs.Evaluation.{Gives, untyped, value_within, step as step_of, limited, made_value, row_reached, first_case};
-ghost use Rattle.sg_eval.specs.Lives.{value_in, AreKnown, bindings, bound_in, IsUsable, IsReached, AreReached, IsHalted, needs_second as needs_second_of};
+ghost use Rattle.sg_eval.specs.Lives.{value_in, IsKnown, AreKnown, bindings, bound_in, IsReached, AreReached, IsHalted, needs_second as needs_second_of};
 ghost use Rattle.sg_eval.specs.MadeTerms.{AreMade};
 
 use crate::live::{Live, Stop};
@@ -378,7 +378,7 @@ fn first_match(
     pool: &mut Pool,
     made: &mut MadeTerms,
 ) -> Result<Live, Stop>
-    requires usable { IsUsable pool.old x }
+    requires value { IsKnown (length pool.old) x }
     requires known { AreKnown (length pool.old) (bindings scope.now.args.now env.old.items) }
     requires made { AreMade scope.now.spec.now made.old pool.old }
     ensures value { (last : List Value) → IsGrown pool.new last →
@@ -391,7 +391,7 @@ fn first_match(
     let count = env.len();
     let mut rest = cases;
     while let CaseList::More(pattern, e, next) = rest {
-        if matches(scope.alloc, scope.spec, &pattern.tree, x, pool, env)? {
+        if matches(scope.alloc, scope.spec, &pattern.tree, x, pool, made, env)? {
             let y = enter(scope, e, env, room, fuel, pool, made)?;
             env.truncate(count);
             return Ok(y);

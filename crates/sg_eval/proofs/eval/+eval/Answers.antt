@@ -12,7 +12,7 @@ use Rattle.sg_eval.specs.Lives.{value_in, IsReached, bound_in, AreUsable, IsMatc
 use Rattle.sg_eval.specs.declared.live.Live.TheVariants as live
 use Rattle.sg_eval.specs.declared.live.Stop.TheVariants as stop
 use Rattle.sg_eval.proofs.Steps.{entered, goes, stopped, stopped_limited, then_reached, reached_limited, halted, row_goes, chooses_nothing, connects_nothing, connects_second, connects_first, row_stops, row_steps, usable_push, body_there, no_function, no_body, with_body, case_taken, case_passed, take_front}
-use Rattle.sg_eval.proofs.Bindings.{known_on, known_with, bound_more, all_usable_known, usable_known}
+use Rattle.sg_eval.proofs.Bindings.{known_on, known_with, bound_more, all_usable_known, usable_known, known_stays}
 use Rattle.sg_eval.proofs.MadeLater.{made_later}
 use Rattle.sg_eval.proofs.eval.+eval.Goals as goal
 
@@ -178,7 +178,7 @@ logical-returns-else-needs_second-clause-value t c = λ last g.
 pub with-first_match-requires : goal.with-first_match-requires
 with-first_match-requires t c = (
   search rules,
-  ((c.in_ok-x.ensures.value c.enter.new.pool (grown_itself c.enter.new.pool)).1, (known_on _ _ _ _ _ c.enter.ensures.grown c.in_ok-x.ensures.env c.requires.known, c.enter.ensures.made)),
+  (usable_known c.enter.new.pool c.in_ok-x.x (c.in_ok-x.ensures.value c.enter.new.pool (grown_itself c.enter.new.pool)).1, (known_on _ _ _ _ _ c.enter.ensures.grown c.in_ok-x.ensures.env c.requires.known, c.enter.ensures.made)),
 )
 
 pub row-enter-requires : goal.row-enter-requires
@@ -220,12 +220,12 @@ row-returns-clause-value t c = λ last g.
 
 pub first_match-enter-requires : goal.first_match-enter-requires
 first_match-enter-requires t c =
-    let m = c.in_ok-matches.ensures in (
+    let m = c.in_ok-matches.ensures.matched in (
       search rules,
       (
-        known_with c.args.pool.now c.loop-rest.pool c.args.scope.now.args.now c.args.env.now.items m.more _ (grown_same _ _ c.loop-rest.invariant.same_pool)
+        known_with c.args.pool.now c.matches.new.pool c.args.scope.now.args.now c.args.env.now.items m.more _ (grown_twice _ _ _ c.loop-rest.invariant.grown c.matches.ensures.grown)
             (m.pushed ∙ ap (λ l. l ++ m.more) c.loop-rest.invariant.same_env) c.requires.known m.known,
-        c.loop-rest.invariant.made,
+        c.matches.ensures.made,
       ),
     )
 
@@ -234,13 +234,14 @@ first_match-returns-in_err-y-clause-value t c = λ last g.
     let spec = c.args.scope.now.spec.now in
     let inside = value_within spec c.args.room in
     let args = c.args.scope.now.args.now in
-    let known = usable_known c.args.pool.now c.args.x c.requires.usable in
+    let pool = c.matches.new.pool in
+    let known = known_stays c.loop-rest.pool pool c.args.x c.matches.ensures.grown c.loop-rest.invariant.value in
     let before = grown_twice _ _ _ c.enter.ensures.grown g in
-    let start = grown_twice _ _ _ (grown_same _ _ c.loop-rest.invariant.same_pool) before in
-    let m = subst (λ b. IsMatched c.loop-rest.pool (bound_by spec (pattern_of c.pattern.inside.tree) (value_in c.loop-rest.pool c.args.x)) c.loop-rest.env.items c.matches.new.bound.items b) c.if-branch.true c.in_ok-matches.ensures in
+    let start = grown_twice _ _ _ c.matches.ensures.grown before in
+    let m = subst (λ b. IsMatched pool (bound_by spec (pattern_of c.pattern.inside.tree) (value_in pool c.args.x)) c.loop-rest.env.items c.matches.new.bound.items b) c.if-branch.true c.in_ok-matches.ensures.matched in
     let is = ap (λ r. first_case spec inside (value_in last c.args.x) (cases_of r) (bound_in last args c.args.env.now.items) c.args.fuel.now) (sym c.in-More.is) ∙ c.loop-rest.invariant.goes_on last start in
-    let taken = case_taken spec inside c.args.pool.now c.loop-rest.pool last args c.args.env.now.items c.loop-rest.env.items c.matches.new.bound.items c.args.x c.in-More.pattern (pattern_of c.pattern.inside.tree) (expr_of c.in-More.e.value) (cases_of c.in-More.next.value) c.args.fuel.now c.loop-rest.fuel _
-    c.loop-rest.invariant.same_pool c.loop-rest.invariant.same_env c.loop-rest.invariant.same_fuel c.pattern.view_is known before is m in
+    let taken = case_taken spec inside pool last args c.args.env.now.items c.loop-rest.env.items c.matches.new.bound.items c.args.x c.in-More.pattern (pattern_of c.pattern.inside.tree) (expr_of c.in-More.e.value) (cases_of c.in-More.next.value) c.args.fuel.now c.loop-rest.fuel _
+    c.loop-rest.invariant.same_env c.loop-rest.invariant.same_fuel c.pattern.view_is known before is m in
     let e = rw c.deref.ensures at (c.in_err-y.ensures.value last g) in
     let p = err_from_is_err_and c.from_residual-in_err-y.result c.from_residual-in_err-y.ensures.1 in
     rw (p.1, p.2) (subst (IsReached last (Err c.in_err-y.field-0.0) c.enter.new.fuel) taken e)
@@ -250,13 +251,14 @@ first_match-returns-then-branch-clause-value t c = λ last g.
     let spec = c.args.scope.now.spec.now in
     let inside = value_within spec c.args.room in
     let args = c.args.scope.now.args.now in
-    let known = usable_known c.args.pool.now c.args.x c.requires.usable in
+    let pool = c.matches.new.pool in
+    let known = known_stays c.loop-rest.pool pool c.args.x c.matches.ensures.grown c.loop-rest.invariant.value in
     let before = grown_twice _ _ _ c.enter.ensures.grown g in
-    let start = grown_twice _ _ _ (grown_same _ _ c.loop-rest.invariant.same_pool) before in
-    let m = subst (λ b. IsMatched c.loop-rest.pool (bound_by spec (pattern_of c.pattern.inside.tree) (value_in c.loop-rest.pool c.args.x)) c.loop-rest.env.items c.matches.new.bound.items b) c.if-branch.true c.in_ok-matches.ensures in
+    let start = grown_twice _ _ _ c.matches.ensures.grown before in
+    let m = subst (λ b. IsMatched pool (bound_by spec (pattern_of c.pattern.inside.tree) (value_in pool c.args.x)) c.loop-rest.env.items c.matches.new.bound.items b) c.if-branch.true c.in_ok-matches.ensures.matched in
     let is = ap (λ r. first_case spec inside (value_in last c.args.x) (cases_of r) (bound_in last args c.args.env.now.items) c.args.fuel.now) (sym c.in-More.is) ∙ c.loop-rest.invariant.goes_on last start in
-    let taken = case_taken spec inside c.args.pool.now c.loop-rest.pool last args c.args.env.now.items c.loop-rest.env.items c.matches.new.bound.items c.args.x c.in-More.pattern (pattern_of c.pattern.inside.tree) (expr_of c.in-More.e.value) (cases_of c.in-More.next.value) c.args.fuel.now c.loop-rest.fuel _
-    c.loop-rest.invariant.same_pool c.loop-rest.invariant.same_env c.loop-rest.invariant.same_fuel c.pattern.view_is known before is m in
+    let taken = case_taken spec inside pool last args c.args.env.now.items c.loop-rest.env.items c.matches.new.bound.items c.args.x c.in-More.pattern (pattern_of c.pattern.inside.tree) (expr_of c.in-More.e.value) (cases_of c.in-More.next.value) c.args.fuel.now c.loop-rest.fuel _
+    c.loop-rest.invariant.same_env c.loop-rest.invariant.same_fuel c.pattern.view_is known before is m in
     let e = rw c.deref.ensures at (c.in_ok-y.ensures.value last g) in
     subst (IsReached last (Ok c.in_ok-y.y) c.enter.new.fuel) taken e
 
@@ -265,21 +267,25 @@ first_match-loop-rest-preserved t c =
     let spec = c.args.scope.now.spec.now in
     let inside = value_within spec c.args.room in
     let args = c.args.scope.now.args.now in
-    let known = usable_known c.args.pool.now c.args.x c.requires.usable in
-    let m = subst (λ b. IsMatched c.loop-rest.pool (bound_by spec (pattern_of c.pattern.inside.tree) (value_in c.loop-rest.pool c.args.x)) c.loop-rest.env.items c.matches.new.bound.items b) c.if-branch.false c.in_ok-matches.ensures in
+    let pool = c.matches.new.pool in
+    let grown = grown_twice _ _ _ c.loop-rest.invariant.grown c.matches.ensures.grown in
+    let known = known_stays c.loop-rest.pool pool c.args.x c.matches.ensures.grown c.loop-rest.invariant.value in
+    let m = subst (λ b. IsMatched pool (bound_by spec (pattern_of c.pattern.inside.tree) (value_in pool c.args.x)) c.loop-rest.env.items c.matches.new.bound.items b) c.if-branch.false c.in_ok-matches.ensures.matched in
+    let k = c.len-count.ensures in
+    let n : c.len-count.result ≡ length c.args.env.now.items = omega (arith, k, c.args.env.now.ok.0) in
+    let same = c.truncate-in-More.ensures.items ∙ take_front c.args.env.now.items m.more _ _ (m.pushed ∙ ap (λ l. l ++ m.more) c.loop-rest.invariant.same_env) n in
     record {
-      made = c.loop-rest.invariant.made;
-      same_env =
-          let k = c.len-count.ensures in
-          let n : c.len-count.result ≡ length c.args.env.now.items = omega (arith, k, c.args.env.now.ok.0) in
-          c.truncate-in-More.ensures.items ∙ take_front c.args.env.now.items m.more _ _ (m.pushed ∙ ap (λ l. l ++ m.more) c.loop-rest.invariant.same_env) n;
-      same_pool = c.loop-rest.invariant.same_pool;
+      made = c.matches.ensures.made;
+      same_env = same;
+      grown = grown;
+      value = known;
+      known = known_on c.args.pool.now pool args c.args.env.now.items _ grown same c.requires.known;
       same_fuel = c.loop-rest.invariant.same_fuel;
       goes_on = λ last g.
-          let is = ap (λ r. first_case spec inside (value_in last c.args.x) (cases_of r) (bound_in last args c.args.env.now.items) c.args.fuel.now) (sym c.in-More.is) ∙ c.loop-rest.invariant.goes_on last g in
+          let is = ap (λ r. first_case spec inside (value_in last c.args.x) (cases_of r) (bound_in last args c.args.env.now.items) c.args.fuel.now) (sym c.in-More.is) ∙ c.loop-rest.invariant.goes_on last (grown_twice _ _ _ c.matches.ensures.grown g) in
           rw c.deref-rest.ensures
-          (case_passed spec inside c.args.pool.now c.loop-rest.pool last args c.args.env.now.items c.loop-rest.env.items c.matches.new.bound.items c.args.x c.in-More.pattern (pattern_of c.pattern.inside.tree) (expr_of c.in-More.e.value) (cases_of c.in-More.next.value) c.args.fuel.now c.loop-rest.fuel _
-          c.loop-rest.invariant.same_pool c.loop-rest.invariant.same_env c.loop-rest.invariant.same_fuel c.pattern.view_is known (subst (λ p. IsGrown p last) (sym c.loop-rest.invariant.same_pool) g) is m);
+          (case_passed spec inside pool last args c.args.env.now.items c.loop-rest.env.items c.matches.new.bound.items c.args.x c.in-More.pattern (pattern_of c.pattern.inside.tree) (expr_of c.in-More.e.value) (cases_of c.in-More.next.value) c.args.fuel.now c.loop-rest.fuel _
+          c.loop-rest.invariant.same_env c.loop-rest.invariant.same_fuel c.pattern.view_is known g is m);
     }
 
 -- what is kept of made terms, where the pool has grown since

@@ -1,9 +1,9 @@
-use Rattle.std.proofs.Common.{◌≡◌, ◌*◌, ◌+◌, List, [], map}
+use Rattle.std.proofs.Common.{◌≡◌, ◌*◌, ◌+◌, List, [], length, map}
 use Rattle.sg_kinds.specs.Values.{Value}
 use Rattle.sg_pool.specs.Pools.{IsGrown}
 use Rattle.sg_kinds.specs.ExprView.{exprs_of, cases_of}
 use Rattle.sg_kinds.specs.Evaluation.{value_within, row_reached, first_case}
-use Rattle.sg_eval.specs.Lives.{value_in, bound_in, AreUsable}
+use Rattle.sg_eval.specs.Lives.{value_in, IsKnown, AreKnown, bindings, bound_in, AreUsable}
 use Rattle.sg_eval.specs.MadeTerms.{AreMade}
 use Rattle.sg_eval.proofs.eval.+eval.Given as goal
 
@@ -63,9 +63,11 @@ abbrev pub invariant-first_match-loop-rest : goal.invariant-first_match-loop-res
 invariant-first_match-loop-rest l = record {
   made : AreMade l.scope.spec.now l.made l.pool;
   same_env : l.env.items ≡ l.initial.env.items;
-  same_pool : l.pool ≡ l.initial.pool;
+  grown : IsGrown l.initial.pool l.pool;
+  value : IsKnown (length l.pool) l.x;
+  known : AreKnown (length l.pool) (bindings l.scope.args.now l.env.items);
   same_fuel : l.fuel ≡ l.initial.fuel;
-  goes_on : (last : List Value) → IsGrown l.initial.pool last
+  goes_on : (last : List Value) → IsGrown l.pool last
       → first_case l.scope.spec.now (value_within l.scope.spec.now l.room) (value_in last l.x) (cases_of l.rest) (bound_in last l.scope.args.now l.initial.env.items) l.initial.fuel
       ≡ first_case l.scope.spec.now (value_within l.scope.spec.now l.room) (value_in last l.x) (cases_of l.fn.cases) (bound_in last l.scope.args.now l.initial.env.items) l.initial.fuel;
 }
