@@ -81,7 +81,15 @@ fn all_match(
             let Some(kid) = kid_at(id, from, pool) else {
                 return Ok(false);
             };
-            if !matches(alloc, spec, first, Live::Kept(kid.number), pool, made, bound)? {
+            if !matches(
+                alloc,
+                spec,
+                first,
+                Live::Kept(kid.number),
+                pool,
+                made,
+                bound,
+            )? {
                 return Ok(false);
             }
             all_match(alloc, spec, rest, id, from + 1, pool, made, bound)

@@ -4,10 +4,9 @@ use Rattle.std.proofs.lemmas.Result.{err_from_is_err_and}
 use Rattle.sg_kinds.specs.Values.{Tree, row_of}
 use Rattle.sg_kinds.specs.declared.marks.FaultKind.TheVariants.{NoMatch}
 use Rattle.sg_kinds.specs.PatternView.{pattern_of}
-use Rattle.sg_pool.specs.Pools.{IsGrown}
 use Rattle.sg_kinds.specs.ExprView.{expr_of, exprs_of, cases_of}
 use Rattle.sg_kinds.specs.Evaluation.{Gives, limited, value_within, row_reached, first_case, bound_by}
-use Rattle.sg_pool.proofs.Grown.{grown_itself, grown_twice, grown_same}
+use Rattle.sg_pool.proofs.Grown.{grown_itself, grown_twice}
 use Rattle.sg_eval.specs.Lives.{value_in, IsReached, bound_in, AreUsable, IsMatched}
 use Rattle.sg_eval.specs.declared.live.Live.TheVariants as live
 use Rattle.sg_eval.specs.declared.live.Stop.TheVariants as stop

@@ -25,15 +25,15 @@ all_match-returns-else-not-branch-clause-matched t c =
     let id = c.args.id in
     let kid = c.in-Some.kid in
     let later : kids_from c.args.from (value_at last id) ≡ AndValue (value_at last kid) (kids_from (suc c.args.from) (value_at last id))
-        = kid_later us last id kid c.args.from (grown_twice us mid last c.matches.ensures.grown c.all_match.ensures.grown) c.requires.known c.in-Some.ensures.known c.in-Some.ensures.value in
+    = kid_later us last id kid c.args.from (grown_twice us mid last c.matches.ensures.grown c.all_match.ensures.grown) c.requires.known c.in-Some.ensures.known c.in-Some.ensures.value in
     let longer = grown_longer us mid c.matches.ensures.grown in
     let low : kid < length mid = omega (arith, longer, c.in-Some.ensures.known) in
     let first = subst (IsMatched mid _ c.args.bound.now.items c.matches.new.bound.items) c.if-not-branch.false c.in_ok-matches-in-More.ensures.matched in
     let here : IsMatched mid (bound_by spec (pattern_of c.in-More.first.value) (value_at mid kid)) c.args.bound.now.items c.matches.new.bound.items true
-        = subst (λ k. IsMatched mid (bound_by spec (pattern_of c.in-More.first.value) (value_at mid k)) c.args.bound.now.items c.matches.new.bound.items true) c.kid.view_is
-          (subst (λ p. IsMatched mid (bound_by spec (pattern_of p) (value_at mid c.kid.inside.number)) c.args.bound.now.items c.matches.new.bound.items true) c.deref.ensures first) in
+    = subst (λ k. IsMatched mid (bound_by spec (pattern_of c.in-More.first.value) (value_at mid k)) c.args.bound.now.items c.matches.new.bound.items true) c.kid.view_is
+    (subst (λ p. IsMatched mid (bound_by spec (pattern_of p) (value_at mid c.kid.inside.number)) c.args.bound.now.items c.matches.new.bound.items true) c.deref.ensures first) in
     let stays = matched_later mid last _ (bound_by spec (pattern_of c.in-More.first.value) (value_at last kid)) _ _ true c.all_match.ensures.grown
-        (ap (bound_by spec (pattern_of c.in-More.first.value)) (value_stays mid last kid c.all_match.ensures.grown low)) here in
+    (ap (bound_by spec (pattern_of c.in-More.first.value)) (value_stays mid last kid c.all_match.ensures.grown low)) here in
     let next : c.args.from + 1 ≡ suc c.args.from = omega arith in
     rw (later, c.in-More.is)
     (if_ok_more c.all_match.result _ _ (λ b m.
@@ -50,7 +50,7 @@ all_match-returns-then-not-branch-clause-matched t c =
     let id = c.args.id in
     let kid = c.in-Some.kid in
     let later : kids_from c.args.from (value_at mid id) ≡ AndValue (value_at mid kid) (kids_from (suc c.args.from) (value_at mid id))
-        = kid_later us mid id kid c.args.from c.matches.ensures.grown c.requires.known c.in-Some.ensures.known c.in-Some.ensures.value in
+    = kid_later us mid id kid c.args.from c.matches.ensures.grown c.requires.known c.in-Some.ensures.known c.in-Some.ensures.value in
     let first = subst (IsMatched mid _ c.args.bound.now.items c.matches.new.bound.items) c.if-not-branch.true c.in_ok-matches-in-More.ensures.matched in
     rw (later, c.in-More.is)
     (matched_not spec mid (pattern_of c.in-More.first.value) (patterns_of c.in-More.rest.value) (value_at mid kid) (kids_from (suc c.args.from) (value_at mid id)) c.args.bound.now.items c.matches.new.bound.items
