@@ -105,15 +105,15 @@ slots_long spec p zero =
     ∙ omega (arith, types_long spec (phylum_of spec.ops p), length-map (locals_of spec.ops p) (λ (l : Local). l.of))
 slots_long spec p (suc k) = omega (arith, types_long spec (slice_get (args_of spec.ops p) k))
 
-owed_there : (spec : Spec) (op k slot : ℕ) → IsVertex (rules_of spec) op (occurrence k slot) → is_owed (rules_of spec) op k slot ≡ true → sound.is_owed spec op k slot ≡ true
-owed_there spec op (suc k) slot is owed = owed
-owed_there spec op zero slot is owed =
-    and_from (is_some (slot_type spec op 0 slot)) (not (sound.is_inherited_there spec op 0 slot))
-    (ap is_some (slice_get-get_or (slots_there spec op 0) slot 0 (omega (arith, is, slots_long spec op 0)))) owed
+-- what an operator owes by its rules alone is what soundness speaks of, where there is such a slot
+pub owed_alike : (spec : Spec) (op k slot : ℕ) → IsVertex (rules_of spec) op (occurrence k slot) → is_owed (rules_of spec) op k slot ≡ sound.is_owed spec op k slot
+owed_alike spec op (suc k) slot is = refl
+owed_alike spec op zero slot is =
+    sym (ap (λ b. b && not (sound.is_inherited_there spec op 0 slot)) (ap is_some (slice_get-get_or (slots_there spec op 0) slot 0 (omega (arith, is, slots_long spec op 0)))))
 
 pub owed_rule : (spec : Spec) → HasRules spec → (op : ℕ) (o : Occurrence) → IsVertex (rules_of spec) op o → is_owed (rules_of spec) op o.at o.slot ≡ true → (r : Rule) × (rule_for spec.rules op o ≡ Some r)
 owed_rule spec rules op o is owed =
-    let one = rules.one_each op o.at o.slot (op_there (rules_of spec) op o is) (owed_there spec op o.at o.slot is owed) in
+    let one = rules.one_each op o.at o.slot (op_there (rules_of spec) op o is) (sym (owed_alike spec op o.at o.slot is) ∙ owed) in
     counted_found (defines op o) spec.rules (omega (arith, one))
 
 -- a leaf's phylum has no operator and no inherited attribute

@@ -1,5 +1,6 @@
 //! Laws of plans and visits, each as the contract of a function without code.
 ghost use Rattle.std.specs.Prelude.{◌≡◌, ◌⊎◌, ◌≤◌, ◌<◌, ◌+◌, ◌-◌, ℕ, [], ◌∷◌, ◌++◌, Some, false, length, map, slice_get, Contains};
+ghost use Rattle.sg_kinds.specs.Dependencies.{occurrence};
 ghost use Rattle.sg_kinds.specs.Fits.{Fits};
 ghost use Rattle.sg_kinds.specs.FromScratch.{value_in};
 ghost use Rattle.sg_kinds.specs.Instances.{Site, args_at, site_of};
@@ -7,7 +8,7 @@ ghost use Rattle.sg_kinds.specs.Keys.{operator_in};
 ghost use Rattle.sg_kinds.specs.Nets.{Reference, Holding, label_of, net_of, referred};
 ghost use Rattle.sg_kinds.specs.Outcome.{outcome};
 ghost use Rattle.sg_kinds.specs.Places.{Place, put, sub};
-ghost use Rattle.sg_kinds.specs.Sound.{IsSound};
+ghost use Rattle.sg_kinds.specs.Sound.{IsSound, is_owed};
 ghost use Rattle.sg_kinds.specs.Specification.{is_inherited, rules_of};
 ghost use Rattle.sg_kinds.specs.Terms.{Term};
 ghost use Rattle.sg_kinds.specs.Values.{Value};
@@ -20,6 +21,8 @@ ghost use Rattle.sg_kinds.specs.declared.spec.Rule.{Rule};
 ghost use Rattle.sg_kinds.specs.declared.spec.Rules.{Rules};
 ghost use Rattle.sg_kinds.specs.declared.spec.Spec.{Spec};
 ghost use Rattle.sg_orders.specs.LiveSites.{IsLive};
+ghost use Rattle.sg_orders.specs.Proper.{is_owed as is_owed_by_rules};
+ghost use Rattle.sg_orders.specs.Vertices.{IsVertex};
 ghost use Rattle.sg_plans.specs.Planned.{IsPlanned};
 ghost use Rattle.sg_plans.specs.Segments.{HasVisit, IsGivenBy, IsLeafSlot, IsNodeAt, IsOfVisit, IsOutside, IsTaken, bearer, visit_at};
 ghost use Rattle.sg_plans.specs.Stepping.{IsGivenBefore, IsOfStep, IsReady, steps_of};
@@ -165,4 +168,11 @@ pub fn outside_stays()
         IsLive rules t i → IsLive rules (put t u s) i }
     ensures bearer { (t s : Term) (i : Site Place) → bearer t i ≡ bearer s i }
     ensures args { (t s : Term) (i : Site Place) → args_at (net_of t) i ≡ args_at (net_of s) i }
+{}
+
+/// Of a slot that is there, the rules alone say what soundness says of it: whether the operator's equations define it.
+#[tactic(auto, using(crate::proofs::Equations::owed_alike))]
+pub fn owed_alike()
+    ensures { (spec : Spec) (op k slot : ℕ) → IsVertex (rules_of spec) op (occurrence k slot) →
+        is_owed_by_rules (rules_of spec) op k slot ≡ is_owed spec op k slot }
 {}
