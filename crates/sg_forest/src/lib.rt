@@ -5,10 +5,10 @@
 //! dropped: two subtrees change places by three writes, and nothing else moves.
 #![tactic(auto)]
 
-pub mod forest;
-pub mod label;
+mod forest;
+mod label;
 mod node;
-pub mod node_id;
+mod node_id;
 mod nodes;
 
 pub use forest::{Forest, NoMemory, Refused};
