@@ -14,6 +14,7 @@ pub mod StateLemmas
 pub mod FirstLemmas
 pub mod LayoutLemmas
 pub mod LinkLemmas
+pub mod BegunLemmas
 pub mod LookLemmas
 pub mod PlaceLemmas
 pub mod ClashLemmas

@@ -5,6 +5,7 @@ pub mod Conflict
 pub mod Firsts
 pub mod Items
 pub mod Least
+pub mod Lefts
 pub mod Lookaheads
 pub mod Prefixes
 pub mod Tables

@@ -8,6 +8,7 @@ mod items;
 pub mod laws;
 mod layout;
 mod least_set;
+mod lefts;
 mod lookaheads;
 mod making;
 mod moves;

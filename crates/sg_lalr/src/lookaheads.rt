@@ -1,13 +1,14 @@
 //! The lookaheads of the items of all states.
-ghost use Rattle.std.specs.Prelude.{◌≡◌, ℕ, suc, ◌+◌, ◌<◌, ◌≤◌, ◌↔◌, ◌⊎◌, List, Some, length, map, All, IfOk, OnOk, IsTrue};
+ghost use Rattle.std.specs.Prelude.{◌≡◌, ℕ, suc, ◌+◌, ◌<◌, ◌≤◌, ◌↔◌, ◌⊎◌, List, Some, length, map, slice_index, All, IfOk, OnOk, IsTrue};
 ghost use Rattle.sg_sets.specs.Members.{Has};
 ghost use Rattle.sg_sets.specs.Paths.{Linked};
 ghost use Rattle.sg_sets.specs.Rows.{Holds, SameShape};
 ghost use Rattle.sg_lalr.specs.Closure.{InRange};
-ghost use Rattle.sg_lalr.specs.Items.{Item, Before, symbol_of};
+ghost use Rattle.sg_lalr.specs.Items.{Item, item, Before, symbol_of};
 ghost use Rattle.sg_grammar.specs.Derives.{AllProductive};
 ghost use Rattle.sg_lalr.specs.Automaton.{moves_at, goto, IsSorted, IsWhole};
 ghost use Rattle.sg_lalr.specs.Least.{Grown};
+ghost use Rattle.sg_lalr.specs.Lefts.{AreLefts};
 ghost use Rattle.sg_lalr.specs.Firsts.{First, IsNullable};
 ghost use Rattle.sg_lalr.specs.Lookaheads.{node_at, rest_of, BeginsWith, IsStart, IsLaid, OpensTo, FlowsTo, Gives, AreLookaheads};
 
@@ -15,6 +16,7 @@ use crate::firsts::{first_of, firsts};
 use crate::items::Item;
 use crate::layout::{Layout, lay};
 use crate::least_set::{has_all, least_set};
+use crate::lefts::{lefts, of_symbol};
 use crate::moves::symbol_of;
 use crate::places::{place_of, target_of};
 use crate::states::{Automaton, Move};
@@ -44,13 +46,14 @@ fn rest_of<'a>(g: &'a Grammar, item: Item) -> &'a [u32]
     }
 }
 
-/// Whether an item begins a production of a symbol.
-fn begins_with(g: &Grammar, item: Item, x: u32) -> bool
-    ensures { IsTrue result ↔ BeginsWith g.now item x }
+/// The beginning of a production.
+fn beginning(q: u32) -> Item
+    ensures { result ≡ item q 0 }
 {
-    let rules = g.rules();
-    let at = item.production as usize;
-    item.dot == 0 && at < rules.len() && rules[at].left == x
+    Item {
+        production: q,
+        dot: 0,
+    }
 }
 
 /// Whether an item begins an entry.
@@ -89,18 +92,36 @@ fn link_begun(
     to: usize,
     a: usize,
     x: u32,
+    lefts: &[Vec<u32>],
     links: &mut Vec<(usize, usize)>,
 ) -> Result<(), AllocError>
     requires order { from ≤ to }
     requires to { to ≤ length nodes.now }
+    requires rising { (m n : ℕ) → from ≤ m → m < n → n < to → Before (node_at nodes.now m).item (node_at nodes.now n).item }
+    requires lefts { AreLefts g.now.rules (map (λ k. k.items) lefts.now) }
     ensures { OnOk result ((x' y : ℕ) → Linked links.new.items x' y ↔ (Linked links.old.items x' y ⊎ ((x' ≡ a) × (from ≤ y) × (y < to) × BeginsWith g.now (node_at nodes.now y).item x))) }
 {
-    for b in from..to {
-        if begins_with(g, nodes[b].item, x) {
-            links.push((a, b))?;
-        }
+    let rules = of_symbol(lefts, x);
+    for &q in rules {
+        link_item(nodes, from, to, a, beginning(q), links)?;
     }
     Ok(())
+}
+
+/// Gives the node of an item between two places, where the items rise, these lookaheads.
+fn seed_item(nodes: &[Node], from: usize, to: usize, item: Item, first: &BitSet, rows: &mut Rows)
+    requires order { from ≤ to }
+    requires to { to ≤ length nodes.now }
+    requires rising { (m n : ℕ) → from ≤ m → m < n → n < to → Before (node_at nodes.now m).item (node_at nodes.now n).item }
+    requires count { length nodes.now ≡ length rows.old.rows }
+    requires width { length first.now ≡ rows.old.width }
+    ensures shape { SameShape rows.old rows.new }
+    ensures gains { (y u : ℕ) → Holds rows.new.rows y u ↔ (Holds rows.old.rows y u ⊎ ((from ≤ y) × (y < to) × ((node_at nodes.now y).item ≡ item) × Has first.now u)) }
+{
+    let b = place_of(nodes, from, to, item);
+    if b < to && nodes[b].item == item {
+        rows.union_row(b, first);
+    }
 }
 
 /// Gives the nodes between two places that begin a production of a symbol these lookaheads.
@@ -110,28 +131,31 @@ fn seed_begun(
     from: usize,
     to: usize,
     x: u32,
+    lefts: &[Vec<u32>],
     first: &BitSet,
     rows: &mut Rows,
 )
     requires order { from ≤ to }
     requires to { to ≤ length nodes.now }
+    requires rising { (m n : ℕ) → from ≤ m → m < n → n < to → Before (node_at nodes.now m).item (node_at nodes.now n).item }
+    requires lefts { AreLefts g.now.rules (map (λ k. k.items) lefts.now) }
     requires count { length nodes.now ≡ length rows.old.rows }
     requires width { length first.now ≡ rows.old.width }
     ensures shape { SameShape rows.old rows.new }
     ensures gains { (y u : ℕ) → Holds rows.new.rows y u ↔ (Holds rows.old.rows y u ⊎ ((from ≤ y) × (y < to) × BeginsWith g.now (node_at nodes.now y).item x × Has first.now u)) }
 {
-    for b in from..to {
-        if begins_with(g, nodes[b].item, x) {
-            rows.union_row(b, first);
-        }
+    let rules = of_symbol(lefts, x);
+    for &q in rules {
+        seed_item(nodes, from, to, beginning(q), first, rows);
     }
 }
 
-/// Which symbols derive no tokens, and the terminals with which each symbol begins.
+/// Which symbols derive no tokens, the terminals with which each symbol begins, and its productions.
 #[derive(Drop)]
 struct Beginnings {
     nullable: BitSet,
     firsts: Rows,
+    lefts: Vec<Vec<u32>>,
 }
 
 /// The lookaheads of the items so far, and the links along which they flow.
@@ -167,6 +191,8 @@ fn open_node(
     requires width { begins.now.firsts.width ≡ flow.old.rows.width }
     requires firsts { (X u : ℕ) → Holds begins.now.firsts.rows X u ↔ ((X < g.now.symbols) × First g.now X u) }
     requires rows { length flow.old.rows.rows ≡ length layout.now.nodes.items }
+    requires lefts { AreLefts g.now.rules (map (λ k. k.items) begins.now.lefts.items) }
+    requires rising { (s m n : ℕ) → suc s < length layout.now.firsts.items → slice_index layout.now.firsts.items s ≤ m → m < n → n < slice_index layout.now.firsts.items (suc s) → Before (node_at layout.now.nodes.items m).item (node_at layout.now.nodes.items n).item }
     ensures shape { OnOk result (SameShape flow.old.rows flow.new.rows) }
     ensures links { OnOk result ((b c : ℕ) → Linked flow.new.links.items b c ↔ (Linked flow.old.links.items b c ⊎ ((b ≡ a) × (c < length layout.now.nodes.items) × (OpensTo g.now layout.now.nodes.items a c × Grown g.now.rules 0 (rest_of g.now (node_at layout.now.nodes.items a).item))))) }
     ensures seeds { OnOk result ((c u : ℕ) → Holds flow.new.rows.rows c u ↔ (Holds flow.old.rows.rows c u ⊎ ((c < length layout.now.nodes.items) × Gives g.now layout.now.nodes.items a c u))) }
@@ -177,9 +203,27 @@ fn open_node(
     let first = first_of(alloc, &begins.nullable, &begins.firsts, rest)?;
     let from = layout.firsts[node.state as usize];
     let to = layout.firsts[node.state as usize + 1];
-    seed_begun(g, &layout.nodes, from, to, x, &first, &mut flow.rows);
+    seed_begun(
+        g,
+        &layout.nodes,
+        from,
+        to,
+        x,
+        &begins.lefts,
+        &first,
+        &mut flow.rows,
+    );
     if has_all(&begins.nullable, rest) {
-        link_begun(g, &layout.nodes, from, to, a, x, &mut flow.links)?;
+        link_begun(
+            g,
+            &layout.nodes,
+            from,
+            to,
+            a,
+            x,
+            &begins.lefts,
+            &mut flow.links,
+        )?;
     }
     Ok(())
 }
@@ -211,6 +255,7 @@ fn link_node(
     requires width { begins.now.firsts.width ≡ flow.old.rows.width }
     requires firsts { (X u : ℕ) → Holds begins.now.firsts.rows X u ↔ ((X < g.now.symbols) × First g.now X u) }
     requires rows { length flow.old.rows.rows ≡ length layout.now.nodes.items }
+    requires lefts { AreLefts g.now.rules (map (λ k. k.items) begins.now.lefts.items) }
     ensures shape { OnOk result (SameShape flow.old.rows flow.new.rows) }
     ensures links { OnOk result ((b c : ℕ) → Linked flow.new.links.items b c ↔ (Linked flow.old.links.items b c ⊎ ((b ≡ a) × (c < length layout.now.nodes.items) × FlowsTo g.now automaton.now.moves.items layout.now.nodes.items a c))) }
     ensures seeds { OnOk result ((c u : ℕ) → Holds flow.new.rows.rows c u ↔ (Holds flow.old.rows.rows c u ⊎ ((c < length layout.now.nodes.items) × Gives g.now layout.now.nodes.items a c u))) }
@@ -270,7 +315,12 @@ pub(crate) fn all_lookaheads(
     g.sound();
     let nullable = least_set(alloc, g, 0)?;
     let firsts = firsts(alloc, g, &nullable)?;
-    let begins = Beginnings { nullable, firsts };
+    let lefts = lefts(alloc, g)?;
+    let begins = Beginnings {
+        nullable,
+        firsts,
+        lefts,
+    };
     let layout = lay(alloc, &automaton.cores)?;
     let count = layout.nodes.len();
     let mut flow = Flow {

@@ -258,3 +258,14 @@ returns-else-x-terminals-clause-seeds c =
     let count = laid.count in
     let long = c.args.layout.now.firsts.ok.0 in
     gives-shut g moves cores nodes firsts laid a x there symbol low c.args.flow.now.rows.rows c.sound.ensures (let t = c.terminals.ensures in let f = c.if-x-terminals.false in omega (arith, t, f))
+
+pub open_node-requires-clause-rising : goal.open_node-requires-clause-rising
+open_node-requires-clause-rising c =
+    let nodes : List Node = c.args.layout.now.nodes.items in
+    let firsts : List ℕ = c.args.layout.now.firsts.items in
+    let moves : List (List Move) = c.args.automaton.now.moves.items in
+    let kernels = map (λ k. k.items) c.args.automaton.now.kernels.keys in
+    let cores : List (List Item) = c.args.automaton.now.cores.items in
+    let laid = c.requires.laid in
+    let count = laid.count in
+    λ s m n low. nodes-rise c.args.g.now kernels cores moves c.args.automaton.now.origins.items c.requires.whole nodes firsts laid s m n (omega (arith, low, count))

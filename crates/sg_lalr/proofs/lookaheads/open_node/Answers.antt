@@ -5,7 +5,7 @@ use Rattle.std.proofs.lemmas.List.{get_or_read}
 use Rattle.sg_sets.specs.Members.{Has}
 use Rattle.sg_sets.specs.Rows.{Holds}
 use Rattle.sg_lalr.specs.declared.lookaheads.Node.{Node}
-use Rattle.sg_lalr.specs.Items.{item}
+use Rattle.sg_lalr.specs.Items.{item, Before}
 use Rattle.sg_lalr.specs.Least.{Grown}
 use Rattle.sg_lalr.specs.Firsts.{StandsBehind}
 use Rattle.sg_lalr.specs.Lookaheads.{node, node_at, rest_of, BeginsWith}
@@ -82,3 +82,41 @@ returns-clause-links c =
           rw w.flow-is (opened-links g c.requires.laid.0 nodes firsts laid a x c.requires.there c.requires.symbol old new null gains3)
       | else-has_all w ↦ rw w.flow-is (shut-links g c.requires.laid.0 nodes firsts laid a x c.requires.there c.requires.symbol old (λ n. both_ways c.has_all.result w.if-has_all.false (c.has_all.ensures.1 (front-null g set c.requires.nullable c.rest_of-rest.result.now (subst (Grown g.rules 0) (sym rest) n)))))
     ]
+
+pub seed_begun-requires-clause-rising : goal.seed_begun-requires-clause-rising
+seed_begun-requires-clause-rising c =
+    let nodes : List Node = c.args.layout.now.nodes.items in
+    let firsts : List ℕ = c.args.layout.now.firsts.items in
+    let a = c.args.a in
+    let laid = c.requires.laid.1 in
+    let is : c.index-node.result.now ≡ node_at nodes a = get_or_read nodes a c.index-node.result.now c.requires.there c.index-node.ensures (node 0 (item 0 0)) in
+    let s : ℕ = (node_at nodes a).state in
+    let state : c.index-node.result.now.state ≡ s = ap (λ (n : Node). n.state) is in
+    let low = laid.known a c.requires.there in
+    let count = laid.count in
+    let from : c.index-from.result.now ≡ slice_index firsts s = get_or_read firsts c.index-node.result.now.state c.index-from.result.now (omega (arith, low, count, state)) c.index-from.ensures 0 ∙ ap (slice_index firsts) state in
+    let next : c.index-node.result.now.state + 1 ≡ suc s = omega (arith, state) in
+    let to : c.index-to.result.now ≡ slice_index firsts (suc s) = get_or_read firsts (c.index-node.result.now.state + 1) c.index-to.result.now (omega (arith, low, count, next)) c.index-to.ensures 0 ∙ ap (slice_index firsts) next in
+    λ m n l k h. subst (λ (ns : List Node). Before (node_at ns m).item (node_at ns n).item) (sym c.deref.ensures.value) (c.requires.rising s m n (omega (arith, low, count)) (subst (λ z. z ≤ m) from l) k (subst (λ z. n < z) to h))
+
+pub seed_begun-requires-clause-lefts : goal.seed_begun-requires-clause-lefts
+seed_begun-requires-clause-lefts c = rw c.deref-2.ensures.value c.requires.lefts
+
+pub link_begun-requires-clause-rising : goal.link_begun-requires-clause-rising
+link_begun-requires-clause-rising c =
+    let nodes : List Node = c.args.layout.now.nodes.items in
+    let firsts : List ℕ = c.args.layout.now.firsts.items in
+    let a = c.args.a in
+    let laid = c.requires.laid.1 in
+    let is : c.index-node.result.now ≡ node_at nodes a = get_or_read nodes a c.index-node.result.now c.requires.there c.index-node.ensures (node 0 (item 0 0)) in
+    let s : ℕ = (node_at nodes a).state in
+    let state : c.index-node.result.now.state ≡ s = ap (λ (n : Node). n.state) is in
+    let low = laid.known a c.requires.there in
+    let count = laid.count in
+    let from : c.index-from.result.now ≡ slice_index firsts s = get_or_read firsts c.index-node.result.now.state c.index-from.result.now (omega (arith, low, count, state)) c.index-from.ensures 0 ∙ ap (slice_index firsts) state in
+    let next : c.index-node.result.now.state + 1 ≡ suc s = omega (arith, state) in
+    let to : c.index-to.result.now ≡ slice_index firsts (suc s) = get_or_read firsts (c.index-node.result.now.state + 1) c.index-to.result.now (omega (arith, low, count, next)) c.index-to.ensures 0 ∙ ap (slice_index firsts) next in
+    λ m n l k h. subst (λ (ns : List Node). Before (node_at ns m).item (node_at ns n).item) (sym c.deref-then-has_all.ensures.value) (c.requires.rising s m n (omega (arith, low, count)) (subst (λ z. z ≤ m) from l) k (subst (λ z. n < z) to h))
+
+pub link_begun-requires-clause-lefts : goal.link_begun-requires-clause-lefts
+link_begun-requires-clause-lefts c = rw c.deref-then-has_all-2.ensures.value c.requires.lefts
