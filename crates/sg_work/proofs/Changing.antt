@@ -51,7 +51,7 @@ mapped {X} {Y} f (x ∷ xs) y has = by has.0 has.1 has.2 (mapped f xs y)
     by (suc i) low at rest = let r = rest (i, (omega (arith, low)), at) in let c = r.1 in let l = c.1 in (r.0, (suc c.0, omega (arith, l), c.2), r.2)
 
 -- one of two places is at or below the other where they have a place at or below both
-one_above : (v w c u : List ℕ) → v ++ c ≡ w ++ u → ((x : List ℕ) × (c ≡ x ++ u)) ⊎ ((x : List ℕ) × (u ≡ x ++ c))
+pub one_above : (v w c u : List ℕ) → v ++ c ≡ w ++ u → ((x : List ℕ) × (c ≡ x ++ u)) ⊎ ((x : List ℕ) × (u ≡ x ++ c))
 one_above [] w c u same = inl (w, same)
 one_above (k ∷ v) [] c u same = inr (k ∷ v, sym same)
 one_above (k ∷ v) (h ∷ w) c u same = one_above v w c u (ap tail same)

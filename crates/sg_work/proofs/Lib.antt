@@ -2,5 +2,5 @@ pub mod Settling
 pub mod Changing
 pub mod Propagating
 pub mod Members
-pub mod Marking
+pub mod Clean
 pub mod Readers

@@ -1,18 +1,17 @@
 //! What a replacement still has to look at.
-ghost use Rattle.std.specs.Prelude.{◌≡◌, ◌≢◌, ◌↔◌, ◌⊎◌, ℕ, [], Contains, IsTrue, OnOk, OnErr};
+ghost use Rattle.std.specs.Prelude.{◌≡◌, ◌↔◌, ◌⊎◌, ℕ, [], Contains, IsTrue, OnOk, OnErr};
 
 use indexmap::IndexSet;
 use sg_forest::NodeId;
-use sg_kinds::ids::RuleId;
 use sg_kinds::memory::NoMemory;
 use std::alloc::Global;
 use std::marker::Model;
 
-/// The equations that are marked to be evaluated, each at its node, and the nodes that are active: those at or below
-/// which some may be marked. Contracts see two lists whose order says nothing.
+/// The slots of nodes whose values have become others, and the nodes that are active: those below which some may
+/// become so. Contracts see two lists whose order says nothing.
 #[derive(Drop)]
 pub struct Work {
-    marked: IndexSet<(usize, u32)>,
+    changed: IndexSet<(usize, u32)>,
     active: IndexSet<usize>,
 }
 
@@ -21,61 +20,43 @@ impl Model for Work {
 
     ghost Value = { Worklist };
 
-    ghost view = { λ w. record { marked = w.marked.keys; active = w.active.keys } };
+    ghost view = { λ w. record { changed = w.changed.keys; active = w.active.keys } };
 }
 
 impl Work {
-    /// Nothing marked, and no node active.
+    /// Nothing changed, and no node active.
     pub fn new(alloc: Global) -> Work
-        ensures { result ≡ record { marked = []; active = [] } }
+        ensures { result ≡ record { changed = []; active = [] } }
     {
         Work {
-            marked: IndexSet::new(alloc),
+            changed: IndexSet::new(alloc),
             active: IndexSet::new(alloc),
         }
     }
 
-    /// Marks an equation at a node. Without memory nothing changes.
-    pub fn mark(&mut self, node: NodeId, rule: RuleId) -> Result<(), NoMemory>
-        ensures marked { OnOk result ((x : ℕ × ℕ) →
-            Contains self.new.marked x ↔ (Contains self.old.marked x ⊎ (x ≡ (node.key, rule)))) }
+    /// Notes that a slot of a node has another value. Without memory nothing changes.
+    pub fn note(&mut self, node: NodeId, slot: u32) -> Result<(), NoMemory>
+        ensures changed { OnOk result ((x : ℕ × ℕ) →
+            Contains self.new.changed x ↔ (Contains self.old.changed x ⊎ (x ≡ (node.key, slot)))) }
         ensures active { self.new.active ≡ self.old.active }
         ensures err { OnErr result (self.new ≡ self.old) }
     {
-        self.marked.insert((node.key, rule.number))?;
+        self.changed.insert((node.key, slot))?;
         Ok(())
     }
 
-    /// Marks equations at a node. Without memory some of them may be marked.
-    #[tactic(auto, using(crate::proofs::Marking::marking_first))]
-    pub fn mark_all(&mut self, node: NodeId, rules: &[RuleId]) -> Result<(), NoMemory>
-        ensures marked { OnOk result ((r : ℕ) → Contains rules.now r → Contains self.new.marked (node.key, r)) }
-        ensures stay { (x : ℕ × ℕ) → Contains self.old.marked x → Contains self.new.marked x }
-        ensures only { (x : ℕ × ℕ) → Contains self.new.marked x →
-            Contains self.old.marked x ⊎ ((x.0 ≡ node.key) × Contains rules.now x.1) }
-        ensures active { self.new.active ≡ self.old.active }
+    /// Whether a slot of a node has another value.
+    pub fn is_noted(&self, node: NodeId, slot: u32) -> bool
+        ensures { IsTrue result ↔ Contains self.now.changed (node.key, slot) }
     {
-        for &rule in rules {
-            self.mark(node, rule)?;
-        }
-        Ok(())
-    }
-
-    /// Takes an equation out, and returns whether it was marked.
-    pub fn unmark(&mut self, node: NodeId, rule: RuleId) -> bool
-        ensures found { IsTrue result ↔ Contains self.old.marked (node.key, rule) }
-        ensures marked { (x : ℕ × ℕ) →
-            Contains self.new.marked x ↔ (Contains self.old.marked x × (x ≢ (node.key, rule))) }
-        ensures active { self.new.active ≡ self.old.active }
-    {
-        self.marked.swap_remove(&(node.key, rule.number))
+        self.changed.contains(&(node.key, slot))
     }
 
     /// Makes a node active. Without memory nothing changes.
     pub fn activate(&mut self, node: NodeId) -> Result<(), NoMemory>
         ensures active { OnOk result ((n : ℕ) →
             Contains self.new.active n ↔ (Contains self.old.active n ⊎ (n ≡ node.key))) }
-        ensures marked { self.new.marked ≡ self.old.marked }
+        ensures changed { self.new.changed ≡ self.old.changed }
         ensures err { OnErr result (self.new ≡ self.old) }
     {
         self.active.insert(node.key)?;
