@@ -1,1 +1,3 @@
 pub mod Rest
+pub mod Counted
+pub mod Grown

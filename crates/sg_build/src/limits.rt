@@ -1,4 +1,6 @@
 // Counts of terms, and the limits of a buffer's term.
+ghost use Rattle.std.specs.Prelude.{◌≤◌, ◌↔◌, IsTrue};
+
 /// The most nodes that the term of a buffer may have, leaves among them.
 pub const NODES: usize = 65_536;
 
@@ -10,4 +12,11 @@ pub const DEPTH: usize = 1_024;
 pub struct Counts {
     pub nodes: usize,
     pub depth: usize,
+}
+
+/// Whether these counts are in the limits.
+pub fn are_within(nodes: usize, depth: usize) -> bool
+    ensures { IsTrue result ↔ (nodes ≤ 65536) × (depth ≤ 1024) }
+{
+    nodes <= NODES && depth <= DEPTH
 }

@@ -1,0 +1,90 @@
+// The counts of a term in which another subterm stands, without it.
+ghost use Rattle.std.specs.Prelude.{◌≡◌, ◌↔◌, ℕ, length, min, IsOk, IfOk, IfErr};
+ghost use Rattle.sg_kinds.specs.Places.{Place, put, with_child};
+ghost use Rattle.sg_kinds.specs.Sound.{IsSmall};
+ghost use Rattle.sg_kinds.specs.Terms.{Term, nodes_of, height_of};
+ghost use Rattle.sg_forest.specs.Trees.{IsLive};
+ghost use Rattle.sg_groves.specs.Grove.{nodes};
+ghost use Rattle.sg_groves.specs.Holds.{Holds, IsPlaced};
+ghost use Rattle.sg_build.specs.Counted.{AreCounts};
+
+use crate::held::{counts_below, kid_count};
+use crate::limits::{Counts, are_within};
+use sg_forest::NodeId;
+use sg_terms::Terms;
+
+/// How many nodes the whole term has where a term with these counts stands in the place of a node's, or its counts exactly
+/// where it is over a limit. `known` is the number of nodes that the whole term has now, which is in the limits. Only what
+/// is under the node and the way up are read, and the rest of the tree where a limit is passed. It takes no memory.
+pub fn counts_replaced(terms: &Terms, at: NodeId, known: usize, t: &Counts) -> Result<usize, Counts>
+    requires live { IsLive (nodes terms.now) at }
+    requires known { (root : _) (whole : Term) (u : Place) → IsPlaced terms.now root whole u at → known ≡ nodes_of whole }
+    requires within { (root : _) (whole : Term) (u : Place) → IsPlaced terms.now root whole u at → IsSmall whole }
+    ensures small { (root : _) (whole s : Term) (u : Place) → IsPlaced terms.now root whole u at → AreCounts s t.now → IsOk result ↔ IsSmall (put whole u s) }
+    ensures nodes { (root : _) (whole s : Term) (u : Place) → IsPlaced terms.now root whole u at → AreCounts s t.now → IfOk result (λ n. n ≡ nodes_of (put whole u s)) }
+    ensures counts { (root : _) (whole s : Term) (u : Place) → IsPlaced terms.now root whole u at → AreCounts s t.now → IfErr result (AreCounts (put whole u s)) }
+{
+    terms.facts();
+    let rest = known - counts_below(terms, at).nodes;
+    let nodes = rest.saturating_add(t.nodes);
+    let depth = steps_up(terms, at).saturating_add(t.depth);
+    if are_within(nodes, depth) {
+        return Ok(nodes);
+    }
+    Err(Counts {
+        nodes,
+        depth: depth_over(terms, at, t.depth),
+    })
+}
+
+// how many steps lead up to the root
+fn steps_up(terms: &Terms, at: NodeId) -> usize
+    requires { IsLive (nodes terms.now) at }
+    ensures { (root : _) (whole : Term) (u : Place) → IsPlaced terms.now root whole u at → result ≡ min (length u) usize.MAX }
+{
+    terms.facts();
+    let mut steps: usize = 0;
+    let mut top = at;
+    while let Some((above, _)) = terms.parent(top) {
+        steps = steps.saturating_add(1);
+        top = above;
+    }
+    steps
+}
+
+// how deep the whole term is with something that deep in the place of a node's
+fn depth_over(terms: &Terms, at: NodeId, below: usize) -> usize
+    requires { IsLive (nodes terms.now) at }
+    ensures { (root : _) (whole s : Term) (u : Place) → IsPlaced terms.now root whole u at → below ≡ min (height_of s) usize.MAX → result ≡ min (height_of (put whole u s)) usize.MAX }
+{
+    terms.facts();
+    let mut depth = below;
+    let mut top = at;
+    while let Some((above, k)) = terms.parent(top) {
+        depth = depth_beside(terms, above, k, depth);
+        top = above;
+    }
+    depth
+}
+
+// how deep a node's term is with something that deep in the place of child k
+fn depth_beside(terms: &Terms, n: NodeId, k: usize, below: usize) -> usize
+    requires { IsLive (nodes terms.now) n }
+    ensures { (t s : Term) → Holds terms.now n t → below ≡ min (height_of s) usize.MAX → result ≡ min (height_of (with_child t k s)) usize.MAX }
+{
+    terms.facts();
+    let Some(op) = terms.op(n) else {
+        return 1;
+    };
+    let count = kid_count(terms, op);
+    let mut deepest: usize = 0;
+    for j in 0..count {
+        let depth = if j == k {
+            below
+        } else {
+            counts_below(terms, terms.kid(n, j)).depth
+        };
+        deepest = deepest.max(depth);
+    }
+    deepest.saturating_add(1)
+}

@@ -1,0 +1,5 @@
+pub mod NodeValues
+pub mod MadeValues
+pub mod Matched
+pub mod FirstFound
+pub mod Applied
