@@ -4,6 +4,7 @@ ghost use Rattle.std.specs.Prelude.{◌≡◌};
 use crate::loading::loaded;
 use sg_grammar::{Grammar, make};
 use sg_lalr::{Action, Tables};
+use sg_load::Loaded;
 use sg_patterns::{InToken, Lexemes, ScanFault, scan};
 use std::fmt::Write;
 use std::process::Abort;
@@ -166,22 +167,36 @@ fn enter(rt: &(impl Abort + AllocGlobal), lexemes: &Lexemes, grammar: &Grammar, 
     }
 }
 
+/// What the grammar of the formulas has.
+fn assert_grammar(rt: &impl Abort, grammar: &Grammar) {
+    assert!(rt; grammar.terminals() == 12);
+    assert!(rt; grammar.symbols() == 16);
+    assert!(rt; grammar.rules().len() == 9);
+    assert!(rt; grammar.entries().len() == 2);
+    assert!(rt; grammar.right(2).len() == 3);
+    assert!(rt; grammar.symbol_at(2, 1) == Some(4));
+}
+
+/// A copy of the grammar of a language, whose tables are those that were loaded.
+fn grammar_of(rt: &(impl Abort + AllocGlobal), loaded: &Loaded) -> Grammar
+    ensures { loaded.now.tables.grammar ≡ result }
+{
+    let made = make(rt.alloc(), &loaded.spec).expect(rt, "a grammar");
+    let grammar = made.copy(rt.alloc()).expect(rt, "a copy");
+    grammar.sound();
+    loaded.facts();
+    grammar
+}
+
+/// Types the texts in.
+fn type_in(rt: &(impl Abort + AllocGlobal), loaded: &Loaded) {
+    let grammar = grammar_of(rt, loaded);
+    assert_grammar(rt, &grammar);
+    enter(rt, &loaded.lexemes, &grammar, &loaded.tables);
+}
+
 #[test]
 fn texts_are_typed_in(rt: HostRuntime) {
     let loaded = loaded(&rt, formulas());
-    let made = make(rt.alloc(), &loaded.spec).expect(&rt, "a grammar");
-    let grammar = made.copy(rt.alloc()).expect(&rt, "a copy");
-    assert_eq!(rt;
-        (
-            grammar.terminals(),
-            grammar.symbols(),
-            grammar.rules().len()
-        ),
-        (12, 16, 9)
-    );
-    assert!(rt; grammar.rules().len() == 9 && grammar.entries().len() == 2);
-    assert!(rt; grammar.right(2).len() == 3 && grammar.symbol_at(2, 1) == Some(4));
-    grammar.sound();
-    loaded.facts();
-    enter(&rt, &loaded.lexemes, &grammar, &loaded.tables);
+    type_in(&rt, &loaded);
 }

@@ -4,6 +4,7 @@ use crate::language::language;
 use crate::loading::loaded;
 use sg_kinds::plans::{PlanStep, Plans};
 use sg_kinds::spec::Rules;
+use sg_load::Loaded;
 use sg_orders::{is_in_range, is_proper, order};
 use std::fmt::Write;
 use std::process::Abort;
@@ -76,31 +77,41 @@ fn tell_readers(rt: &impl Abort, plans: &Plans, out: &mut String) {
     }
 }
 
+/// Tells the plans in turn.
+fn assert_plans(rt: &(impl Abort + AllocGlobal), plans: &Plans) {
+    let mut out = String::new(rt.alloc());
+    tell_visits(rt, plans, &mut out);
+    assert_eq!(rt; out.as_str(), VISITS);
+    out.clear();
+    tell_steps(rt, plans, &mut out);
+    assert_eq!(rt; out.as_str(), STEPS);
+    out.clear();
+    tell_readers(rt, plans, &mut out);
+    assert_eq!(rt; out.as_str(), READERS);
+}
+
+/// A copy of the rules of a language.
+fn rules_of(rt: &(impl Abort + AllocGlobal), loaded: &Loaded) -> Rules {
+    let spec = loaded.spec.copy(rt.alloc()).expect(rt, "a copy");
+    Rules {
+        phyla: spec.phyla,
+        ops: spec.ops,
+        exprs: spec.exprs,
+        rules: spec.rules,
+    }
+}
+
 #[test]
 fn plans_of_a_language_of_two_visits(rt: HostRuntime) {
     let loaded = loaded(&rt, language());
     let plans = loaded.plans.copy(rt.alloc()).expect(&rt, "a copy");
-    let mut out = String::new(rt.alloc());
-    tell_visits(&rt, &plans, &mut out);
-    assert_eq!(rt; out.as_str(), VISITS);
-    out.clear();
-    tell_steps(&rt, &plans, &mut out);
-    assert_eq!(rt; out.as_str(), STEPS);
-    out.clear();
-    tell_readers(&rt, &plans, &mut out);
-    assert_eq!(rt; out.as_str(), READERS);
+    assert_plans(&rt, &plans);
 }
 
 #[test]
 fn the_order_of_a_record_alone(rt: HostRuntime) {
     let loaded = loaded(&rt, language());
-    let spec = loaded.spec.copy(rt.alloc()).expect(&rt, "a copy");
-    let rules = Rules {
-        phyla: spec.phyla,
-        ops: spec.ops,
-        exprs: spec.exprs,
-        rules: spec.rules,
-    };
+    let rules = rules_of(&rt, &loaded);
     assert!(rt; is_in_range(&rules));
     assert!(rt; is_proper(rt.alloc(), &rules).expect(&rt, "memory"));
     assert!(rt; order(rt.alloc(), &rules).is_ok());
