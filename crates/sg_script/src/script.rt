@@ -1,5 +1,5 @@
 // Scripts.
-ghost use Rattle.std.specs.Prelude.{◌≡◌, ◌≤◌, ◌≢◌, ◌++◌, true, false, length, None, Some, Ok as IsOk, Err as IsErr, IfOk, OnOk, IfErr};
+ghost use Rattle.std.specs.Prelude.{◌≡◌, ◌≤◌, ◌≢◌, ◌++◌, true, false, length, None, Some, Ok, Err, IfOk, OnOk, IfErr};
 ghost use Rattle.std.specs.Str.Lines.{lines};
 ghost use Rattle.sg_script.specs.Script.{meaning_of, commands_said, commands_in, is_unknown, fault_in, script_of};
 ghost use Rattle.sg_script.specs.declared.fault.ScriptFault.TheVariants.{Line};
@@ -65,9 +65,9 @@ fn read_lines(alloc: Global, bytes: &[u8]) -> Result<Vec<Command>, ScriptFault>
 /// over all lines, else `Many` with the number of commands where it is over 10,000. `NoMemory` may come at any text.
 #[tactic(auto, unfolding(crate::specs::Script::script_of))]
 pub fn read(alloc: Global, bytes: &[u8]) -> Result<Vec<Command>, ScriptFault>
-    ensures ok { IfOk result (λ cs. script_of bytes.now ≡ IsOk cs.items) }
+    ensures ok { IfOk result (λ cs. script_of bytes.now ≡ Ok cs.items) }
     ensures few { IfOk result (λ cs. length cs.items ≤ 10000) }
-    ensures fault { IfErr result (λ f. f ≢ ScriptFault.NoMemory → script_of bytes.now ≡ IsErr f) }
+    ensures fault { IfErr result (λ f. f ≢ ScriptFault.NoMemory → script_of bytes.now ≡ Err f) }
 {
     if bytes.len() > MOST_BYTES {
         return Err(ScriptFault::Long);
