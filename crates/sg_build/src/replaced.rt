@@ -6,23 +6,23 @@ ghost use Rattle.sg_kinds.specs.Terms.{Term, nodes_of, height_of};
 ghost use Rattle.sg_forest.specs.Trees.{IsLive};
 ghost use Rattle.sg_groves.specs.Grove.{nodes};
 ghost use Rattle.sg_groves.specs.Holds.{Holds, IsPlaced};
-ghost use Rattle.sg_build.specs.Counted.{AreCounts};
+ghost use Rattle.sg_build.specs.Counted.{AreCounts, OfReplaced, OfWhole};
 
 use crate::held::{counts_below, kid_count};
 use crate::limits::{Counts, are_within};
 use sg_forest::NodeId;
 use sg_terms::Terms;
 
-/// How many nodes the whole term has where a term with these counts stands in the place of a node's, or its counts exactly
-/// where it is over a limit. `known` is the number of nodes that the whole term has now, which is in the limits. Only what
-/// is under the node and the way up are read, and the rest of the tree where a limit is passed. It takes no memory.
+/// How many nodes the whole term around a node has with a term of these counts in the node's place, or its counts exactly
+/// where it is over a limit. `known` is how many nodes it has now, in the limits. Only what is under the node and the way
+/// up are read, and the rest of the tree where a limit is passed. It takes no memory.
 pub fn counts_replaced(terms: &Terms, at: NodeId, known: usize, t: &Counts) -> Result<usize, Counts>
     requires live { IsLive (nodes terms.now) at }
-    requires known { (root : _) (whole : Term) (u : Place) → IsPlaced terms.now root whole u at → known ≡ nodes_of whole }
-    requires within { (root : _) (whole : Term) (u : Place) → IsPlaced terms.now root whole u at → IsSmall whole }
-    ensures small { (root : _) (whole s : Term) (u : Place) → IsPlaced terms.now root whole u at → AreCounts s t.now → IsOk result ↔ IsSmall (put whole u s) }
-    ensures nodes { (root : _) (whole s : Term) (u : Place) → IsPlaced terms.now root whole u at → AreCounts s t.now → IfOk result (λ n. n ≡ nodes_of (put whole u s)) }
-    ensures counts { (root : _) (whole s : Term) (u : Place) → IsPlaced terms.now root whole u at → AreCounts s t.now → IfErr result (AreCounts (put whole u s)) }
+    requires known { OfWhole terms.now at (λ whole. known ≡ nodes_of whole) }
+    requires within { OfWhole terms.now at IsSmall }
+    ensures small { OfReplaced terms.now at t.now (λ new. IsOk result ↔ IsSmall new) }
+    ensures nodes { OfReplaced terms.now at t.now (λ new. IfOk result (λ n. n ≡ nodes_of new)) }
+    ensures counts { OfReplaced terms.now at t.now (λ new. IfErr result (AreCounts new)) }
 {
     terms.facts();
     let rest = known - counts_below(terms, at).nodes;
@@ -40,7 +40,8 @@ pub fn counts_replaced(terms: &Terms, at: NodeId, known: usize, t: &Counts) -> R
 // how many steps lead up to the root
 fn steps_up(terms: &Terms, at: NodeId) -> usize
     requires { IsLive (nodes terms.now) at }
-    ensures { (root : _) (whole : Term) (u : Place) → IsPlaced terms.now root whole u at → result ≡ min (length u) usize.MAX }
+    ensures { (root : _) (whole : Term) (u : Place) → IsPlaced terms.now root whole u at
+        → result ≡ min (length u) usize.MAX }
 {
     terms.facts();
     let mut steps: usize = 0;
@@ -55,7 +56,8 @@ fn steps_up(terms: &Terms, at: NodeId) -> usize
 // how deep the whole term is with something that deep in the place of a node's
 fn depth_over(terms: &Terms, at: NodeId, below: usize) -> usize
     requires { IsLive (nodes terms.now) at }
-    ensures { (root : _) (whole s : Term) (u : Place) → IsPlaced terms.now root whole u at → below ≡ min (height_of s) usize.MAX → result ≡ min (height_of (put whole u s)) usize.MAX }
+    ensures { (root : _) (whole s : Term) (u : Place) → IsPlaced terms.now root whole u at
+        → below ≡ min (height_of s) usize.MAX → result ≡ min (height_of (put whole u s)) usize.MAX }
 {
     terms.facts();
     let mut depth = below;
@@ -70,7 +72,8 @@ fn depth_over(terms: &Terms, at: NodeId, below: usize) -> usize
 // how deep a node's term is with something that deep in the place of child k
 fn depth_beside(terms: &Terms, n: NodeId, k: usize, below: usize) -> usize
     requires { IsLive (nodes terms.now) n }
-    ensures { (t s : Term) → Holds terms.now n t → below ≡ min (height_of s) usize.MAX → result ≡ min (height_of (with_child t k s)) usize.MAX }
+    ensures { (t s : Term) → Holds terms.now n t → below ≡ min (height_of s) usize.MAX
+        → result ≡ min (height_of (with_child t k s)) usize.MAX }
 {
     terms.facts();
     let Some(op) = terms.op(n) else {
