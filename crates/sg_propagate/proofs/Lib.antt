@@ -1,0 +1,14 @@
+pub mod Staged
+pub mod Composed
+pub mod Stepped
+pub mod Given
+pub mod Deciding
+pub mod Updating
+pub mod Skipping
+pub mod Tracked
+pub mod Rooted
+pub mod Exits
+pub mod Announced
+pub mod Started
+pub mod SetUp
+pub mod Asking

@@ -1,0 +1,5 @@
+pub mod Ends
+pub mod Owners
+pub mod Streams
+pub mod TypedText
+pub mod Worked

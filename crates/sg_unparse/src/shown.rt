@@ -1,0 +1,113 @@
+// Values as they are shown, and the schemes in which nodes are shown.
+ghost use Rattle.std.specs.Prelude.{◌≡◌, ◌%◌, ◌<◌, ◌++◌, length, slice_get, None, Some, MatchOption, OnOk};
+ghost use Rattle.sg_kinds.specs.Specification.{has_shape, is_lexical_shape};
+ghost use Rattle.sg_pool.specs.Pools.{value_at};
+ghost use Rattle.sg_unparse.specs.Shown.{fault_text, phylum_name, text_shown, value_text, scheme_of};
+
+use sg_kinds::ids::{OpId, PhylumId, ValueId};
+use sg_kinds::marks::{FaultKind, Shape};
+use sg_kinds::memory::NoMemory;
+use sg_kinds::row::Row;
+use sg_kinds::spec::{Scheme, Spec};
+use sg_pool::entry::Entry;
+use sg_pool::pool::Pool;
+use std::alloc::Global;
+
+// the scheme of a number among those of an operator
+fn scheme_in(schemes: &Row<Scheme>, number: u32) -> Option<&Scheme>
+    ensures { MatchOption result (slice_get schemes.now (number % length schemes.now) ≡ None) (λ s. slice_get schemes.now (number % length schemes.now) ≡ Some s.now) }
+{
+    let count = schemes.len();
+    if count == 0 {
+        return None;
+    }
+    schemes.as_slice().get(number as usize % count)
+}
+
+/// The scheme of a number of an operator, where numbers are counted round; None exactly where there is no such operator
+/// or it has no scheme.
+pub fn scheme_of(spec: &Spec, op: OpId, number: u32) -> Option<&Scheme>
+    ensures { MatchOption result (scheme_of spec.now op number ≡ None) (λ s. scheme_of spec.now op number ≡ Some s.now) }
+{
+    match spec.ops.place(op.number) {
+        Some(operator) => scheme_in(&operator.schemes, number),
+        None => None,
+    }
+}
+
+/// A fault as it is shown.
+pub fn fault_text(kind: FaultKind) -> &'static [u8]
+    ensures { result.now ≡ fault_text kind }
+{
+    match kind {
+        FaultKind::Fuel => b"<fuel>",
+        FaultKind::Depth => b"<depth>",
+        FaultKind::Size => b"<size>",
+        FaultKind::Divide => b"<divide>",
+        FaultKind::Overflow => b"<overflow>",
+        FaultKind::NoMatch => b"<nomatch>",
+        FaultKind::Convert => b"<convert>",
+    }
+}
+
+// whether a phylum is one of lexemes
+fn is_lexical(spec: &Spec, p: PhylumId) -> bool
+    ensures { result ≡ has_shape spec.now.phyla is_lexical_shape p }
+{
+    match spec.phyla.place(p.number) {
+        Some(phylum) => matches!(phylum.shape, Shape::Lexemes(_)),
+        None => false,
+    }
+}
+
+// the name of a phylum
+fn phylum_name(spec: &Spec, p: PhylumId) -> &[u8]
+    ensures { result.now ≡ phylum_name spec.now p }
+{
+    match spec.phyla.place(p.number) {
+        Some(phylum) => phylum.name.as_slice(),
+        None => b"",
+    }
+}
+
+/// Writes a text of a phylum as it is shown: the empty text of a lexeme phylum as the phylum's name in angle brackets.
+pub fn write_text(out: &mut Vec<u8>, spec: &Spec, p: PhylumId, text: &[u8]) -> Result<(), NoMemory>
+    ensures { OnOk result (out.new.items ≡ out.old.items ++ text_shown spec.now p text.now) }
+{
+    if text.is_empty() && is_lexical(spec, p) {
+        out.push(b'<')?;
+        out.extend_from_slice(phylum_name(spec, p))?;
+        out.push(b'>')?;
+        return Ok(());
+    }
+    out.extend_from_slice(text)?;
+    Ok(())
+}
+
+/// Writes the value of a number in the pool as a value of a phylum is shown.
+pub fn write_value(
+    alloc: Global,
+    out: &mut Vec<u8>,
+    spec: &Spec,
+    p: PhylumId,
+    pool: &Pool,
+    id: ValueId,
+) -> Result<(), NoMemory>
+    requires { id < length pool.now }
+    ensures { OnOk result (out.new.items ≡ out.old.items ++ value_text spec.now p (value_at pool.now id)) }
+{
+    match pool.entry(id) {
+        Entry::Bool(b) => {
+            let text: &[u8] = if *b { b"true" } else { b"false" };
+            out.extend_from_slice(text)?;
+        }
+        Entry::Int(n) => {
+            let text = n.to_string(alloc)?;
+            out.extend_from_slice(text.as_bytes())?;
+        }
+        Entry::Text(text) => write_text(out, spec, p, text.as_slice())?,
+        Entry::Tree(_, _) => {}
+        Entry::Fault(kind) => out.extend_from_slice(fault_text(*kind))?,
+    }
+    Ok(())
+}
