@@ -1,5 +1,5 @@
 -- What the question needs whether an argument shows another value.
-use Rattle.std.specs.Prelude.{◌≡◌, ◌≢◌, ℕ, suc, ◌+◌, ◌<◌, Some, slice_get, Contains}
+use Rattle.std.specs.Prelude.{◌≡◌, ◌≢◌, ℕ, suc, ◌+◌, ◌<◌, length, Option, Some, slice_get, option_map, unwrap_or, Contains}
 use Rattle.std.proofs.Common.{sym, ap, ◌∙◌, subst, arith}
 use Rattle.std.proofs.lemmas.Option.{same_Some}
 use Rattle.sg_kinds.specs.Instances.{attr_count}
@@ -13,12 +13,15 @@ use Rattle.sg_groves.specs.declared.kind.Kind.{Kind}
 use Rattle.sg_groves.specs.declared.part.Part.{Part}
 use Rattle.sg_groves.specs.Grove.{Grove, nodes, IsGrove}
 use Rattle.sg_groves.specs.Stored.{number_at, value_there}
+use Rattle.sg_pool.specs.Pools.{value_at}
+use Rattle.sg_kinds.specs.Evaluation.{untyped}
 use Rattle.sg_orders.specs.Vertices.{IsVertex, locals_there}
 use Rattle.sg_terms.specs.Found.{op_at}
 use Rattle.sg_terms.specs.Occurrences.{node_there}
 use Rattle.sg_attrib.proofs.Nodes.{operation_is}
 use Rattle.sg_work.specs.Worklist.{Worklist}
 use Rattle.sg_propagate.specs.Scenes.{AreTops, ShowsOther, own, at_top, below}
+use Rattle.sg_propagate.proofs.Updating.{HasOneNumber}
 use Rattle.sg_propagate.proofs.Exits.{argument_there, child_low, child_there}
 
 module _ (g : Grove) (is : IsGrove g) (top left n : NodeId) (w : Worklist) (op : ℕ) (o : Occurrence) (tops : AreTops g top left) (at : op_at g n ≡ Some op) (vertex : IsVertex (rules_of g.spec) op o) where
@@ -57,6 +60,20 @@ module _ (g : Grove) (is : IsGrove g) (top left n : NodeId) (w : Worklist) (op :
     top_shows (own zero_at has) = absurd (omega (arith, zero_at, e))
     top_shows (at_top j f is_top differs) = differs
     top_shows (below j c f is_c apart has) = absurd (apart (same_Some c m (sym is_c ∙ arg_node k m e hangs) ∙ same))
+
+    -- and values are others exactly where their numbers are
+    module _ (one : HasOneNumber g.pool) (a b : ℕ) (a_is : number_at g top o.slot ≡ Some a) (b_is : number_at g left o.slot ≡ Some b) (a_low : a < length g.pool) (b_low : b < length g.pool) where
+      a_value : value_there g top o.slot ≡ value_at g.pool a
+      a_value = ap (λ (i : Option ℕ). unwrap_or (option_map (value_at g.pool) i) untyped) a_is
+
+      b_value : value_there g left o.slot ≡ value_at g.pool b
+      b_value = ap (λ (i : Option ℕ). unwrap_or (option_map (value_at g.pool) i) untyped) b_is
+
+      pub numbers_show : a ≢ b → ShowsOther g top left n w o
+      numbers_show differ = shows_top (λ same. differ (one a b a_low b_low (sym a_value ∙ same ∙ b_value)))
+
+      pub show_numbers : ShowsOther g top left n w o → a ≢ b
+      show_numbers shows same = top_shows shows (a_value ∙ ap (value_at g.pool) same ∙ sym b_value)
 
   -- elsewhere its slot is noted
   module _ (k : ℕ) (e : o.at ≡ suc k) (m : NodeId) (hangs : IsChild (nodes g) m n k) (apart : m ≢ top) where

@@ -15,7 +15,7 @@ use Rattle.sg_groves.proofs.Below.{below_or_not, below_to}
 use Rattle.sg_unparse.specs.Cells.{Mark, Writes, Closed, Writing, nothing, in_turn, as_they_are, plain, pieces, cells_in, ended, placed, goes_on, items_of, shows, items, content, unparsed, unparsed_among}
 use Rattle.sg_unparse.specs.Shown.{value_text}
 use Rattle.sg_unparse.specs.Owned.{place_of_mark, AreOwned, before, AreTypedAlike}
-use Rattle.sg_unparse.proofs.Owners.{unparsed_owned}
+use Rattle.sg_unparse.proofs.Owners.{over, unparsed_owned}
 
 -- two streams are the same up to a mark of a node at or below v in each
 record Part (v : Place) (xs ys : List Mark) : Type 0 where
@@ -94,9 +94,6 @@ placed_agrees v Passed f g h m = h m
 placed_agrees v Hidden f g h m = inl refl
 
 -- a node that is at or below v writes only there
-over : (w u v : Place) → IsAtOrBelow w u → IsAtOrBelow u v → IsAtOrBelow w v
-over w u v a b = record { below = a.below ++ b.below; is = a.is ∙ ap (λ z. a.below ++ z) b.is ∙ sym (append_assoc a.below b.below v) }
-
 inside : (u v : Place) (f g : Writing) → IsAtOrBelow u v → ((m : ℕ) → AreOwned u (ended u f m).0) → ((m : ℕ) → AreOwned u (ended u g m).0) → Agree v (ended u f) (ended u g)
 inside u v f g b h k m = by (f m).0 (g m).0 (h m) (k m)
   where

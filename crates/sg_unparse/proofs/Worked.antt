@@ -2,7 +2,7 @@
 use Rattle.std.specs.Prelude.{◌≡◌, refl, ℕ, zero, suc, min, nat_lt, true, false, List, [], ◌∷◌, ◌++◌, length, map, replicate, codes, Option, Some, None, bytes_eq, if◌then◌else◌}
 use Rattle.std.proofs.Common.{◌∙◌, ap}
 use Rattle.std.proofs.lemmas.List.{length-replicate}
-use Rattle.sg_kinds.specs.Values.{Bytes, Value, Truth, Chars}
+use Rattle.sg_kinds.specs.Values.{Bytes, Value, Truth, Chars, Tree, Fault, NoValue}
 use Rattle.sg_kinds.specs.Terms.{Term, Leaf, Node, kids_of, NoTerm}
 use Rattle.sg_kinds.specs.Places.{Place}
 use Rattle.sg_kinds.specs.Nets.{Reference, referred, net_of}
@@ -20,6 +20,8 @@ use Rattle.sg_kinds.specs.declared.spec.Item.TheVariants.{Writes, Child, Shows, 
 use Rattle.sg_kinds.specs.declared.marks.ChildPlace.TheVariants.{Resting, Passed, Hidden}
 use Rattle.sg_kinds.specs.declared.marks.Shape.TheVariants.{Lexemes, Ordinary, Listed}
 use Rattle.sg_kinds.proofs.Languages.{base, syn, at}
+use Rattle.sg_kinds.specs.declared.marks.FaultKind.TheVariants.{NoMatch}
+use Rattle.sg_unparse.specs.Shown.{value_text}
 use Rattle.sg_unparse.specs.Cells.{Mark, Writes as WritesByte, reference, marks_of}
 use Rattle.sg_unparse.specs.Page.{Position, Region, Cell, all_cells, region_in, cells_of, bytes_of, lines_of, is_cut, region_of, owner_at}
 
@@ -193,3 +195,16 @@ region_cut = refl
 
 region_behind : region_in page (min 4 2) (min 6 2) ≡ region 1 3 1 3
 region_behind = refl
+
+-- the null lexeme has its phylum's name, the empty text nothing; a fault; a tree
+null_lexeme : value_text blocks 6 (Chars []) ≡ codes "<NAME>"
+null_lexeme = refl
+
+empty_text : value_text blocks 2 (Chars []) ≡ []
+empty_text = refl
+
+no_match : value_text blocks 6 (Fault NoMatch) ≡ codes "<nomatch>"
+no_match = refl
+
+tree : value_text blocks 4 (Tree 1 NoValue) ≡ []
+tree = refl

@@ -42,6 +42,10 @@ position_at cells k =
     let before = take k (bytes_of cells) in
     record { line = 1 + count_by is_newline before; column = 1 + length (take_while (λ b. not (is_newline b)) (reverse before)) }
 
+-- the position that the next cell would have
+abbrev pub position_behind : List Cell → Position
+position_behind cells = position_at cells (length cells)
+
 -- from which cell on and up to which a node was written
 pub record Span : Type 0 where
   pub node : Place

@@ -1,4 +1,5 @@
--- Which nodes are unparsed: those that end on the page's way, each behind its children.
+-- Which nodes are unparsed, each behind those below it: the root, and below a node that shows its scheme the children
+-- whose places there are not `..`.
 use Rattle.std.specs.Prelude.{ℕ, suc, Bool, true, false, List, [], ◌∷◌, ◌++◌, Option, Some, None}
 use Rattle.sg_kinds.specs.Values.{Bytes}
 use Rattle.sg_kinds.specs.Terms.{Term, Terms, Leaf, Node, NoTerm, AndTerm}

@@ -1,0 +1,60 @@
+use Rattle.std.proofs.Common.{◌≡◌, ◌≢◌, ◌-◌, ℕ, suc, Bool, true, eqb, sym, ap, ◌∙◌, subst, arith}
+use Rattle.std.specs.Prelude.{is_some, not}
+use Rattle.std.proofs.lemmas.Bool.{eqb-false, eqb-true, ne_eqb, not-true}
+use Rattle.sg_forest.specs.declared.node_id.NodeId.{NodeId}
+use Rattle.sg_forest.proofs.Paths.{differs_by_test, same_id}
+use Rattle.sg_propagate.proofs.Asking.{arg_low, below_shows, left_number, numbers_show, show_numbers, shows_below, top_number}
+use Rattle.sg_propagate.proofs.Updating.{HasOneNumber}
+use Rattle.sg_propagate.proofs.asked.shows_other.Goals as goal
+
+same_by_test : (n m : NodeId) (test : Bool) → test ≡ eqb n.key m.key → test ≡ true → n ≡ m
+same_by_test n m test is holds = same_id n m (eqb-true n.key m.key (sym is ∙ holds))
+
+pub kid-m-requires-clause-place : goal.kid-m-requires-clause-place
+kid-m-requires-clause-place c = λ x found.
+    let v = c.requires.vertex in
+    let some = c.if-o-eq0.false in
+    arg_low c.args.terms.now c.facts.ensures c.args.top c.args.left c.args.n c.args.work.now v.0 c.args.o c.requires.tops v.1 v.2 (c.args.o.at - 1) (omega (arith, some)) x found
+
+pub stored-requires : goal.stored-requires
+stored-requires c =
+    let v = c.requires.vertex in
+    let some = c.if-o-eq0.false in
+    ap is_some
+    (top_number c.args.terms.now c.facts.ensures c.args.top c.args.left c.args.n c.args.work.now v.0 c.args.o c.requires.tops v.1 v.2 (c.args.o.at - 1) (omega (arith, some)) c.kid-m.result c.kid-m.ensures.child
+    (same_by_test c.kid-m.result c.args.top c.eq.result c.eq.ensures c.if-eq.true)).1
+
+pub stored-requires-then-eq : goal.stored-requires-then-eq
+stored-requires-then-eq c =
+    let v = c.requires.vertex in
+    let some = c.if-o-eq0.false in
+    ap is_some
+    (left_number c.args.terms.now c.facts.ensures c.args.top c.args.left c.args.n c.args.work.now v.0 c.args.o c.requires.tops v.1 v.2 (c.args.o.at - 1) (omega (arith, some)) c.kid-m.result c.kid-m.ensures.child
+    (same_by_test c.kid-m.result c.args.top c.eq.result c.eq.ensures c.if-eq.true)).1
+
+pub returns-else-eq : goal.returns-else-eq
+returns-else-eq c =
+    let v = c.requires.vertex in
+    let some = c.if-o-eq0.false in
+    let apart = differs_by_test c.kid-m.result c.args.top c.eq.result c.eq.ensures c.if-eq.false in (
+      λ yes_noted. shows_below c.args.terms.now c.facts.ensures c.args.top c.args.left c.args.n c.args.work.now v.0 c.args.o c.requires.tops v.1 v.2 (c.args.o.at - 1) (omega (arith, some)) c.kid-m.result c.kid-m.ensures.child apart
+          (c.is_noted-else-eq.ensures.0 yes_noted),
+      λ shows. c.is_noted-else-eq.ensures.1 (below_shows c.args.terms.now c.facts.ensures c.args.top c.args.left c.args.n c.args.work.now v.0 c.args.o c.requires.tops v.1 v.2 (c.args.o.at - 1) (omega (arith, some)) c.kid-m.result c.kid-m.ensures.child apart shows),
+    )
+
+-- the numbers of the two tops differ exactly where their values do
+pub returns-then-eq : goal.returns-then-eq
+returns-then-eq c =
+    let v = c.requires.vertex in
+    let k = c.args.o.at - 1 in
+    let some = c.if-o-eq0.false in
+    let same = same_by_test c.kid-m.result c.args.top c.eq.result c.eq.ensures c.if-eq.true in
+    let here = c.args.terms.now in
+    let one = subst HasOneNumber c.pool.ensures c.sound.ensures.one_number in (
+      λ yes. numbers_show here c.facts.ensures c.args.top c.args.left c.args.n c.args.work.now v.0 c.args.o c.requires.tops v.1 v.2 k (omega (arith, some)) c.kid-m.result c.kid-m.ensures.child same one c.stored.result c.stored-then-eq.result
+          c.stored.ensures.number c.stored-then-eq.ensures.number c.stored.ensures.within c.stored-then-eq.ensures.within
+          (eqb-false c.stored.result c.stored-then-eq.result (not-true (eqb c.stored.result c.stored-then-eq.result) (sym c.ne.ensures ∙ yes))),
+      λ shows. c.ne.ensures ∙ ap not (ne_eqb c.stored.result c.stored-then-eq.result
+          (show_numbers here c.facts.ensures c.args.top c.args.left c.args.n c.args.work.now v.0 c.args.o c.requires.tops v.1 v.2 k (omega (arith, some)) c.kid-m.result c.kid-m.ensures.child same one c.stored.result c.stored-then-eq.result
+          c.stored.ensures.number c.stored-then-eq.ensures.number c.stored.ensures.within c.stored-then-eq.ensures.within shows)),
+    )

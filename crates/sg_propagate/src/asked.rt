@@ -1,0 +1,38 @@
+//! Whether an argument of an equation has another value than before.
+ghost use Rattle.std.specs.Prelude.{◌≡◌, ◌↔◌, Some, IsTrue};
+ghost use Rattle.sg_kinds.specs.Specification.{rules_of};
+ghost use Rattle.sg_orders.specs.Vertices.{IsVertex};
+ghost use Rattle.sg_terms.specs.Found.{op_at};
+ghost use Rattle.sg_propagate.specs.Scenes.{AreTops, ShowsOther};
+
+use sg_forest::NodeId;
+use sg_kinds::spec::Occurrence;
+use sg_terms::Terms;
+use sg_work::Work;
+
+/// Whether an argument at a node shows another value. At the new top it is compared with what the old one keeps, so that
+/// no visit of the new subterm has to say what changed.
+pub fn shows_other(
+    terms: &Terms,
+    n: NodeId,
+    o: Occurrence,
+    top: NodeId,
+    left: NodeId,
+    work: &Work,
+) -> bool
+    requires vertex { (op : _) × (op_at terms.now n ≡ Some op) × IsVertex (rules_of terms.now.spec) op o }
+    requires tops { AreTops terms.now top left }
+    ensures { IsTrue result ↔ ShowsOther terms.now top left n work.now o }
+{
+    terms.facts();
+    if o.at == 0 {
+        return work.is_noted(n, o.slot);
+    }
+    let m = terms.kid(n, o.at as usize - 1);
+    if m == top {
+        terms.pool().sound();
+        terms.stored(top, o.slot) != terms.stored(left, o.slot)
+    } else {
+        work.is_noted(m, o.slot)
+    }
+}
