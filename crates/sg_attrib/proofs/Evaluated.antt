@@ -21,7 +21,7 @@ use Rattle.sg_kinds.specs.declared.spec.Occurrence.{Occurrence}
 use Rattle.sg_kinds.specs.declared.spec.Rule.{Rule}
 use Rattle.sg_kinds.specs.declared.spec.Rules.{Rules}
 use Rattle.sg_kinds.specs.declared.spec.Spec.{Spec}
-use Rattle.sg_pool.specs.Pools.{Stands, value_at}
+use Rattle.sg_pool.specs.Pools.{StandsFor, value_at}
 use Rattle.sg_eval.specs.declared.journal.Instance.{Instance}
 use Rattle.sg_forest.specs.declared.node_id.NodeId.{NodeId}
 use Rattle.sg_forest.specs.Trees.{Climbs}
@@ -133,7 +133,7 @@ module _ (old : Grove) (is_grove : IsGrove old) (plans : Plans) (valid : AreVali
     }
 
   module _ {A E : Type 0} (new : Grove) (was now : List Instance) where
-    pub evaluated : (y : A) (m : NodeId) (slot after : ℕ) → IsBearer old n x m slot → Stands new.pool after (outcome old.spec x (map (value_for old n) x.args)) → number_at new m slot ≡ Some after
+    pub evaluated : (y : A) (m : NodeId) (slot after : ℕ) → IsBearer old n x m slot → StandsFor new.pool after (outcome old.spec x (map (value_for old n) x.args)) → number_at new m slot ≡ Some after
         → OnlyStored old new (IsSlot m slot) → now ≡ was ++ record { node = m; slot = slot; rule = r } ∷ [] → Gives {A = A} {E = E} (IsArgument rules r) gives old new was now n (Ok y)
     evaluated y m slot after bears stands stored only noted = record {
       values = λ root t u placed known a k given climbs.

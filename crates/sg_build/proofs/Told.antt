@@ -25,7 +25,7 @@ use Rattle.sg_groves.proofs.Held.{one_term, held_at, held_fits, live_holds, part
 use Rattle.sg_terms.specs.Found.{op_at}
 use Rattle.sg_terms.specs.Told.{op_of, scheme_of, elided_of}
 use Rattle.sg_terms.proofs.Holding.{op_told}
-use Rattle.sg_pool.specs.Pools.{Stands}
+use Rattle.sg_pool.specs.Pools.{StandsFor}
 use Rattle.sg_eval.proofs.Kept.{values_of-kids_of}
 use Rattle.sg_build.proofs.Roots.{is_operator}
 
@@ -149,7 +149,7 @@ module _ (g : Grove) (is : IsGrove g) (n : NodeId) where
   node_value op at t h = ap value_of (told_only t h ∙ (opened op at).node) ∙ ap (Tree op) (sym (values_of-kids_of (kids_in (the_term g n))))
 
 -- the value of a leaf, as the pool has it
-pub pool_value : {E : Type 0} (g : Grove) (n : NodeId) (id : ℕ) (r : Result Value E) → IfOk r (λ v. Stands g.pool id v) → ((p : ℕ) (v : Value) → Holds g n (Leaf p v) → Stands g.pool id v) → IfOk r (λ v. (p : ℕ) (w : Value) → Holds g n (Leaf p w) → v ≡ w)
+pub pool_value : {E : Type 0} (g : Grove) (n : NodeId) (id : ℕ) (r : Result Value E) → IfOk r (λ v. StandsFor g.pool id v) → ((p : ℕ) (v : Value) → Holds g n (Leaf p v) → StandsFor g.pool id v) → IfOk r (λ v. (p : ℕ) (w : Value) → Holds g n (Leaf p w) → v ≡ w)
 pool_value g n id (Ok v) stands leaf = λ p w h. same_Some v w (sym stands ∙ leaf p w h)
 pool_value g n id (Err e) stands leaf = tt
 

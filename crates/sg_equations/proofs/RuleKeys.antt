@@ -14,7 +14,7 @@ use Rattle.sg_typing.specs.Bodies.{expr_count}
 use Rattle.sg_typing.specs.declared.bodies.TypedExpr.{TypedExpr}
 use Rattle.sg_equations.specs.declared.targets.Defined.{Defined}
 use Rattle.sg_equations.specs.RulesOf.{ruled, rules_from, rules_under, rules_at, rules_in}
-use Rattle.sg_equations.specs.Targets.{target_of, defined_as, defined_by, defined_under, defined_at, defined_in}
+use Rattle.sg_equations.specs.Targets.{target_there, defined_as, defined_by, defined_under, defined_at, defined_in}
 use Rattle.sg_equations.proofs.Counts.{count_map}
 
 abbrev pub rule_key : Rule → ℕ × Occurrence
@@ -33,8 +33,8 @@ joined_keys rs ss ds es h k = map-append rule_key rs ss ∙ (λ i. h i ++ k i) �
 from_keys : (t : Table) (exprs : List TypedExpr) (op k : ℕ) (es : List Equation) → map rule_key (rules_from t exprs op k es) ≡ map defined_key (flat_map (defined_by t op) es)
 from_keys t exprs op k [] = refl
 from_keys t exprs op k (e ∷ es) =
-    joined_keys (ruled exprs op k (target_of t op e.target)) (rules_from t exprs op (suc k) es) (defined_by t op e) (flat_map (defined_by t op) es)
-    (ruled_keys exprs op k e.target (target_of t op e.target)) (from_keys t exprs op (suc k) es)
+    joined_keys (ruled exprs op k (target_there t op e.target)) (rules_from t exprs op (suc k) es) (defined_by t op e) (flat_map (defined_by t op) es)
+    (ruled_keys exprs op k e.target (target_there t op e.target)) (from_keys t exprs op (suc k) es)
 
 under_keys : (t : Table) (exprs : List TypedExpr) (k : ℕ) (es : List Equation) (op : Option ℕ) → map rule_key (rules_under t exprs k es op) ≡ map defined_key (defined_under t es op)
 under_keys t exprs k es None = refl

@@ -33,11 +33,11 @@ use Rattle.sg_typing.proofs.ArgsTyped.{args_typed}
 use Rattle.sg_typing.proofs.BodyTyped.{body_kept}
 use Rattle.sg_typing.proofs.TableFacts.{equation_outside}
 use Rattle.sg_equations.specs.RulesOf.{args_of, ruled, rules_from, rules_under, rules_at, rules_in}
-use Rattle.sg_equations.specs.Targets.{target_of, own}
+use Rattle.sg_equations.specs.Targets.{target_there, own}
 use Rattle.sg_equations.specs.Literals.{HasLiterals}
 
 -- what an equation defines has the type that its target has
-target_is : (t : Table) (op : ℕ) (target : Target) (o : Occurrence) → target_of t op target ≡ Some o → target_type t op target ≡ slot_type (drafted t) op o.at o.slot
+target_is : (t : Table) (op : ℕ) (target : Target) (o : Occurrence) → target_there t op target ≡ Some o → target_type t op target ≡ slot_type (drafted t) op o.at o.slot
 target_is t op (written.Attribute r) o h = ap (bodies.reference_type t op) h
 target_is t op (written.Local n) o h = by (local_slot t op n.text) h
   where
@@ -53,7 +53,7 @@ count_is t d = refl
 
 module _ (t : Table) (spec : Spec) (table : HasTable t spec) (lists : HasLists t) (exprs : List TypedExpr) (have : spec.exprs ≡ map (λ (x : TypedExpr). x.expr) exprs) where
   -- the rule of an equation whose expression stands at k
-  one_typed : (op k : ℕ) (e : Equation) (o : Occurrence) → AreWritten e.expr → equation_mismatch t op e ≡ None → slice_get exprs k ≡ Some (equation_typed t op e) → target_of t op e.target ≡ Some o
+  one_typed : (op k : ℕ) (e : Equation) (o : Occurrence) → AreWritten e.expr → equation_mismatch t op e ≡ None → slice_get exprs k ≡ Some (equation_typed t op e) → target_there t op e.target ≡ Some o
       → is_rule_typed spec (record { op = op; target = o; args = args_of exprs k; expr = k }) ≡ true
   one_typed op k e o ok fits at means =
       let args : List Occurrence = args_in t op e.expr in
@@ -90,12 +90,12 @@ module _ (t : Table) (spec : Spec) (table : HasTable t spec) (lists : HasLists t
       → AreTyped (rules_from t exprs op k es)
   from_typed op k [] rest ok fits h = tt
   from_typed op k (e ∷ es) rest ok fits h =
-      by (from_typed op (suc k) es rest ok.1 parts.1 (stand_tail k (equation_typed t op e) (map (equation_typed t op) es ++ rest) h)) (target_of t op e.target) refl
+      by (from_typed op (suc k) es rest ok.1 parts.1 (stand_tail k (equation_typed t op e) (map (equation_typed t op) es ++ rest) h)) (target_there t op e.target) refl
     where
       parts : (equation_mismatch t op e ≡ None) × (first (equation_mismatch t op) es ≡ None)
       parts = neither (equation_mismatch t op e) (first (equation_mismatch t op) es) fits
 
-      by : AreTyped (rules_from t exprs op (suc k) es) → (o : Option Occurrence) → target_of t op e.target ≡ o → AreTyped (ruled exprs op k o ++ rules_from t exprs op (suc k) es)
+      by : AreTyped (rules_from t exprs op (suc k) es) → (o : Option Occurrence) → target_there t op e.target ≡ o → AreTyped (ruled exprs op k o ++ rules_from t exprs op (suc k) es)
       by others None means = others
       by others (Some o) means = (one_typed op k e o ok.0 parts.0 (stand_head k (equation_typed t op e) (map (equation_typed t op) es ++ rest) h) means, others)
 

@@ -7,7 +7,7 @@ use Rattle.sg_names.specs.declared.table.Table.{Table}
 use Rattle.sg_names.specs.Lookups.{operator_at}
 use Rattle.sg_typing.specs.declared.bodies.TypedExpr.{TypedExpr}
 use Rattle.sg_typing.specs.Bodies.{expr_count}
-use Rattle.sg_equations.specs.Targets.{target_of}
+use Rattle.sg_equations.specs.Targets.{target_there}
 
 -- what an expression of the record names
 abbrev pub args_of : List TypedExpr → ℕ → List Occurrence
@@ -21,7 +21,7 @@ ruled exprs op k (Some o) = record { op = op; target = o; args = args_of exprs k
 -- equations, of which the first has expression k
 abbrev pub rules_from : Table → List TypedExpr → ℕ → ℕ → List Equation → List Rule
 rules_from t exprs op k [] = []
-rules_from t exprs op k (e ∷ es) = ruled exprs op k (target_of t op e.target) ++ rules_from t exprs op (suc k) es
+rules_from t exprs op k (e ∷ es) = ruled exprs op k (target_there t op e.target) ++ rules_from t exprs op (suc k) es
 
 abbrev pub rules_under : Table → List TypedExpr → ℕ → List Equation → Option ℕ → List Rule
 rules_under t exprs k es None = []

@@ -20,9 +20,9 @@ pub record IsNarrow (t : Table) : Type 0 where
 abbrev pub own : ℕ → Occurrence
 own slot = record { at = 0; slot = slot }
 
-abbrev pub target_of : Table → ℕ → Target → Option Occurrence
-target_of t op (written.Attribute r) = reference t op r
-target_of t op (written.Local n) = option_map own (local_slot t op n.text)
+abbrev pub target_there : Table → ℕ → Target → Option Occurrence
+target_there t op (written.Attribute r) = reference t op r
+target_there t op (written.Local n) = option_map own (local_slot t op n.text)
 
 -- what an equation defines; nothing where its target has no meaning
 abbrev pub defined_as : ℕ → Target → Option Occurrence → List Defined
@@ -30,7 +30,7 @@ defined_as op target None = []
 defined_as op target (Some o) = record { op = op; target = o; place = target_place target } ∷ []
 
 abbrev pub defined_by : Table → ℕ → Equation → List Defined
-defined_by t op e = defined_as op e.target (target_of t op e.target)
+defined_by t op e = defined_as op e.target (target_there t op e.target)
 
 -- what the equations of a declaration define, and those of all declarations
 abbrev pub defined_under : Table → List Equation → Option ℕ → List Defined

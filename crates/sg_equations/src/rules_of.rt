@@ -3,11 +3,11 @@ ghost use Rattle.std.specs.Prelude.{◌≡◌, ◌≢◌, ◌++◌, ◌+◌, ◌
 ghost use Rattle.sg_ast.specs.View.{tree_of, trees_of, equation_of};
 ghost use Rattle.sg_equations.specs.Complete.{incomplete as fault_of};
 ghost use Rattle.sg_equations.specs.RulesOf as spec;
-ghost use Rattle.sg_equations.specs.Targets.{IsNarrow, target_of as meaning};
+ghost use Rattle.sg_equations.specs.Targets.{IsNarrow, target_there as meaning};
 
 use crate::completeness::incomplete;
 use crate::narrow::is_narrow;
-use crate::targets::target_of;
+use crate::targets::target_there;
 use sg_ast::decl::{Decl, Equation};
 use sg_kinds::fault::SpecFault;
 use sg_kinds::ids::{ExprId, OpId};
@@ -78,7 +78,7 @@ fn add_rules(
 {
     let mut k = first;
     for equation in equations {
-        let target = target_of(names, op, &equation.target);
+        let target = target_there(names, op, &equation.target);
         add_rule(alloc, exprs, op, k, target, rules)?;
         k = after(k, 1)?;
     }

@@ -21,9 +21,9 @@ pub struct Defined {
 }
 
 #[tactic(auto, using(crate::proofs::Places::slot_fits))]
-pub(crate) fn target_of(names: &Names, op: OpId, target: &Target) -> Option<Occurrence>
+pub(crate) fn target_there(names: &Names, op: OpId, target: &Target) -> Option<Occurrence>
     requires { spec.IsNarrow names.now }
-    ensures { result ≡ spec.target_of names.now op target.now }
+    ensures { result ≡ spec.target_there names.now op target.now }
 {
     match target {
         Target::Attribute(reference) => names.reference(op, reference),
@@ -45,7 +45,7 @@ fn add_defined(
     ensures { OnOk result (defined.new.items ≡ defined.old.items ++ spec.defined_under names.now (map equation_of equations.now) (Some op)) }
 {
     for equation in equations {
-        if let Some(target) = target_of(names, op, &equation.target) {
+        if let Some(target) = target_there(names, op, &equation.target) {
             let place = equation.target.place();
             defined.push(Defined { op, target, place })?;
         }

@@ -4,7 +4,7 @@ use Rattle.std.proofs.Common.{sym, ◌∙◌, ap, subst, arith, append_assoc, ge
 use Rattle.std.proofs.lemmas.List.{map-append}
 use Rattle.std.proofs.lemmas.Option.{slice_get-map, slice_get_within}
 use Rattle.sg_kinds.specs.Values.{Value}
-use Rattle.sg_pool.specs.Pools.{value_at, Stands, IsGrown}
+use Rattle.sg_pool.specs.Pools.{value_at, StandsFor, IsGrown}
 use Rattle.sg_pool.proofs.Grown.{grown_longer, map_stays, stands_at}
 use Rattle.sg_eval.specs.Lives.{value_in, IsKnown, AreKnown, bindings, bound_in, is_settled, IsUsable, AreUsable}
 use Rattle.sg_eval.specs.declared.live.Live.{Live}
@@ -48,7 +48,7 @@ known_more m n (x ∷ ls) l h = (known_more_one m n x l h.0, known_more m n ls l
 pub value_stays : (us vs : List Value) (k : ℕ) → IsGrown us vs → k < length us → value_at vs k ≡ value_at us k
 value_stays us vs k g h = let e : map (value_at vs) (k ∷ []) ≡ map (value_at us) (k ∷ []) = map_stays us vs (k ∷ []) g (h, tt) in cc
 
-pub stands_later : (us vs : List Value) (k : ℕ) (v : Value) → Stands us k v → IsGrown us vs → value_at vs k ≡ v
+pub stands_later : (us vs : List Value) (k : ℕ) (v : Value) → StandsFor us k v → IsGrown us vs → value_at vs k ≡ v
 stands_later us vs k v s g = value_stays us vs k g (slice_get_within us k v s) ∙ stands_at us k v s
 
 pub live_stays : (us vs : List Value) (l : Live) → IsGrown us vs → IsKnown (length us) l → value_in vs l ≡ value_in us l

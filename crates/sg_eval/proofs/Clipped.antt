@@ -6,9 +6,8 @@ use Rattle.sg_kinds.specs.Values.{Value, Fault, Tree, is_within, row_of}
 use Rattle.sg_kinds.specs.Expressions.{Expr, Exprs, Cases, Constant, Named, MadeOf, Single, Binary, Logical, Cons, Choice, Apply, Call, Let, With, NoExpr, AndExpr, NoCase, Default, Case}
 use Rattle.sg_kinds.specs.declared.spec.Spec.{Spec}
 use Rattle.sg_kinds.specs.declared.marks.FaultKind.TheVariants.{Size}
-use Rattle.sg_kinds.specs.Evaluation.{Inside, Gives, untyped, applied, combined, bound_by, then_with, row_with, row_reached, with_row, if_bound, first_case, choose, connected, body_of, body_reached, step, limited, value_within, outcome_in}
+use Rattle.sg_kinds.specs.Evaluation.{Inside, Gives, untyped, applied, combined, bound_by, then_with, row_with, row_reached, with_row, if_bound, first_case, choose, connected, body_of, body_reached, step, clipped, limited, value_within, outcome_in}
 use Rattle.sg_kinds.specs.Outcome.{outcome_of}
-use Rattle.sg_eval.specs.Lives.{clipped}
 
 -- the same up to what is over the limits
 abbrev Alike : List Value → List Value → Type 0

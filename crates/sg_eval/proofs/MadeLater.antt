@@ -7,12 +7,12 @@ use Rattle.sg_kinds.specs.declared.marks.Made.{Made}
 use Rattle.sg_kinds.specs.declared.marks.Made.TheVariants.{Completing, Placeholder}
 use Rattle.sg_kinds.specs.Evaluation.{made_value}
 use Rattle.sg_kinds.proofs.Elementary.{slice_get-before}
-use Rattle.sg_pool.specs.Pools.{Stands, IsGrown}
+use Rattle.sg_pool.specs.Pools.{StandsFor, IsGrown}
 use Rattle.sg_eval.specs.MadeTerms.{kept_at, with_kept, AreMade}
 use Rattle.sg_eval.specs.declared.made.MadeTerms.{MadeTerms}
 
 -- what stands in a pool stands in a larger one
-pub stands_grown : (us vs : List Value) (k : ℕ) (v : Value) → IsGrown us vs → Stands us k v → Stands vs k v
+pub stands_grown : (us vs : List Value) (k : ℕ) (v : Value) → IsGrown us vs → StandsFor us k v → StandsFor vs k v
 stands_grown us vs k v g h = subst (λ l. slice_get l k ≡ Some v) (sym g.is) (slice_get-before us g.more k v h)
 
 -- what is kept stays right in a larger pool
@@ -28,7 +28,7 @@ nothing_at (suc n) (suc p) id h = nothing_at n p id h
 pub made_nothing : (spec : Spec) (n : ℕ) (m : MadeTerms) (pool : List Value) → m ≡ (replicate n None, replicate n None) → AreMade spec m pool
 made_nothing spec n m pool e = record { stands = by }
   where
-    by : (kind : Made) (p id : ℕ) → kept_at m kind p ≡ Some id → Stands pool id (made_value spec kind p)
+    by : (kind : Made) (p id : ℕ) → kept_at m kind p ≡ Some id → StandsFor pool id (made_value spec kind p)
     by Completing p id h = absurd (nothing_at n p id (subst (λ l. kept_at l Completing p ≡ Some id) e h))
     by Placeholder p id h = absurd (nothing_at n p id (subst (λ l. kept_at l Placeholder p ≡ Some id) e h))
 
@@ -41,14 +41,14 @@ kept_more (o ∷ os) zero (suc q) id old P new h e = h (suc q) old e
 kept_more (o ∷ os) (suc p) zero id old P new h e = h 0 old e
 kept_more (o ∷ os) (suc p) (suc q) id old P new h e = kept_more os p q id old (λ i. P (suc i)) new (λ i. h (suc i)) e
 
-pub made_more : (spec : Spec) (m : MadeTerms) (kind : Made) (p id : ℕ) (pool : List Value) → AreMade spec m pool → Stands pool id (made_value spec kind p) → AreMade spec (with_kept m kind p id) pool
+pub made_more : (spec : Spec) (m : MadeTerms) (kind : Made) (p id : ℕ) (pool : List Value) → AreMade spec m pool → StandsFor pool id (made_value spec kind p) → AreMade spec (with_kept m kind p id) pool
 made_more spec m Completing p id pool h new = record { stands = by }
   where
-    by : (kind : Made) (q old : ℕ) → kept_at (with_kept m Completing p id) kind q ≡ Some old → Stands pool old (made_value spec kind q)
-    by Completing q old e = kept_more m.0 p q id old (λ i j. Stands pool j (made_value spec Completing i)) new (h.stands Completing) e
+    by : (kind : Made) (q old : ℕ) → kept_at (with_kept m Completing p id) kind q ≡ Some old → StandsFor pool old (made_value spec kind q)
+    by Completing q old e = kept_more m.0 p q id old (λ i j. StandsFor pool j (made_value spec Completing i)) new (h.stands Completing) e
     by Placeholder q old e = h.stands Placeholder q old e
 made_more spec m Placeholder p id pool h new = record { stands = by }
   where
-    by : (kind : Made) (q old : ℕ) → kept_at (with_kept m Placeholder p id) kind q ≡ Some old → Stands pool old (made_value spec kind q)
+    by : (kind : Made) (q old : ℕ) → kept_at (with_kept m Placeholder p id) kind q ≡ Some old → StandsFor pool old (made_value spec kind q)
     by Completing q old e = h.stands Completing q old e
-    by Placeholder q old e = kept_more m.1 p q id old (λ i j. Stands pool j (made_value spec Placeholder i)) new (h.stands Placeholder) e
+    by Placeholder q old e = kept_more m.1 p q id old (λ i j. StandsFor pool j (made_value spec Placeholder i)) new (h.stands Placeholder) e

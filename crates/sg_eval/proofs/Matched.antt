@@ -7,7 +7,7 @@ use Rattle.sg_kinds.specs.Expressions.{Pattern, Patterns, Applied, NoPattern, An
 use Rattle.sg_kinds.specs.declared.spec.Spec.{Spec}
 use Rattle.sg_kinds.specs.Evaluation.{bound_by, bound_by_all, nothing_if}
 use Rattle.sg_kinds.specs.SameValue.{nat_same}
-use Rattle.sg_pool.specs.Pools.{value_at, Stands, tree_over, IsGrown}
+use Rattle.sg_pool.specs.Pools.{value_at, StandsFor, tree_over, IsGrown}
 use Rattle.sg_pool.specs.PoolEntries.{entry_value}
 use Rattle.sg_pool.specs.declared.entry.Entry.{Entry}
 use Rattle.sg_pool.specs.declared.entry.Entry.TheVariants as entry
@@ -102,7 +102,7 @@ kid_past f [] n h = nothing_from n
 kid_past f (j ∷ ks) zero h = cc
 kid_past f (j ∷ ks) (suc n) h = kid_past f ks n h
 
-pub kid_is : (pool : List Value) (id n : ℕ) (e : Entry) (op : ℕ) (kids : List ℕ) (o : Option ℕ) → Stands pool id (entry_value pool e) → e ≡ entry.Tree op kids → o ≡ slice_get kids n
+pub kid_is : (pool : List Value) (id n : ℕ) (e : Entry) (op : ℕ) (kids : List ℕ) (o : Option ℕ) → StandsFor pool id (entry_value pool e) → e ≡ entry.Tree op kids → o ≡ slice_get kids n
     → MatchOption o (kids_from n (value_at pool id) ≡ NoValue) (λ k. kids_from n (value_at pool id) ≡ AndValue (value_at pool k) (kids_from (suc n) (value_at pool id)))
 kid_is pool id n e op kids o stands is there = by o there
   where

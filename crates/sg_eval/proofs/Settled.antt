@@ -5,20 +5,20 @@ use Rattle.std.proofs.lemmas.List.{map-append}
 use Rattle.sg_kinds.specs.Values.{Value}
 use Rattle.sg_kinds.specs.Expressions.{Expr}
 use Rattle.sg_kinds.specs.declared.spec.Spec.{Spec}
-use Rattle.sg_pool.specs.Pools.{value_at, Stands, IsGrown}
-use Rattle.sg_kinds.specs.Evaluation.{untyped, outcome_in, value_within}
+use Rattle.sg_pool.specs.Pools.{value_at, StandsFor, IsGrown}
+use Rattle.sg_kinds.specs.Evaluation.{untyped, clipped, outcome_in, value_within}
 use Rattle.sg_kinds.specs.Outcome.{outcome_of}
 use Rattle.sg_pool.specs.PoolView.{AreBelow}
 use Rattle.sg_kinds.proofs.Kids.{take_more}
 use Rattle.sg_pool.proofs.Grown.{map_stays}
 use Rattle.sg_pool.proofs.Pooled.{below_all}
-use Rattle.sg_eval.specs.Lives.{is_settled, bound_in, clipped}
+use Rattle.sg_eval.specs.Lives.{is_settled, bound_in}
 
 -- a text or a tree of a pool stands at its number
-pub stands_settled : (pool : List Value) (k : ℕ) → IsTrue (is_settled (value_at pool k)) → Stands pool k (value_at pool k)
+pub stands_settled : (pool : List Value) (k : ℕ) → IsTrue (is_settled (value_at pool k)) → StandsFor pool k (value_at pool k)
 stands_settled pool k h = by (slice_get pool k) refl
   where
-    by : (o : Option Value) → slice_get pool k ≡ o → Stands pool k (value_at pool k)
+    by : (o : Option Value) → slice_get pool k ≡ o → StandsFor pool k (value_at pool k)
     by (Some v) e = e ∙ ap (λ x. Some (unwrap_or x untyped)) (sym e)
     by None e = let none : IsTrue (is_settled untyped) = subst (λ x. IsTrue (is_settled (unwrap_or x untyped))) e h in cc
 
@@ -52,5 +52,5 @@ all_below n ks h = λ i d l. below_at n ks i d h l
 pub clipped_more : (vs : List Value) (i : ℕ) (v : Value) → i < length vs → v ≡ get_or vs i v → map clipped (take i vs) ++ clipped v ∷ [] ≡ map clipped (take (i + 1) vs)
 clipped_more vs i v l e = sym (ap (map clipped) (take_more vs i v l e) ∙ map-append clipped (take i vs) (v ∷ []))
 
-pub same_there : (pool : List Value) (k : ℕ) (v w : Value) → Stands pool k v → Stands pool k w → v ≡ w
+pub same_there : (pool : List Value) (k : ℕ) (v w : Value) → StandsFor pool k v → StandsFor pool k w → v ≡ w
 same_there pool k v w h g = let e : Some v ≡ Some w = sym h ∙ g in cc

@@ -3,7 +3,7 @@ use Rattle.std.specs.Prelude.{◌≡◌, ℕ, zero, suc, ◌<◌, Bool, true, fa
 use Rattle.sg_kinds.specs.Values.{Value, Values, Truth, Number, Chars, Tree, Fault, NoValue, AndValue, is_within}
 use Rattle.sg_pool.specs.Pools.{value_at}
 use Rattle.sg_kinds.specs.Evaluation.{Reached, Operands, Gives, Every, Halted}
-use Rattle.sg_kinds.specs.declared.marks.FaultKind.TheVariants.{Overflow, Size}
+use Rattle.sg_kinds.specs.declared.marks.FaultKind.TheVariants.{Overflow}
 use Rattle.sg_kinds.specs.declared.marks.Connective.{Connective}
 use Rattle.sg_kinds.specs.declared.marks.Connective.TheVariants.{Both, Either}
 use Rattle.sg_eval.specs.declared.live.Live.{Live}
@@ -99,7 +99,3 @@ is_chars v = false
 abbrev pub needs_second : Connective → Bool → Bool
 needs_second Both first = first
 needs_second Either first = not first
-
--- a value, or the fault that it is over a limit
-abbrev pub clipped : Value → Value
-clipped v = cond (is_within v) v (Fault Size)

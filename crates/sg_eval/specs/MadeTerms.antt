@@ -5,7 +5,7 @@ use Rattle.sg_kinds.specs.declared.spec.Spec.{Spec}
 use Rattle.sg_kinds.specs.declared.marks.Made.{Made}
 use Rattle.sg_kinds.specs.declared.marks.Made.TheVariants.{Completing, Placeholder}
 use Rattle.sg_kinds.specs.Evaluation.{made_value}
-use Rattle.sg_pool.specs.Pools.{Stands}
+use Rattle.sg_pool.specs.Pools.{StandsFor}
 use Rattle.sg_eval.specs.declared.made.MadeTerms.{MadeTerms}
 
 -- what is kept of completing terms, or of placeholders, by phylum
@@ -24,4 +24,4 @@ with_kept m Placeholder p id = (m.0, slice_set m.1 p (Some id))
 
 -- each number that is kept for a phylum stands in the pool for the value of its completing term, or of its placeholder
 pub record AreMade (spec : Spec) (m : MadeTerms) (pool : List Value) : Type 0 where
-  pub stands : (kind : Made) (p id : ℕ) → kept_at m kind p ≡ Some id → Stands pool id (made_value spec kind p)
+  pub stands : (kind : Made) (p id : ℕ) → kept_at m kind p ≡ Some id → StandsFor pool id (made_value spec kind p)

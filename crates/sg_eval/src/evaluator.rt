@@ -1,13 +1,13 @@
 // The evaluator of a specification.
 ghost use Rattle.std.specs.Prelude.{◌≡◌, ℕ, ◌<◌, ◌⊎◌, List, [], ◌∷◌, ◌++◌, map, length, All, slice_get, Some, IfOk, OnOk, OnErr};
 ghost use Rattle.sg_kinds.specs.declared.spec.Rule.{Rule};
-ghost use Rattle.sg_pool.specs.Pools.{value_at, Stands, IsGrown};
-ghost use Rattle.sg_kinds.specs.Evaluation.{Reached, outcome_in};
+ghost use Rattle.sg_pool.specs.Pools.{value_at, StandsFor, IsGrown};
+ghost use Rattle.sg_kinds.specs.Evaluation.{Reached, outcome_in, clipped};
 ghost use Rattle.sg_kinds.specs.Outcome.{outcome, outcome_of};
 ghost use Rattle.sg_eval.specs.Journal.{now_of, total_of};
 ghost use Rattle.sg_eval.specs.Applied.{IsApplied};
 ghost use Rattle.sg_eval.specs.MadeTerms.{AreMade};
-ghost use Rattle.sg_eval.specs.Lives.{IsReached, clipped};
+ghost use Rattle.sg_eval.specs.Lives.{IsReached};
 
 use crate::eval::{Scope, enter};
 use crate::journal::{Instance, Journal};
@@ -82,7 +82,7 @@ impl Evaluator {
         requires args { All (λ k. k < length pool.old) args.now }
         requires made { AreMade self.now made.old pool.old }
         ensures outcome { (r : Rule) → slice_get self.now.rules rule ≡ Some r →
-            IfOk result (λ id. Stands pool.new id (outcome self.now r (map (value_at pool.old) args.now))) }
+            IfOk result (λ id. StandsFor pool.new id (outcome self.now r (map (value_at pool.old) args.now))) }
         ensures noted { OnOk result (now_of journal.new ≡ now_of journal.old ++ who ∷ []) }
         ensures err { OnErr result
             ((now_of journal.new ≡ now_of journal.old) ⊎ (now_of journal.new ≡ now_of journal.old ++ who ∷ [])) }
@@ -126,7 +126,7 @@ impl Evaluator {
         requires bound { All (λ k. k < length pool.old) bound.now }
         requires made { AreMade self.now made.old pool.old }
         ensures outcome { IfOk result
-            (λ id. Stands pool.new id (outcome_of self.now e (map (value_at pool.old) bound.now))) }
+            (λ id. StandsFor pool.new id (outcome_of self.now e (map (value_at pool.old) bound.now))) }
         ensures grown { IsGrown pool.old pool.new }
         ensures made { AreMade self.now made.new pool.new }
     {
@@ -136,7 +136,7 @@ impl Evaluator {
 
 // the number of a value, or of the fault that it is over a limit
 fn clip(v: &Value, pool: &mut Pool) -> Result<ValueId, NoMemory>
-    ensures stands { IfOk result (λ id. Stands pool.new id (clipped v.now)) }
+    ensures stands { IfOk result (λ id. StandsFor pool.new id (clipped v.now)) }
     ensures grown { IsGrown pool.old pool.new }
 {
     if v.is_within() {
@@ -159,7 +159,7 @@ fn evaluate(
     requires args { All (λ k. k < length pool.old) args.now }
     requires made { AreMade spec.now made.old pool.old }
     ensures outcome { IfOk result
-        (λ id. Stands pool.new id (outcome_of spec.now e (map (value_at pool.old) args.now))) }
+        (λ id. StandsFor pool.new id (outcome_of spec.now e (map (value_at pool.old) args.now))) }
     ensures grown { IsGrown pool.old pool.new }
     ensures made { AreMade spec.now made.new pool.new }
 {
@@ -178,7 +178,7 @@ fn evaluate(
 // the number of an answer's value
 fn settled(reached: Result<Live, Stop>, pool: &mut Pool) -> Result<ValueId, NoMemory>
     ensures ok { (r : Reached) (left : ℕ) → IsReached pool.old reached left r →
-        IfOk result (λ id. Stands pool.new id (outcome_in r)) }
+        IfOk result (λ id. StandsFor pool.new id (outcome_in r)) }
     ensures grown { IsGrown pool.old pool.new }
 {
     match reached {

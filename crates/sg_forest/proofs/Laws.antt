@@ -4,8 +4,8 @@ use Rattle.std.specs.List.{slice_get}
 use Rattle.sg_forest.specs.declared.node_id.NodeId.{NodeId}
 use Rattle.sg_forest.specs.Node.{Node}
 use Rattle.sg_forest.specs.Trees.{IsLive, IsRoot, IsChild, Lists, Climbs, IsInside, IsLinked, IsForest}
-use Rattle.sg_forest.specs.Tree.{Tree, Row, node, Shows, Stands, StandAll, with_kid, with_part, KeepsTrees, KeepsTreesWithout, KeepsTreesNotOver, KeepsTreesOutside, ChangesTrees, ReplacesTrees, GrowsTree, KeepsWays, KeepsWaysWithin, KeepsWaysOutside}
-use Rattle.sg_forest.specs.Steps.{IsPartSet, IsSwapped, IsGrown, IsDropped, SameSort, KeepsParts, KeepsKids}
+use Rattle.sg_forest.specs.Tree.{Tree, Row, node, Shows, Stands, StandAll, changed_kid, with_part, KeepsTrees, KeepsTreesWithout, KeepsTreesNotOver, KeepsTreesOutside, ChangesTrees, ReplacesTrees, GrowsTree, KeepsWays, KeepsWaysWithin, KeepsWaysOutside}
+use Rattle.sg_forest.specs.Steps.{IsPartSet, IsSwapped, IsAdded, IsDropped, SameSort, KeepsParts, KeepsKids}
 use Rattle.sg_forest.proofs.Paths.{root_inside, root_or_child, one_parent, parent_outside, child_has_root, inside_by_parent, inside_append, inside_itself}
 use Rattle.sg_forest.proofs.Standing.{Stands-kept, StandAll-kept, StandAll-set, Stands-apart, StandAll-below, Stands-changed}
 use Rattle.sg_forest.proofs.Swapped as swap
@@ -51,7 +51,7 @@ module _ {L D : Type 0} (old new : NodeId → Option (Node L D)) (a d p : NodeId
   detached_stands u stands =
       Stands-apart old new linked p kept_but_parent d (λ inside. apart (inside_by_parent old a p d k child inside)) u stands
 
-  at_parent : (u : Tree L D) → Stands old d u → (t : Tree L D) → Stands old p t → Stands new p (with_kid k (λ _. u) t)
+  at_parent : (u : Tree L D) → Stands old d u → (t : Tree L D) → Stands old p t → Stands new p (changed_kid k (λ _. u) t)
   at_parent u under (node label part ts) stands =
       let shows = stands.1 in
       let kids = stands.0 in
@@ -75,7 +75,7 @@ module _ {L D : Type 0} (old new : NodeId → Option (Node L D)) (a d p : NodeId
   ReplacesTrees-swapped j path m t u climbs stands under =
       let one = one_parent old a climbs.0 p j k climbs.1 child in
       let from_p : Climbs old path p m = rw one.0 at climbs.2 in
-      rw one.1 (Stands-changed old new linked p kept_but_parent path p m (with_kid k (λ _. u)) (inside_itself old p) from_p (at_parent u under) t stands)
+      rw one.1 (Stands-changed old new linked p kept_but_parent path p m (changed_kid k (λ _. u)) (inside_itself old p) from_p (at_parent u under) t stands)
 
   pub KeepsWaysWithin-swapped : KeepsWaysWithin old new a
   KeepsWaysWithin-swapped [] n m within same = same
@@ -109,7 +109,7 @@ module _ {L D : Type 0} (old new : NodeId → Option (Node L D)) (a d p : NodeId
 
 module _ {L D : Type 0} (old new : NodeId → Option (Node L D)) (label : L) (part : D) (kids : List NodeId) (id : NodeId)
     (linked : IsLinked old) (roots : (k : ℕ) (kid : NodeId) → slice_get kids k ≡ Some kid → IsRoot old kid)
-    (grown : IsGrown old new label part kids id) where
+    (grown : IsAdded old new label part kids id) where
   pub GrowsTree-grown : GrowsTree old new label part kids id
   GrowsTree-grown ts all = (
     kids,

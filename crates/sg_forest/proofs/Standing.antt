@@ -4,7 +4,7 @@ use Rattle.std.specs.List.{slice_get}
 use Rattle.sg_forest.specs.declared.node_id.NodeId.{NodeId}
 use Rattle.sg_forest.specs.Node.{Node}
 use Rattle.sg_forest.specs.Trees.{Trees, node_at, IsLive, IsChild, Lists, Climbs, IsInside, IsLinked, room_below}
-use Rattle.sg_forest.specs.Tree.{Tree, Row, node, end, beside, Shows, Stands, StandAll, IsAlike, AreAlike, tree_at, changed_at, with_kid, changed}
+use Rattle.sg_forest.specs.Tree.{Tree, Row, node, end, beside, Shows, Stands, StandAll, IsAlike, AreAlike, tree_at, changed_at, changed_kid, changed}
 use Rattle.sg_forest.proofs.Paths.{siblings_apart, parent_outside, child_has_root, inside_by_parent, inside_append, inside_itself}
 use Rattle.sg_forest.proofs.Moves.{set-same}
 use Rattle.sg_forest.proofs.Depth.{room_below-child}
@@ -184,7 +184,7 @@ module _ {L D : Type 0} (old new : NodeId → Option (Node L D)) (linked : IsLin
       Stands-apart c (parent_outside old c p j (child_has_root old linked c p j child) child)) all
 
   -- a step up: the tree over a changed child
-  step : (n q : NodeId) (k : ℕ) (f : Tree L D → Tree L D) → IsInside old p n → IsChild old n q k → ((t : Tree L D) → Stands old n t → Stands new n (f t)) → (t : Tree L D) → Stands old q t → Stands new q (with_kid k f t)
+  step : (n q : NodeId) (k : ℕ) (f : Tree L D → Tree L D) → IsInside old p n → IsChild old n q k → ((t : Tree L D) → Stands old n t → Stands new n (f t)) → (t : Tree L D) → Stands old q t → Stands new q (changed_kid k f t)
   step n q k f inside child turns (node label part ts) stands =
       let shows = stands.1 in
       let kids = stands.0 in
@@ -206,4 +206,4 @@ module _ {L D : Type 0} (old new : NodeId → Option (Node L D)) (linked : IsLin
   Stands-changed (k ∷ path) n m f inside climbs turns t stands =
       let q = climbs.0 in
       let up = inside_append old p n q inside (inside_by_parent old n q q k climbs.1 (inside_itself old q)) in
-      Stands-changed path q m (with_kid k f) up climbs.2 (step n q k f inside climbs.1 turns) t stands
+      Stands-changed path q m (changed_kid k f) up climbs.2 (step n q k f inside climbs.1 turns) t stands

@@ -27,8 +27,8 @@ module _ {L D : Type 0} where
   changed_at (suc k) f (beside t ts) = beside t (changed_at k f ts)
 
   -- the tree with one child changed
-  abbrev pub with_kid : ℕ → (Tree L D → Tree L D) → Tree L D → Tree L D
-  with_kid k f (node label part ts) = node label part (changed_at k f ts)
+  abbrev pub changed_kid : ℕ → (Tree L D → Tree L D) → Tree L D → Tree L D
+  changed_kid k f (node label part ts) = node label part (changed_at k f ts)
 
   -- the tree with another part at its root
   abbrev pub with_part : D → Tree L D → Tree L D
@@ -38,7 +38,7 @@ module _ {L D : Type 0} where
   -- child number comes first
   abbrev pub changed : List ℕ → (Tree L D → Tree L D) → Tree L D → Tree L D
   changed [] f t = f t
-  changed (k ∷ path) f t = changed path (with_kid k f) t
+  changed (k ∷ path) f t = changed path (changed_kid k f) t
 
   -- the tree with another in that place
   abbrev pub replaced : List ℕ → Tree L D → Tree L D → Tree L D

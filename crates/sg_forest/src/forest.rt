@@ -1,7 +1,7 @@
 ghost use Rattle.std.specs.Prelude.{◌≡◌, ◌≢◌, ◌<◌, ◌≤◌, ◌+◌, ◌↔◌, ℕ, length, slice_get, IfOk, OnOk, OnErr, IfErr, IfSome, IsOk, IsTrue, Some, None};
 ghost use Rattle.sg_forest.specs.Trees.{node_at, IsLive, IsRoot, IsChild, IsInside, IsForest, room_below};
 ghost use Rattle.sg_forest.specs.Tree.{node, tree_at, Stands, with_part, KeepsTrees, KeepsTreesWithout, KeepsTreesNotOver, KeepsTreesOutside, ChangesTrees, ReplacesTrees, GrowsTree, KeepsWays, KeepsWaysWithin, KeepsWaysTo, MovesWays, KeepsWaysOutside};
-ghost use Rattle.sg_forest.specs.Steps.{SameSort, AreDistinct, AreRoots, KeepsParts, KeepsKids, KeepsShape, IsPartSet, IsSwapped, IsGrown, IsDropped};
+ghost use Rattle.sg_forest.specs.Steps.{SameSort, AreDistinct, AreRoots, KeepsParts, KeepsKids, KeepsShape, IsPartSet, IsSwapped, IsAdded, IsDropped};
 
 use crate::label::Label;
 use crate::node::Entry;
@@ -190,7 +190,7 @@ impl<L: Label, D> Forest<L, D> {
         requires count { length kids.items ≡ L.arity_of label }
         requires roots { AreRoots L.sort_of (node_at self.old) (L.kid_sort_of label) kids.items }
         requires distinct { AreDistinct kids.items }
-        ensures grown { IfOk result (IsGrown (node_at self.old) (node_at self.new) label part kids.items) }
+        ensures grown { IfOk result (IsAdded (node_at self.old) (node_at self.new) label part kids.items) }
         ensures err { OnErr result (self.new.nodes ≡ self.old.nodes) }
         ensures refused { IfErr result (λ r.
             (r.label ≡ label) × (r.part ≡ part) × (r.kids.items ≡ kids.items)) }

@@ -1,7 +1,7 @@
 ghost use Rattle.std.specs.Prelude.{◌≡◌, ◌≢◌, ◌<◌, ◌≤◌, ◌-◌, ◌+◌, ◌↔◌, ℕ, length, take, slice_get, slice_set, Some, None, IsTrue};
 ghost use Rattle.slab.specs.Slab.{get, ContainsKey, slab_len, HasRoomFor};
 ghost use Rattle.sg_forest.specs.Trees.{node_in, IsLive, IsRoot, IsChild, Lists, IsInside, IsLinked};
-ghost use Rattle.sg_forest.specs.Steps.{IsSwapped, IsGrown, IsDropped, AreDistinct};
+ghost use Rattle.sg_forest.specs.Steps.{IsSwapped, IsAdded, IsDropped, AreDistinct};
 
 use crate::node::Entry;
 use crate::node_id::NodeId;
@@ -134,7 +134,7 @@ pub fn add_root<L, D>(nodes: &mut Slab<Entry<L, D>>, label: L, part: D, kids: Ve
     requires live { (k : ℕ) (kid : _) → slice_get kids.items k ≡ Some kid
         → IsLive (node_in nodes.old) kid }
     requires distinct { AreDistinct kids.items }
-    ensures grown { IsGrown (node_in nodes.old) (node_in nodes.new) label part kids.items result }
+    ensures grown { IsAdded (node_in nodes.old) (node_in nodes.new) label part kids.items result }
     ensures capacity { nodes.new.capacity ≡ nodes.old.capacity }
     ensures len { slab_len nodes.new ≡ slab_len nodes.old + 1 }
 {

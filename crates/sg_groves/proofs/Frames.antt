@@ -13,7 +13,7 @@ use Rattle.sg_kinds.specs.Instances.{site_of}
 use Rattle.sg_kinds.specs.FromScratch.{value_in}
 use Rattle.sg_kinds.specs.Specification.{rules_of}
 use Rattle.sg_kinds.specs.declared.spec.Spec.{Spec}
-use Rattle.sg_pool.specs.Pools.{value_at, IsGrown, Stands}
+use Rattle.sg_pool.specs.Pools.{value_at, IsGrown, StandsFor}
 use Rattle.sg_pool.proofs.Grown.{grown_itself, grown_twice}
 use Rattle.sg_forest.specs.declared.node_id.NodeId.{NodeId}
 use Rattle.sg_forest.specs.Node as forest
@@ -81,14 +81,14 @@ only_twice old mid new first second one two = record {
 }
 
 -- each stored number is in the pool
-pub number_stands : (g : Grove) → IsGrove g → (n : NodeId) (slot id : ℕ) → number_at g n slot ≡ Some id → (v : Value) × Stands g.pool id v
+pub number_stands : (g : Grove) → IsGrove g → (n : NodeId) (slot id : ℕ) → number_at g n slot ≡ Some id → (v : Value) × StandsFor g.pool id v
 number_stands g is n slot id at = by (nodes g n) refl at
   where
-    in_node : (x : forest.Node Kind Part) (o : Option ℕ) → MatchOption o (IsLeaf g x) (IsOperation g x) → slice_get x.part.values slot ≡ Some id → (v : Value) × Stands g.pool id v
+    in_node : (x : forest.Node Kind Part) (o : Option ℕ) → MatchOption o (IsLeaf g x) (IsOperation g x) → slice_get x.part.values slot ≡ Some id → (v : Value) × StandsFor g.pool id v
     in_node x None leaf got = in_leaf slot (sym (ap (λ l. slice_get l slot) leaf.values) ∙ got)
       where
-        in_leaf : (k : ℕ) → slice_get (leaf.id ∷ []) k ≡ Some id → (v : Value) × Stands g.pool id v
-        in_leaf zero e = (leaf.value, subst (λ j. Stands g.pool j leaf.value) (same_Some leaf.id id e) leaf.stands)
+        in_leaf : (k : ℕ) → slice_get (leaf.id ∷ []) k ≡ Some id → (v : Value) × StandsFor g.pool id v
+        in_leaf zero e = (leaf.value, subst (λ j. StandsFor g.pool j leaf.value) (same_Some leaf.id id e) leaf.stands)
         in_leaf (suc k) e = absurd (none-some id e)
     in_node x (Some op) operation got =
         let typed = operation.values in
@@ -97,13 +97,13 @@ number_stands g is n slot id at = by (nodes g n) refl at
         let one = typed.each slot type.0 id type.1 got in
         (one.value, one.stands)
 
-    by : (o : Option (forest.Node Kind Part)) → nodes g n ≡ o → option_and_then (λ x. slice_get x.part.values slot) o ≡ Some id → (v : Value) × Stands g.pool id v
+    by : (o : Option (forest.Node Kind Part)) → nodes g n ≡ o → option_and_then (λ x. slice_get x.part.values slot) o ≡ Some id → (v : Value) × StandsFor g.pool id v
     by None found got = absurd (none-some id got)
     by (Some x) found got = in_node x x.label.op (is.each n x found) got
 
 module _ (old new : Grove) (changed : Slots) (only : OnlyStored old new changed) where
   -- a number keeps its value
-  grown_stands : (id : ℕ) (v : Value) → Stands old.pool id v → Stands new.pool id v
+  grown_stands : (id : ℕ) (v : Value) → StandsFor old.pool id v → StandsFor new.pool id v
   grown_stands id v stands = ap (λ l. slice_get l id) only.pool.is ∙ slice_get-before old.pool only.pool.more id v stands
 
   -- ways and roots

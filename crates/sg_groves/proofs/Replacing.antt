@@ -6,7 +6,7 @@ use Rattle.sg_kinds.specs.Values.{Value}
 use Rattle.sg_kinds.specs.Terms.{Term, Leaf, Node, AndTerm, terms_of}
 use Rattle.sg_kinds.specs.Places.{Place, child, sub, put, with_child}
 use Rattle.sg_kinds.specs.Places as places
-use Rattle.sg_forest.specs.Tree.{Tree, Row, node, end, beside, changed_at, with_kid, changed, replaced}
+use Rattle.sg_forest.specs.Tree.{Tree, Row, node, end, beside, changed_at, changed_kid, changed, replaced}
 use Rattle.sg_groves.specs.declared.kind.Kind.{Kind}
 use Rattle.sg_groves.specs.declared.part.Part.{Part}
 use Rattle.sg_groves.specs.Stored.{kept}
@@ -23,7 +23,7 @@ module _ (pool : List Value) where
   row_changed (beside t ts) zero f x s at becomes = ap (λ y. AndTerm y (terms_under pool ts)) (becomes t (same_Some (term_of pool t) x at))
   row_changed (beside t ts) (suc k) f x s at becomes = ap (AndTerm (term_of pool t)) (row_changed ts k f x s at becomes)
 
-  kid_changed : (k : ℕ) (f : Tree Kind Part → Tree Kind Part) (n x s : Term) → child k n ≡ Some x → Becomes f x s → Becomes (with_kid k f) n (with_child n k s)
+  kid_changed : (k : ℕ) (f : Tree Kind Part → Tree Kind Part) (n x s : Term) → child k n ≡ Some x → Becomes f x s → Becomes (changed_kid k f) n (with_child n k s)
   kid_changed k f n x s at becomes (node kind part ts) is = by kind.op (subst (λ m. child k m ≡ Some x) (sym is) at) ∙ ap (λ m. with_child m k s) is
     where
       by : (o : Option ℕ) → child k (elim o [ None ↦ Leaf kind.phylum (kept pool part 0) | Some op ↦ Node op part.scheme part.elided (terms_under pool ts) ]) ≡ Some x
@@ -38,9 +38,9 @@ module _ (pool : List Value) where
     where
       by : (o : Option Term) → sub (term_of pool t) u ≡ o → option_and_then (child k) o ≡ Some x
           → ((g : Tree Kind Part → Tree Kind Part) (n m : Term) → sub (term_of pool t) u ≡ Some n → Becomes g n m → term_of pool (changed u g t) ≡ put (term_of pool t) u m)
-          → term_of pool (changed u (with_kid k f) t) ≡ elim o [ None ↦ term_of pool t | Some n ↦ put (term_of pool t) u (with_child n k s) ]
+          → term_of pool (changed u (changed_kid k f) t) ≡ elim o [ None ↦ term_of pool t | Some n ↦ put (term_of pool t) u (with_child n k s) ]
       by None is got again = absurd (none-some x got)
-      by (Some n) is got again = again (with_kid k f) n (with_child n k s) is (kid_changed k f n x s got becomes)
+      by (Some n) is got again = again (changed_kid k f) n (with_child n k s) is (kid_changed k f n x s got becomes)
 
   pub tree_replaced : (u : Place) (new t : Tree Kind Part) (x : Term) → sub (term_of pool t) u ≡ Some x → term_of pool (replaced u new t) ≡ put (term_of pool t) u (term_of pool new)
   tree_replaced u new t x at = tree_changed u (λ _. new) t x (term_of pool new) at (λ _ _. refl)

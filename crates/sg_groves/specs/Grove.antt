@@ -8,7 +8,7 @@ use Rattle.sg_kinds.specs.Typing.{slots_there}
 use Rattle.sg_kinds.specs.Fits.{MayHold}
 use Rattle.sg_kinds.specs.OfType.{IsOfType}
 use Rattle.sg_kinds.specs.Sound.{IsSound}
-use Rattle.sg_pool.specs.Pools.{Stands}
+use Rattle.sg_pool.specs.Pools.{StandsFor}
 use Rattle.sg_kinds.specs.declared.marks.FaultKind.TheVariants.{Fuel}
 use Rattle.sg_forest.specs.declared.node_id.NodeId.{NodeId}
 use Rattle.sg_forest.specs.Node.{Node}
@@ -28,7 +28,7 @@ nodes g n = node_at g.trees n
 -- a number stands for a value of a type
 pub record IsTyped (spec : Spec) (pool : List Value) (type id : ℕ) : Type 0 where
   pub value : Value
-  pub stands : Stands pool id value
+  pub stands : StandsFor pool id value
   pub typed : IsOfType spec type value
 
 -- a number for each slot, of a value of its type
@@ -52,7 +52,7 @@ pub record IsLeaf (g : Grove) (x : Node Kind Part) : Type 0 where
   pub id : ℕ
   pub value : Value
   pub values : x.part.values ≡ id ∷ []
-  pub stands : Stands g.pool id value
+  pub stands : StandsFor g.pool id value
   pub held : MatchOption (slice_get g.spec.phyla x.label.phylum) ⊥ (λ (p : Phylum). MayHold g.spec p.shape value)
 
 abbrev pub IsNode : Grove → Node Kind Part → Type 0
@@ -61,6 +61,6 @@ IsNode g x = MatchOption x.label.op (IsLeaf g x) (IsOperation g x)
 -- the trees hold terms of a sound specification; number 0 stands for a value that is not known yet
 pub record IsGrove (g : Grove) : Type 0 where
   pub sound : IsSound g.spec
-  pub unknown : Stands g.pool 0 (Fault Fuel)
+  pub unknown : StandsFor g.pool 0 (Fault Fuel)
   pub forest : IsForest (λ (k : Kind). k.arity) (λ (k : Kind). 0) (λ (k : Kind) (i : ℕ). 0) (nodes g)
   pub each : (n : NodeId) (x : Node Kind Part) → nodes g n ≡ Some x → IsNode g x

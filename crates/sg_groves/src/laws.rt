@@ -9,7 +9,7 @@ ghost use Rattle.sg_kinds.specs.Specification.{rules_of};
 ghost use Rattle.sg_kinds.specs.Terms.{Term};
 ghost use Rattle.sg_kinds.specs.Values.{Value};
 ghost use Rattle.sg_kinds.specs.declared.spec.Spec.{Spec};
-ghost use Rattle.sg_pool.specs.Pools.{Stands};
+ghost use Rattle.sg_pool.specs.Pools.{StandsFor};
 ghost use Rattle.sg_forest.specs.Node.{Node};
 ghost use Rattle.sg_forest.specs.Tree.{Tree, changed, replaced};
 ghost use Rattle.sg_forest.specs.Trees.{Climbs, IsLive, IsRoot};
@@ -52,7 +52,7 @@ pub fn subterms_are_held()
 /// Each stored number stands for a value of the pool.
 #[tactic(auto, using(crate::proofs::Frames::number_stands))]
 pub fn numbers_stand()
-    ensures { (g : Grove) → IsGrove g → (n : NodeId) (slot id : ℕ) → number_at g n slot ≡ Some id → (v : Value) × Stands g.pool id v }
+    ensures { (g : Grove) → IsGrove g → (n : NodeId) (slot id : ℕ) → number_at g n slot ≡ Some id → (v : Value) × StandsFor g.pool id v }
 {}
 
 /// That only the stored values that pass a test change holds where nothing does, with a wider test, and of one step after

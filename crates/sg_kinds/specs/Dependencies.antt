@@ -1,11 +1,15 @@
 -- The dependencies among the attributes of an operator, and those induced among the attributes of a phylum.
-use Rattle.std.specs.Prelude.{◌≡◌, ℕ, zero, suc, ◌<◌, length, Option, Some, slice_get, Contains}
-use Rattle.sg_kinds.specs.Specification.{Rules, Rule, Occurrence, attrs_of, args_of, phylum_of}
+use Rattle.std.specs.Prelude.{◌≡◌, ℕ, zero, suc, ◌<◌, Bool, false, length, Option, Some, slice_get, option_map, unwrap_or, Contains}
+use Rattle.sg_kinds.specs.Specification.{Rules, Rule, Occurrence, attrs_of, args_of, phylum_of, is_inherited}
 
 -- the phylum at an occurrence of an operator, if there is one
 abbrev pub phylum_there : Rules → ℕ → ℕ → Option ℕ
 phylum_there rules p zero = phylum_of rules.ops p
 phylum_there rules p (suc k) = slice_get (args_of rules.ops p) k
+
+-- whether a slot of an occurrence is an inherited attribute
+abbrev pub is_inherited_there : Rules → ℕ → ℕ → ℕ → Bool
+is_inherited_there rules p k slot = unwrap_or (option_map (λ X. is_inherited rules.phyla X slot) (phylum_there rules p k)) false
 
 -- a is an attribute of X
 abbrev pub IsAttr : Rules → ℕ → ℕ → Type 0

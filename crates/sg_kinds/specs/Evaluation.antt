@@ -189,8 +189,11 @@ step spec inside (Let a b) env left = then_with (inside a env left) (λ v l. ins
 step spec inside (With a cases) env left = then_with (inside a env left) (λ v l. first_case spec inside v cases env l)
 
 -- a value over a limit becomes `size`
+abbrev pub clipped : Value → Value
+clipped v = cond (is_within v) v (Fault Size)
+
 abbrev pub limited : Reached → Reached
-limited (Gives v left) = Gives (cond (is_within v) v (Fault Size)) left
+limited (Gives v left) = Gives (clipped v) left
 
 -- an expression on bindings and fuel, where `room` nodes more may be entered and not left
 abbrev pub value_within : Spec → ℕ → Expr → List Value → ℕ → Reached

@@ -1,11 +1,11 @@
 -- When a specification is sound: its numbers are in range, and it has none of the static faults that its record can show.
 use Rattle.std.specs.Prelude.{filter, flat_map, ◌≡◌, ◌≢◌, ◌↔◌, ◌⊎◌, ℕ, zero, suc, ◌<◌, ◌≤◌, Bool, true, false, cond, not, ◌&&◌, List, [], ◌∷◌, ◌++◌, map, take, length, nat_eq, nat_lt, count_by, find, All, AllPairs, Contains, Option, Some, None, slice_get, option_map, option_and_then, unwrap_or, is_some, IsTrue, MatchOption, ⊤}
 use Rattle.sg_kinds.specs.Terms.{Term, nodes_of, height_of}
-use Rattle.sg_kinds.specs.Specification.{Bytes, Spec, Phylum, Shape, Attr, Operator, Local, Scheme, Item, Rule, Function, Transform, Production, Symbol, Entry, truths, numbers, texts, args_of, phylum_of, has_shape, is_lexical_shape, is_list_shape, is_leaf_shape, is_inherited, rules_of}
+use Rattle.sg_kinds.specs.Specification.{Bytes, Spec, Phylum, Shape, Attr, Operator, Local, Scheme, Item, Rule, Function, Transform, Production, Symbol, Entry, truths, numbers, texts, args_of, phylum_of, has_shape, is_lexical_shape, is_list_shape, is_leaf_shape, rules_of}
 use Rattle.sg_kinds.specs.Matches.{Matches}
 use Rattle.sg_kinds.specs.Completing.{completing_within}
 use Rattle.sg_kinds.specs.Placeholder.{placeholder_within}
-use Rattle.sg_kinds.specs.Dependencies.{phylum_there}
+use Rattle.sg_kinds.specs.Dependencies.{is_inherited_there}
 use Rattle.sg_kinds.specs.Instances.{defines, below}
 use Rattle.sg_kinds.specs.Typing.{bound_types, is_accepted, is_usable, slot_type, types_at, is_typed}
 use Rattle.sg_kinds.specs.declared.marks.Shape.TheVariants.{Truths, Numbers, Texts, Lexemes, Ordinary, Optional, Listed, OptionalListed}
@@ -125,12 +125,9 @@ pub record HasNames (spec : Spec) : Type 0 where
   pub locals : All (λ (o : Operator). AreDistinct (map (λ (l : Local). l.name) o.locals)) spec.ops
 
 -- whether an operator's equations define an occurrence: a synthesized attribute or local of the left side, an inherited one of an argument
-abbrev pub is_inherited_there : Spec → ℕ → ℕ → ℕ → Bool
-is_inherited_there spec op k slot = unwrap_or (option_map (λ X. is_inherited spec.phyla X slot) (phylum_there (rules_of spec) op k)) false
-
 abbrev pub is_owed : Spec → ℕ → ℕ → ℕ → Bool
-is_owed spec op zero slot = is_some (slot_type spec op 0 slot) && not (is_inherited_there spec op 0 slot)
-is_owed spec op (suc k) slot = is_inherited_there spec op (suc k) slot
+is_owed spec op zero slot = is_some (slot_type spec op 0 slot) && not (is_inherited_there (rules_of spec) op 0 slot)
+is_owed spec op (suc k) slot = is_inherited_there (rules_of spec) op (suc k) slot
 
 -- whether an equation is well typed
 abbrev pub is_rule_typed : Spec → Rule → Bool

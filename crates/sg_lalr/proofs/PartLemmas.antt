@@ -10,7 +10,7 @@ use Rattle.sg_lalr.specs.declared.states.Move.{Move}
 use Rattle.sg_lalr.specs.declared.states.Origin.{Origin}
 use Rattle.sg_lalr.specs.Items.{Item, item, HasNext, advance, Before, IsRising}
 use Rattle.sg_lalr.specs.Closure.{InRange, IsKernel, IsClosure}
-use Rattle.sg_lalr.specs.Automaton.{row_at, target_of, goto, starts_from, start_items, origin, Earlier, NotLater, IsBehind, origin_at, IsSorted, ComesFrom, IsPart, Entered, Overflows}
+use Rattle.sg_lalr.specs.Automaton.{row_at, leads_to, goto, starts_from, start_items, origin, Earlier, NotLater, IsBehind, origin_at, IsSorted, ComesFrom, IsPart, Entered, Overflows}
 use Rattle.sg_lalr.proofs.RisingLemmas.{advance-from, advance-rising, All-contained, pairs-nil, pairs-cons, Contains-nil}
 use Rattle.sg_lalr.proofs.StartLemmas.{starts-from}
 
@@ -20,15 +20,15 @@ row_at-front rows row s low = get_or_append_left rows (row ∷ []) [] s low
 pub row_at-last : (rows : List (List Item)) (row : List Item) (s : ℕ) → length rows ≡ s → row_at (rows ++ row ∷ []) s ≡ row
 row_at-last rows row s is = get_or_push rows row [] s is
 
-target_of-other : (row : List Move) (m : Move) (X : ℕ) → (m.symbol ≡ X → ⊥) → target_of (row ++ m ∷ []) X ≡ target_of row X
-target_of-other [] m X apart = ap (λ b. cond b m.target 0) (ne_eqb m.symbol X apart)
-target_of-other (n ∷ row) m X apart = ap (λ t. cond (nat_eq n.symbol X) n.target t) (target_of-other row m X apart)
+leads_to-other : (row : List Move) (m : Move) (X : ℕ) → (m.symbol ≡ X → ⊥) → leads_to (row ++ m ∷ []) X ≡ leads_to row X
+leads_to-other [] m X apart = ap (λ b. cond b m.target 0) (ne_eqb m.symbol X apart)
+leads_to-other (n ∷ row) m X apart = ap (λ t. cond (nat_eq n.symbol X) n.target t) (leads_to-other row m X apart)
 
-target_of-last : (row : List Move) (m : Move) (X : ℕ) → m.symbol ≡ X → All (λ (n : Move). n.symbol < X) row → target_of (row ++ m ∷ []) X ≡ m.target
-target_of-last [] m X is below = ap (λ b. cond b m.target 0) (eq-eqb m.symbol X is)
-target_of-last (n ∷ row) m X is below =
+leads_to-last : (row : List Move) (m : Move) (X : ℕ) → m.symbol ≡ X → All (λ (n : Move). n.symbol < X) row → leads_to (row ++ m ∷ []) X ≡ m.target
+leads_to-last [] m X is below = ap (λ b. cond b m.target 0) (eq-eqb m.symbol X is)
+leads_to-last (n ∷ row) m X is below =
     let l : n.symbol < X = below 0 n (omega arith) in
-    ap (λ b. cond b n.target (target_of (row ++ m ∷ []) X)) (ne_eqb n.symbol X (λ e. omega (arith, l, e))) ∙ target_of-last row m X is (λ k d b. below (suc k) d (omega (arith, b)))
+    ap (λ b. cond b n.target (leads_to (row ++ m ∷ []) X)) (ne_eqb n.symbol X (λ e. omega (arith, l, e))) ∙ leads_to-last row m X is (λ k d b. below (suc k) d (omega (arith, b)))
 
 -- a kernel that lies behind a symbol
 pub advance-kernel : (g : Grammar) (X : ℕ) (kernel core : List Item) → IsClosure g kernel core → IsKernel g (advance g X core)
@@ -126,8 +126,8 @@ module _ (g : Grammar) where
   pub record Expanding (kernels cores : List (List Item)) (moves : List (List Move)) (origins : List Origin) (row : List Move) (s b : ℕ) : Type 0 where
     pub part : IsPart g kernels cores moves origins
     pub here : s < length cores
-    pub leads : (X : ℕ) → X < b → HasNext g (row_at cores s) X → IsBehind g kernels (row_at cores s) X (target_of row X)
-    pub earliest : (X k : ℕ) → X < b → HasNext g (row_at cores s) X → target_of row X ≡ suc k → NotLater (origin_at origins k) (origin s X)
+    pub leads : (X : ℕ) → X < b → HasNext g (row_at cores s) X → IsBehind g kernels (row_at cores s) X (leads_to row X)
+    pub earliest : (X k : ℕ) → X < b → HasNext g (row_at cores s) X → leads_to row X ≡ suc k → NotLater (origin_at origins k) (origin s X)
     pub before : All (λ o. Earlier o (origin s b)) origins
     pub symbols : All (λ (m : Move). m.symbol < b) row
     pub sorted : IsSorted row
@@ -148,7 +148,7 @@ module _ (g : Grammar) where
 
   -- the row with one move more, where the kernels have that behind it
   row-more : (kernels cores : List (List Item)) (moves : List (List Move)) (origins : List Origin) (row : List Move) (s x y v : ℕ) → IsPart g kernels cores moves origins → s < length cores
-      → ((X : ℕ) → X < x → HasNext g (row_at cores s) X → IsBehind g kernels (row_at cores s) X (target_of row X)) → ((X k : ℕ) → X < x → HasNext g (row_at cores s) X → target_of row X ≡ suc k → NotLater (origin_at origins k) (origin s X))
+      → ((X : ℕ) → X < x → HasNext g (row_at cores s) X → IsBehind g kernels (row_at cores s) X (leads_to row X)) → ((X k : ℕ) → X < x → HasNext g (row_at cores s) X → leads_to row X ≡ suc k → NotLater (origin_at origins k) (origin s X))
       → All (λ o. Earlier o (origin s y)) origins → All (λ (m : Move). m.symbol < x) row → IsSorted row → x < y → ((X : ℕ) → suc x ≤ X → HasNext g (row_at cores s) X → y ≤ X)
       → IsBehind g kernels (row_at cores s) x v → ((k : ℕ) → v ≡ suc k → NotLater (origin_at origins k) (origin s x)) → Expanding kernels cores moves origins (row ++ record { symbol = x; target = v } ∷ []) s y
   row-more kernels cores moves origins row s x y v p low leads earliest before below sorted less least behind first = record {
@@ -156,16 +156,16 @@ module _ (g : Grammar) where
     here = low;
     before = before;
     leads = λ X l h. elim (cases_lt X x) [
-      | inl old ↦ subst (IsBehind g kernels (row_at cores s) X) (sym (target_of-other row m X (λ e. omega (arith, e, old)))) (leads X old h)
+      | inl old ↦ subst (IsBehind g kernels (row_at cores s) X) (sym (leads_to-other row m X (λ e. omega (arith, e, old)))) (leads X old h)
       | inr new ↦
           let is : x ≡ X = same X l h new in
-          subst (IsBehind g kernels (row_at cores s) X) (sym (target_of-last row m X is (subst (λ z. All (λ (n : Move). n.symbol < z) row) is below))) (subst (λ z. IsBehind g kernels (row_at cores s) z v) is behind)
+          subst (IsBehind g kernels (row_at cores s) X) (sym (leads_to-last row m X is (subst (λ z. All (λ (n : Move). n.symbol < z) row) is below))) (subst (λ z. IsBehind g kernels (row_at cores s) z v) is behind)
     ];
     earliest = λ X k l h t. elim (cases_lt X x) [
-      | inl old ↦ earliest X k old h (sym (target_of-other row m X (λ e. omega (arith, e, old))) ∙ t)
+      | inl old ↦ earliest X k old h (sym (leads_to-other row m X (λ e. omega (arith, e, old))) ∙ t)
       | inr new ↦
           let is : x ≡ X = same X l h new in
-          subst (λ z. NotLater (origin_at origins k) (origin s z)) is (first k (sym (target_of-last row m X is (subst (λ z. All (λ (n : Move). n.symbol < z) row) is below)) ∙ t))
+          subst (λ z. NotLater (origin_at origins k) (origin s z)) is (first k (sym (leads_to-last row m X is (subst (λ z. All (λ (n : Move). n.symbol < z) row) is below)) ∙ t))
     ];
     symbols = All-push (λ (n : Move). n.symbol < y) row m (λ k d l. let b = below k d l in omega (arith, b, less)) less;
     sorted = all_pairs_push (λ (i j : Move). i.symbol < j.symbol) row m sorted (λ k d l. below k d l);
@@ -186,7 +186,7 @@ module _ (g : Grammar) where
   expanding-more kernels more cores moves origins others row s x y v e next less least (inr new) =
       subst (λ ks. Expanding ks cores moves others (row ++ record { symbol = x; target = v } ∷ []) s y) (sym new.0) (subst (λ os. Expanding (kernels ++ kernel ∷ []) cores moves os (row ++ record { symbol = x; target = v } ∷ []) s y) (sym new.1)
       (row-more (kernels ++ kernel ∷ []) cores moves (origins ++ origin s x ∷ []) row s x y v (part-kernel kernels cores moves origins s x e.part e.here next e.before new.3) e.here
-      (λ X l h. behind-more g kernels kernel (row_at cores s) X (target_of row X) (e.leads X l h))
+      (λ X l h. behind-more g kernels kernel (row_at cores s) X (leads_to row X) (e.leads X l h))
       (λ X k l h is. subst (λ o. NotLater o (origin s X)) (sym (origin_at-front origins (origin s x) k (let b = (e.leads X l h).0 in let n = e.part.count in omega (arith, b, n, is)))) (e.earliest X k l h is))
       (All-push (λ o. Earlier o (origin s y)) origins (origin s x) (λ k d l. earlier-next (get_or origins k d) s x y less (e.before k d l)) (inr (refl, less)))
       e.symbols e.sorted less least
@@ -214,17 +214,17 @@ module _ (g : Grammar) where
       | inr late ↦ subst IsSorted (sym (get_or_push moves row [] s (omega (arith, l, late, length_push moves row)))) e.sorted
     ];
     leads = λ s X l h. elim (cases_lt s (length moves)) [
-      | inl old ↦ subst (IsBehind g kernels (row_at cores s) X) (sym (ap (λ r. target_of r X) (get_or_append_left moves (row ∷ []) [] s old))) (p.leads s X old h)
+      | inl old ↦ subst (IsBehind g kernels (row_at cores s) X) (sym (ap (λ r. leads_to r X) (get_or_append_left moves (row ∷ []) [] s old))) (p.leads s X old h)
       | inr late ↦
           let is : length moves ≡ s = omega (arith, l, late, length_push moves row) in
-          subst (IsBehind g kernels (row_at cores s) X) (sym (ap (λ r. target_of r X) (get_or_push moves row [] s is)))
-          (subst (λ t. HasNext g (row_at cores t) X → IsBehind g kernels (row_at cores t) X (target_of row X)) is (λ k. e.leads X (all X k) k) h)
+          subst (IsBehind g kernels (row_at cores s) X) (sym (ap (λ r. leads_to r X) (get_or_push moves row [] s is)))
+          (subst (λ t. HasNext g (row_at cores t) X → IsBehind g kernels (row_at cores t) X (leads_to row X)) is (λ k. e.leads X (all X k) k) h)
     ];
     earliest = λ s X k l h t. elim (cases_lt s (length moves)) [
-      | inl old ↦ p.earliest s X k old h (sym (ap (λ r. target_of r X) (get_or_append_left moves (row ∷ []) [] s old)) ∙ t)
+      | inl old ↦ p.earliest s X k old h (sym (ap (λ r. leads_to r X) (get_or_append_left moves (row ∷ []) [] s old)) ∙ t)
       | inr late ↦
           let is : length moves ≡ s = omega (arith, l, late, length_push moves row) in
-          subst (λ u. HasNext g (row_at cores u) X → NotLater (origin_at origins k) (origin u X)) is (λ j. e.earliest X k (all X j) j (sym (ap (λ r. target_of r X) (get_or_push moves row [] s is)) ∙ t)) h
+          subst (λ u. HasNext g (row_at cores u) X → NotLater (origin_at origins k) (origin u X)) is (λ j. e.earliest X k (all X j) j (sym (ap (λ r. leads_to r X) (get_or_push moves row [] s is)) ∙ t)) h
     ];
   }
     where

@@ -8,7 +8,7 @@ use Rattle.sg_lalr.specs.declared.states.Move.{Move}
 use Rattle.sg_lalr.specs.declared.states.Origin.{Origin}
 use Rattle.sg_lalr.specs.declared.lookaheads.Node.{Node}
 use Rattle.sg_lalr.specs.Items.{Item, item, Before}
-use Rattle.sg_lalr.specs.Automaton.{row_at, move_at, target_of, IsSorted, IsWhole}
+use Rattle.sg_lalr.specs.Automaton.{row_at, move_at, leads_to, IsSorted, IsWhole}
 use Rattle.sg_lalr.specs.Lookaheads.{node_at, IsLaid}
 use Rattle.sg_lalr.proofs.RisingLemmas.{Before-itself, pairs-tail}
 use Rattle.sg_lalr.proofs.LinkLemmas.{RangedTo}
@@ -115,17 +115,17 @@ move-only row X low high sorted end h m k is = elim (cases_lt m low) [
 ]
 
 -- what a row says of a symbol that one of its moves is on, and of one that none is on
-pub target-at : (row : List Move) (X k : ℕ) → IsSorted row → k < length row → (move_at row k).symbol ≡ X → target_of row X ≡ (move_at row k).target
+pub target-at : (row : List Move) (X k : ℕ) → IsSorted row → k < length row → (move_at row k).symbol ≡ X → leads_to row X ≡ (move_at row k).target
 target-at [] X k sorted l is = absurd (omega (arith, l))
-target-at (m ∷ row) X zero sorted l is = ap (λ b. cond b m.target (target_of row X)) (eq-eqb m.symbol X is)
+target-at (m ∷ row) X zero sorted l is = ap (λ b. cond b m.target (leads_to row X)) (eq-eqb m.symbol X is)
 target-at (m ∷ row) X (suc k) sorted l is =
     let low = sorted 0 (suc k) (record { symbol = 0; target = 0 }) (omega arith) l in
-    ap (λ b. cond b m.target (target_of row X)) (ne_eqb m.symbol X (λ e. omega (arith, low, e, is))) ∙ target-at row X k (pairs-tail (λ (i j : Move). i.symbol < j.symbol) m row sorted) (omega (arith, l)) is
+    ap (λ b. cond b m.target (leads_to row X)) (ne_eqb m.symbol X (λ e. omega (arith, low, e, is))) ∙ target-at row X k (pairs-tail (λ (i j : Move). i.symbol < j.symbol) m row sorted) (omega (arith, l)) is
 
-pub target-none : (row : List Move) (X : ℕ) → ((k : ℕ) → k < length row → (move_at row k).symbol ≡ X → ⊥) → target_of row X ≡ 0
+pub target-none : (row : List Move) (X : ℕ) → ((k : ℕ) → k < length row → (move_at row k).symbol ≡ X → ⊥) → leads_to row X ≡ 0
 target-none [] X none = refl
 target-none (m ∷ row) X none =
-    ap (λ b. cond b m.target (target_of row X)) (ne_eqb m.symbol X (none 0 (omega arith))) ∙ target-none row X (λ k l is. none (suc k) (omega (arith, l)) is)
+    ap (λ b. cond b m.target (leads_to row X)) (ne_eqb m.symbol X (none 0 (omega arith))) ∙ target-none row X (λ k l is. none (suc k) (omega (arith, l)) is)
 
 -- the only node that passes is linked
 pub ranged-one : (old : List (ℕ × ℕ)) (a from to b : ℕ) (P : ℕ → Type 0) → from ≤ b → b < to → P b → ((m : ℕ) → from ≤ m → m < to → P m → m ≡ b) → RangedTo old (old ++ (a, b) ∷ []) a from to P

@@ -25,12 +25,12 @@ abbrev pub IsSorted : List Move → Type 0
 IsSorted moves = AllPairs (λ (m n : Move). m.symbol < n.symbol) moves
 
 -- where a move on the symbol leads
-abbrev pub target_of : List Move → ℕ → ℕ
-target_of [] X = 0
-target_of (m ∷ ms) X = if nat_eq m.symbol X then m.target else target_of ms X
+abbrev pub leads_to : List Move → ℕ → ℕ
+leads_to [] X = 0
+leads_to (m ∷ ms) X = if nat_eq m.symbol X then m.target else leads_to ms X
 
 abbrev pub goto : List (List Move) → ℕ → ℕ → ℕ
-goto moves s X = target_of (moves_at moves s) X
+goto moves s X = leads_to (moves_at moves s) X
 
 -- the items with which the entries begin
 abbrev pub starts_from : ℕ → ℕ → List Item

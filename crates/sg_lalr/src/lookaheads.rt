@@ -18,7 +18,7 @@ use crate::layout::{Layout, lay};
 use crate::least_set::{has_all, least_set};
 use crate::lefts::{lefts, of_symbol};
 use crate::moves::symbol_of;
-use crate::places::{place_of, target_of};
+use crate::places::{leads_to, place_of};
 use crate::states::{Automaton, Move};
 use sg_grammar::Grammar;
 use sg_kinds::row::Row;
@@ -234,7 +234,7 @@ pub(crate) fn goto_of(moves: &[Row<Move>], state: u32, x: u32) -> u32
     requires sorted { IsSorted (moves_at moves.now state) }
     ensures { result ≡ goto moves.now state x }
 {
-    target_of(moves[state as usize].as_slice(), x)
+    leads_to(moves[state as usize].as_slice(), x)
 }
 
 /// Lets the lookaheads of a node flow to the nodes that have them too, and gives its symbol's productions theirs.

@@ -1,7 +1,7 @@
 //! Places of items among nodes, and of symbols among moves, in their order.
 ghost use Rattle.std.specs.Prelude.{◌≡◌, ℕ, ◌<◌, ◌≤◌, ◌↔◌, length, IsTrue};
 ghost use Rattle.sg_lalr.specs.Items.{Before};
-ghost use Rattle.sg_lalr.specs.Automaton.{move_at, target_of, IsSorted};
+ghost use Rattle.sg_lalr.specs.Automaton.{move_at, leads_to, IsSorted};
 ghost use Rattle.sg_lalr.specs.Lookaheads.{node_at};
 
 use crate::items::Item;
@@ -55,9 +55,9 @@ fn place_of_move(row: &[Move], x: u32) -> usize
 }
 
 /// Where a move on the symbol leads.
-pub(crate) fn target_of(row: &[Move], x: u32) -> u32
+pub(crate) fn leads_to(row: &[Move], x: u32) -> u32
     requires { IsSorted row.now }
-    ensures { result ≡ target_of row.now x }
+    ensures { result ≡ leads_to row.now x }
 {
     let at = place_of_move(row, x);
     if at < row.len() && row[at].symbol == x {

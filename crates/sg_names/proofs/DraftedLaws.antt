@@ -9,8 +9,8 @@ use Rattle.sg_kinds.specs.Values.{Value, Chars, is_text}
 use Rattle.sg_kinds.specs.Typing.{whitespace, is_accepted, is_textual, agree, is_usable, only_if, where_fits, is_found, unary_type, binary_type, cons_type, constant_fits, bound_types, bound_types_all, type_of, all_fit, case_type, rest_fits, attr_types, slots_there, slot_type, types_at}
 use Rattle.sg_kinds.specs.Completing.{all_made, over, one_element, completed, completing_within}
 use Rattle.sg_kinds.specs.Placeholder.{placeheld, placeholder_within}
-use Rattle.sg_kinds.specs.Dependencies.{phylum_there}
-use Rattle.sg_kinds.specs.Sound.{IsFinite, IsSmall, is_inherited_there, is_owed}
+use Rattle.sg_kinds.specs.Dependencies.{phylum_there, is_inherited_there}
+use Rattle.sg_kinds.specs.Sound.{IsFinite, IsSmall, is_owed}
 use Rattle.sg_kinds.specs.declared.marks.Shape.{Shape}
 use Rattle.sg_kinds.specs.declared.marks.Shape.TheVariants.{Truths, Numbers, Texts, Lexemes, Ordinary, Optional, Listed, OptionalListed}
 use Rattle.sg_kinds.specs.declared.marks.Sign.{Sign}
@@ -223,7 +223,7 @@ module _ (t : Table) (spec : Spec) (h : HasTable t spec) where
   there_kept op zero = phylum_kept op
   there_kept op (suc k) = λ i. slice_get (args_kept op i) k
 
-  inherited_kept : (op k slot : ℕ) → is_inherited_there spec op k slot ≡ is_inherited_there (drafted t) op k slot
+  inherited_kept : (op k slot : ℕ) → is_inherited_there (rules_of spec) op k slot ≡ is_inherited_there (rules_of (drafted t)) op k slot
   inherited_kept op k slot = λ i. unwrap_or (option_map (λ X. is_inherited (h.phyla i) X slot) (there_kept op k i)) false
 
   pub owed_kept : (op k slot : ℕ) → is_owed spec op k slot ≡ is_owed (drafted t) op k slot

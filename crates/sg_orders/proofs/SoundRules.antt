@@ -14,11 +14,11 @@ use Rattle.sg_kinds.specs.declared.spec.Attr.{Attr}
 use Rattle.sg_kinds.specs.declared.spec.Occurrence.{Occurrence}
 use Rattle.sg_kinds.specs.Specification.{attrs_of, args_of, locals_of, phylum_of, is_inherited, is_way_inherited, is_lexical_shape, rules_of}
 use Rattle.sg_kinds.specs.Instances.{attr_count, defines}
-use Rattle.sg_kinds.specs.Dependencies.{phylum_there, occurrence}
+use Rattle.sg_kinds.specs.Dependencies.{is_inherited_there, phylum_there, occurrence}
 use Rattle.sg_kinds.specs.Sound as sound
 use Rattle.sg_kinds.specs.Sound.{AreCounted, HasShapes, HasRules, is_rule_typed}
 use Rattle.sg_kinds.specs.Typing.{whitespace, is_usable, slot_type, slots_there, attr_types, types_at, is_typed}
-use Rattle.sg_orders.specs.Proper.{is_inherited_there, is_owed, AreApart, AreProper}
+use Rattle.sg_orders.specs.Proper.{is_owed, AreApart, AreProper}
 use Rattle.sg_orders.specs.Vertices.{IsVertex, locals_there, AreInRange}
 use Rattle.sg_orders.proofs.Directs.{op_there}
 use Rattle.sg_orders.proofs.Distinct.{distinct_few}

@@ -1,13 +1,8 @@
 -- Equations that define what is theirs to define, and nothing twice.
-use Rattle.std.specs.Prelude.{◌≡◌, ◌≢◌, ℕ, zero, suc, Bool, true, false, not, option_map, unwrap_or, All, AllPairs}
+use Rattle.std.specs.Prelude.{◌≡◌, ◌≢◌, ℕ, zero, suc, Bool, true, not, All, AllPairs}
 use Rattle.sg_kinds.specs.declared.spec.Rules.{Rules}
 use Rattle.sg_kinds.specs.declared.spec.Rule.{Rule}
-use Rattle.sg_kinds.specs.Specification.{is_inherited}
-use Rattle.sg_kinds.specs.Dependencies.{phylum_there}
-
--- whether a slot of an occurrence is an inherited attribute
-abbrev pub is_inherited_there : Rules → ℕ → ℕ → ℕ → Bool
-is_inherited_there rules p k slot = unwrap_or (option_map (λ X. is_inherited rules.phyla X slot) (phylum_there rules p k)) false
+use Rattle.sg_kinds.specs.Dependencies.{is_inherited_there}
 
 -- whether p's equations define it: a synthesized attribute or a local of the left side, an inherited attribute of an argument
 abbrev pub is_owed : Rules → ℕ → ℕ → ℕ → Bool

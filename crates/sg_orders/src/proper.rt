@@ -1,7 +1,8 @@
 //! Whether equations define what is theirs to define, and nothing twice.
 ghost use Rattle.std.specs.Prelude.{◌≡◌, ◌<◌, ◌↔◌, false, All, AllPairs, IsTrue, IfOk, map, replicate};
 ghost use Rattle.sg_orders.specs.Frames.{Frame as IsFrame, frames_of};
-ghost use Rattle.sg_orders.specs.Proper.{is_inherited_there as is_inherited_at, IsOwed, AreApart, AreProper};
+ghost use Rattle.sg_kinds.specs.Dependencies.{is_inherited_there as is_inherited_at};
+ghost use Rattle.sg_orders.specs.Proper.{IsOwed, AreApart, AreProper};
 ghost use Rattle.sg_kinds.specs.Specification.{is_inherited as is_inherited_of};
 ghost use Rattle.sg_orders.specs.Vertices.{AreInRange};
 

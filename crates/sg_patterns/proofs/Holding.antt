@@ -14,10 +14,10 @@ use Rattle.sg_patterns.specs.declared.program.Leaf.{Leaf}
 use Rattle.sg_patterns.specs.declared.program.Above.{Above}
 use Rattle.sg_patterns.specs.declared.program.Above.TheVariants.{Top, Same, After, Again}
 use Rattle.sg_patterns.specs.Leaves.{leaf_pattern}
-use Rattle.sg_patterns.specs.Trees.{Tree, Nothing, OneByte, Then, Either, Many, Several, Maybe, root_of, pattern_of, Stands}
+use Rattle.sg_patterns.specs.Trees.{Tree, Nothing, OneByte, Then, Either, Many, Several, Maybe, root_of, pattern_of, IsLaidOut}
 use Rattle.sg_patterns.specs.declared.program.Building.{Building}
 use Rattle.sg_patterns.specs.declared.program.Program.{Program}
-use Rattle.sg_patterns.specs.Programs.{flag_at, StandsIn, StandBelow, roots_of, HoldsIn, Holds, Pushes, IsProgram, PartsBefore, NodeAfter, EachAfterParts, EachBeforeNode}
+use Rattle.sg_patterns.specs.Programs.{flag_at, AreLaidOut, StandBelow, roots_of, HoldsIn, Holds, Pushes, IsProgram, PartsBefore, NodeAfter, EachAfterParts, EachBeforeNode}
 
 slice_get-set_other : {A : Type 0} (xs : List A) (i j : ℕ) (v : A) → j ≢ i → slice_get (set xs i v) j ≡ slice_get xs j
 slice_get-set_other [] i j v ne = refl
@@ -67,7 +67,7 @@ order-set above i v each new k a is =
     elim (slice_get-set above i v k a is) [ inl e ↦ each k a e | inr e ↦ subst (NodeAfter k) e.1 (subst (λ j. NodeAfter j v) (sym e.0) new) ]
 
 -- the root of a tree that stands is a node
-root-node : (ns : ℕ → Option Node) (up : ℕ → Option Above) (em : ℕ → Bool) (t : Tree) → Stands ns up em t → (x : Node) × (ns (root_of t) ≡ Some x)
+root-node : (ns : ℕ → Option Node) (up : ℕ → Option Above) (em : ℕ → Bool) (t : Tree) → IsLaidOut ns up em t → (x : Node) × (ns (root_of t) ≡ Some x)
 root-node ns up em (Nothing k) st = (node.Nothing, st.0)
 root-node ns up em (OneByte k l) st = (node.Leaf l, st.0)
 root-node ns up em (Then k t u) st = (node.Then (root_of t) (root_of u), st.0)
@@ -78,27 +78,27 @@ root-node ns up em (Maybe k t) st = (node.Over (root_of t), st.0)
 
 -- a tree stands on where its nodes stay and what is above them
 module _ (ns ms : ℕ → Option Node) (up vp : ℕ → Option Above) (em dm : ℕ → Bool) (nodes : (k : ℕ) (x : Node) → ns k ≡ Some x → (ms k ≡ Some x) × (dm k ≡ em k)) (above : (k : ℕ) (a : Above) → up k ≡ Some a → a ≢ Top → vp k ≡ Some a) where
-  root-empty : (t : Tree) → Stands ns up em t → dm (root_of t) ≡ em (root_of t)
+  root-empty : (t : Tree) → IsLaidOut ns up em t → dm (root_of t) ≡ em (root_of t)
   root-empty t st = let r = root-node ns up em t st in (nodes (root_of t) r.0 r.1).1
 
-  Stands-kept : (t : Tree) → Stands ns up em t → Stands ms vp dm t
-  Stands-kept (Nothing k) st = let n = nodes k _ st.0 in (n.0, n.1 ∙ st.1)
-  Stands-kept (OneByte k l) st = let n = nodes k _ st.0 in (n.0, n.1 ∙ st.1)
-  Stands-kept (Then k t u) st =
+  laid_out-kept : (t : Tree) → IsLaidOut ns up em t → IsLaidOut ms vp dm t
+  laid_out-kept (Nothing k) st = let n = nodes k _ st.0 in (n.0, n.1 ∙ st.1)
+  laid_out-kept (OneByte k l) st = let n = nodes k _ st.0 in (n.0, n.1 ∙ st.1)
+  laid_out-kept (Then k t u) st =
       let n = nodes k _ st.0 in
-      (n.0, n.1 ∙ st.1 ∙ sym (λ i. root-empty t st.4 i && root-empty u st.5 i), above _ _ st.2 (λ e. cc), above _ _ st.3 (λ e. cc), Stands-kept t st.4, Stands-kept u st.5)
-  Stands-kept (Either k t u) st =
+      (n.0, n.1 ∙ st.1 ∙ sym (λ i. root-empty t st.4 i && root-empty u st.5 i), above _ _ st.2 (λ e. cc), above _ _ st.3 (λ e. cc), laid_out-kept t st.4, laid_out-kept u st.5)
+  laid_out-kept (Either k t u) st =
       let n = nodes k _ st.0 in
-      (n.0, n.1 ∙ st.1 ∙ sym (λ i. root-empty t st.4 i || root-empty u st.5 i), above _ _ st.2 (λ e. cc), above _ _ st.3 (λ e. cc), Stands-kept t st.4, Stands-kept u st.5)
-  Stands-kept (Many k t) st = let n = nodes k _ st.0 in (n.0, n.1 ∙ st.1, above _ _ st.2 (λ e. cc), Stands-kept t st.3)
-  Stands-kept (Several k t) st = let n = nodes k _ st.0 in (n.0, n.1 ∙ st.1 ∙ sym (root-empty t st.3), above _ _ st.2 (λ e. cc), Stands-kept t st.3)
-  Stands-kept (Maybe k t) st = let n = nodes k _ st.0 in (n.0, n.1 ∙ st.1, above _ _ st.2 (λ e. cc), Stands-kept t st.3)
+      (n.0, n.1 ∙ st.1 ∙ sym (λ i. root-empty t st.4 i || root-empty u st.5 i), above _ _ st.2 (λ e. cc), above _ _ st.3 (λ e. cc), laid_out-kept t st.4, laid_out-kept u st.5)
+  laid_out-kept (Many k t) st = let n = nodes k _ st.0 in (n.0, n.1 ∙ st.1, above _ _ st.2 (λ e. cc), laid_out-kept t st.3)
+  laid_out-kept (Several k t) st = let n = nodes k _ st.0 in (n.0, n.1 ∙ st.1 ∙ sym (root-empty t st.3), above _ _ st.2 (λ e. cc), laid_out-kept t st.3)
+  laid_out-kept (Maybe k t) st = let n = nodes k _ st.0 in (n.0, n.1 ∙ st.1, above _ _ st.2 (λ e. cc), laid_out-kept t st.3)
 
 -- one more node: the trees of which no part is written to stand on
 module _ (nodes : List Node) (above over : List Above) (empties : List Bool) (x : Node) (e : Bool) (empty_each : length empties ≡ length nodes) (kept : (k : ℕ) (a : Above) → slice_get above k ≡ Some a → a ≢ Top → slice_get over k ≡ Some a) where
-  pub one-more : (t : Tree) → StandsIn nodes above empties t → StandsIn (nodes ++ x ∷ []) (over ++ Top ∷ []) (empties ++ e ∷ []) t
+  pub one-more : (t : Tree) → AreLaidOut nodes above empties t → AreLaidOut (nodes ++ x ∷ []) (over ++ Top ∷ []) (empties ++ e ∷ []) t
   one-more t st =
-      Stands-kept (slice_get nodes) (slice_get (nodes ++ x ∷ [])) (slice_get above) (slice_get (over ++ Top ∷ [])) (flag_at empties) (flag_at (empties ++ e ∷ [])) (λ k y is. (slice_get-left nodes (x ∷ []) k y is, get_or-append empties (e ∷ []) false k (omega (arith, slice_get_within nodes k y is)))) (λ k a is other. slice_get-left over (Top ∷ []) k a (kept k a is other)) t st
+      laid_out-kept (slice_get nodes) (slice_get (nodes ++ x ∷ [])) (slice_get above) (slice_get (over ++ Top ∷ [])) (flag_at empties) (flag_at (empties ++ e ∷ [])) (λ k y is. (slice_get-left nodes (x ∷ []) k y is, get_or-append empties (e ∷ []) false k (omega (arith, slice_get_within nodes k y is)))) (λ k a is other. slice_get-left over (Top ∷ []) k a (kept k a is other)) t st
 
   pub all-more : (n : ℕ) (ts : List Tree) → ((k : ℕ) → k < n → slice_get above k ≡ Some Top → slice_get over k ≡ Some Top) → StandBelow nodes above empties n ts → StandBelow (nodes ++ x ∷ []) (over ++ Top ∷ []) (empties ++ e ∷ []) n ts
   all-more n [] tops st = tt
@@ -110,7 +110,7 @@ new-tree : (nodes : List Node) (above over : List Above) (empties : List Bool) (
     → length empties ≡ length nodes → length over ≡ length nodes → root_of t ≡ length nodes → n ≤ length nodes
     → ((k : ℕ) (a : Above) → slice_get above k ≡ Some a → a ≢ Top → slice_get over k ≡ Some a)
     → ((k : ℕ) → k < n → slice_get above k ≡ Some Top → slice_get over k ≡ Some Top)
-    → StandBelow nodes above empties n ts → StandsIn (nodes ++ x ∷ []) (over ++ Top ∷ []) (empties ++ e ∷ []) t
+    → StandBelow nodes above empties n ts → AreLaidOut (nodes ++ x ∷ []) (over ++ Top ∷ []) (empties ++ e ∷ []) t
     → roots ≡ roots_of ts → pattern_of t ∷ map pattern_of ts ≡ ps → EachAfterParts nodes → PartsBefore (length nodes) x → EachBeforeNode over
     → HoldsIn (nodes ++ x ∷ []) (over ++ Top ∷ []) (empties ++ e ∷ []) (roots ++ length nodes ∷ []) ps
 new-tree nodes above over empties x e roots n t ts ps empty_each above_each root fits kept tops below stands rest patterns parts new order =
@@ -171,7 +171,7 @@ record IsOne (nodes : List Node) (above : List Above) (empties : List Bool) (res
   rest_roots : rest ≡ roots_of ts
   within : root_of t < length nodes
   is_top : slice_get above (root_of t) ≡ Some Top
-  stands : StandsIn nodes above empties t
+  stands : AreLaidOut nodes above empties t
   below : StandBelow nodes above empties (root_of t) ts
 
 one-of : (nodes : List Node) (above : List Above) (empties : List Bool) (rest : List ℕ) (part : ℕ) (ps : List plain.Lexeme) (trees : List Tree) → map pattern_of trees ≡ ps → StandBelow nodes above empties (length nodes) trees → rest ++ part ∷ [] ≡ roots_of trees → IsOne nodes above empties rest part ps
@@ -193,8 +193,8 @@ record IsTwo (nodes : List Node) (above : List Above) (empties : List Bool) (res
   before : root_of t < root_of u
   first_top : slice_get above (root_of t) ≡ Some Top
   second_top : slice_get above (root_of u) ≡ Some Top
-  first_stands : StandsIn nodes above empties t
-  second_stands : StandsIn nodes above empties u
+  first_stands : AreLaidOut nodes above empties t
+  second_stands : AreLaidOut nodes above empties u
   below : StandBelow nodes above empties (root_of t) ts
 
 two-of : (nodes : List Node) (above : List Above) (empties : List Bool) (rest : List ℕ) (first second : ℕ) (ps : List plain.Lexeme) (trees : List Tree) → map pattern_of trees ≡ ps → StandBelow nodes above empties (length nodes) trees → (rest ++ first ∷ []) ++ second ∷ [] ≡ roots_of trees → IsTwo nodes above empties rest first second ps
@@ -258,14 +258,14 @@ module _ (nodes : List Node) (above : List Above) (empties : List Bool) (roots :
     second-over = slice_get-set_same (set above first v) second w (omega (arith, two-within, h.above_each, length-set above first v))
 
     -- the tree over both
-    pair-holds : (x : Node) (T : Tree) (qs : List plain.Lexeme) → root_of T ≡ length nodes → StandsIn (nodes ++ x ∷ []) (set (set above first v) second w ++ Top ∷ []) (empties ++ e ∷ []) T → pattern_of T ∷ map pattern_of the-two.ts ≡ qs → PartsBefore (length nodes) x → NodeAfter first v → NodeAfter second w → Pushes mid new x e → Holds new qs
+    pair-holds : (x : Node) (T : Tree) (qs : List plain.Lexeme) → root_of T ≡ length nodes → AreLaidOut (nodes ++ x ∷ []) (set (set above first v) second w ++ Top ∷ []) (empties ++ e ∷ []) T → pattern_of T ∷ map pattern_of the-two.ts ≡ qs → PartsBefore (length nodes) x → NodeAfter first v → NodeAfter second w → Pushes mid new x e → Holds new qs
     pair-holds x T qs root stands patterns before v_after w_after push =
         let d = the-two in
         holds-pushed mid new x e nodes (set (set above first v) second w) empties rest qs nodes_are above_is empties_are roots_are push
         (new-tree nodes above (set (set above first v) second w) empties x e rest (root_of d.t) T d.ts qs h.empty_each (length-set (set above first v) second w ∙ length-set above first v ∙ h.above_each) root (omega (arith, d.within, d.before)) kept (λ k less is. tops k (omega (arith, d.first_root)) is) d.below stands d.rest_roots patterns h.parts before (order-set (set above first v) second w (order-set above first v h.order v_after) w_after))
 
     -- each of the two in the new lists
-    moved : (x : Node) (s : Tree) → StandsIn nodes above empties s → StandsIn (nodes ++ x ∷ []) (set (set above first v) second w ++ Top ∷ []) (empties ++ e ∷ []) s
+    moved : (x : Node) (s : Tree) → AreLaidOut nodes above empties s → AreLaidOut (nodes ++ x ∷ []) (set (set above first v) second w ++ Top ∷ []) (empties ++ e ∷ []) s
     moved x s st = one-more nodes above (set (set above first v) second w) empties x e h.empty_each kept s st
 
     first-flag : (x : Node) → flag_at (empties ++ e ∷ []) (root_of the-two.t) ≡ flag_at empties first
@@ -321,7 +321,7 @@ module _ (nodes : List Node) (above : List Above) (empties : List Bool) (roots :
     one-tops : (k : ℕ) → k < part → slice_get above k ≡ Some Top → slice_get (set above part v) k ≡ Some Top
     one-tops k less is = let ne : k ≢ part = omega arith in slice_get-set_other above part k v ne ∙ is
 
-    over-holds : (T : Tree) (qs : List plain.Lexeme) → root_of T ≡ length nodes → StandsIn (nodes ++ node.Over part ∷ []) (set above part v ++ Top ∷ []) (empties ++ e ∷ []) T → pattern_of T ∷ map pattern_of the-one.ts ≡ qs → NodeAfter part v → Pushes mid new (node.Over part) e → Holds new qs
+    over-holds : (T : Tree) (qs : List plain.Lexeme) → root_of T ≡ length nodes → AreLaidOut (nodes ++ node.Over part ∷ []) (set above part v ++ Top ∷ []) (empties ++ e ∷ []) T → pattern_of T ∷ map pattern_of the-one.ts ≡ qs → NodeAfter part v → Pushes mid new (node.Over part) e → Holds new qs
     over-holds T qs root stands patterns after push =
         let d = the-one in
         holds-pushed mid new (node.Over part) e nodes (set above part v) empties rest qs nodes_are above_is empties_are roots_are push
@@ -336,7 +336,7 @@ module _ (nodes : List Node) (above : List Above) (empties : List Bool) (roots :
     over-flag : flag_at (empties ++ e ∷ []) (length nodes) ≡ e
     over-flag = new-flag empties e (length nodes) h.empty_each
 
-    over-stands : StandsIn (nodes ++ node.Over part ∷ []) (set above part v ++ Top ∷ []) (empties ++ e ∷ []) the-one.t
+    over-stands : AreLaidOut (nodes ++ node.Over part ∷ []) (set above part v ++ Top ∷ []) (empties ++ e ∷ []) the-one.t
     over-stands = one-more nodes above (set above part v) empties (node.Over part) e h.empty_each one-kept the-one.t the-one.stands
 
     pub many-holds : v ≡ Again (length nodes) → e ≡ true → Pushes mid new (node.Over part) e → Holds new (of_one plain.Many ps)

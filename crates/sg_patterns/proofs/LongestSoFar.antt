@@ -16,7 +16,7 @@ use Rattle.sg_patterns.specs.declared.program.Above.TheVariants.{Top}
 use Rattle.sg_patterns.specs.declared.program.Program.{Program}
 use Rattle.sg_patterns.specs.Leaves.{leaf_pattern}
 use Rattle.sg_patterns.specs.Trees.{Tree, Nothing, OneByte, Then, Either, Many, Several, Maybe, root_of, pattern_of, empty_of, HasFinals, Steps}
-use Rattle.sg_patterns.specs.Programs.{flag_at, StandsIn}
+use Rattle.sg_patterns.specs.Programs.{flag_at, AreLaidOut}
 use Rattle.sg_patterns.specs.Marks.{begin_in, HasBegins, final_in, HasFinalsTo, IsDead}
 use Rattle.sg_patterns.specs.LongestMatch.{IsLength, Pattern}
 use Rattle.sg_patterns.proofs.Matching.{matches-within}
@@ -32,7 +32,7 @@ module _ (p : Program) where
   ns = slice_get p.nodes.items
 
   -- the flag of the empty text is that of the pattern
-  pub empty-flag : (t : Tree) → StandsIn p.nodes.items p.above.items p.empties.items t → flag_at p.empties.items (root_of t) ≡ empty_of (pattern_of t)
+  pub empty-flag : (t : Tree) → AreLaidOut p.nodes.items p.above.items p.empties.items t → flag_at p.empties.items (root_of t) ≡ empty_of (pattern_of t)
   empty-flag (Nothing k) st = st.1
   empty-flag (OneByte k l) st = st.1 ∙ sym (leaf-empty l)
   empty-flag (Then k t u) st = st.1 ∙ (λ i. empty-flag t st.4 i && empty-flag u st.5 i)
@@ -46,7 +46,7 @@ module _ (p : Program) where
     final-is : (k : ℕ) (x : Node) → slice_get p.nodes.items k ≡ Some x → flag_at f k ≡ final_in p.empties.items g f b k (Some x)
     final-is k x is = finals k (slice_get_within p.nodes.items k x is) ∙ ap (final_in p.empties.items g f b k) is
 
-    pub stands-finals : (t : Tree) → StandsIn p.nodes.items p.above.items p.empties.items t → HasFinals (flag_at f) t
+    pub stands-finals : (t : Tree) → AreLaidOut p.nodes.items p.above.items p.empties.items t → HasFinals (flag_at f) t
     stands-finals (Nothing k) st = final-is k _ st.0
     stands-finals (OneByte k l) st = tt
     stands-finals (Then k t u) st =
@@ -60,7 +60,7 @@ module _ (p : Program) where
       begin-is : (k : ℕ) (a : Above) → slice_get p.above.items k ≡ Some a → flag_at g k ≡ begin_in p.empties.items before g starts k (Some a)
       begin-is k a is = begins k (slice_get_within p.above.items k a is) ∙ ap (begin_in p.empties.items before g starts k) is
 
-      pub stands-steps : (t : Tree) → StandsIn p.nodes.items p.above.items p.empties.items t → Steps (flag_at before) (flag_at g) (flag_at f) b t
+      pub stands-steps : (t : Tree) → AreLaidOut p.nodes.items p.above.items p.empties.items t → Steps (flag_at before) (flag_at g) (flag_at f) b t
       stands-steps (Nothing k) st = tt
       stands-steps (OneByte k l) st = final-is k _ st.0
       stands-steps (Then k t u) st =
@@ -71,7 +71,7 @@ module _ (p : Program) where
       stands-steps (Maybe k t) st = (begin-is (root_of t) _ st.2, stands-steps t st.3)
 
   -- no mark, no rest
-  pub dead-rest : (text : Bytes) (f : List Bool) → IsDead p (length p.nodes.items) f → (t : Tree) → StandsIn p.nodes.items p.above.items p.empties.items t → (j e : ℕ) → Rest text (flag_at f) t j e → ⊥
+  pub dead-rest : (text : Bytes) (f : List Bool) → IsDead p (length p.nodes.items) f → (t : Tree) → AreLaidOut p.nodes.items p.above.items p.empties.items t → (j e : ℕ) → Rest text (flag_at f) t j e → ⊥
   dead-rest text f dead (Nothing k) st j e r = r
   dead-rest text f dead (OneByte k l) st j e r = let off : flag_at f k ≡ false = dead k (node.Leaf l) (slice_get_within p.nodes.items k (node.Leaf l) st.0) st.0 refl in let both : false ≡ true = sym off ∙ r.0 in absurd (cc)
   dead-rest text f dead (Then k t u) st j e (inl r) = dead-rest text f dead t st.4 j r.0 r.1
@@ -83,13 +83,13 @@ module _ (p : Program) where
   dead-rest text f dead (Maybe k t) st j e r = dead-rest text f dead t st.3 j e r
 
   -- flags that are all down are right, and say nothing
-  clear-finals : (f : List Bool) → ((k : ℕ) → k < length p.nodes.items → flag_at f k ≡ false) → (t : Tree) → StandsIn p.nodes.items p.above.items p.empties.items t → HasFinals (flag_at f) t
+  clear-finals : (f : List Bool) → ((k : ℕ) → k < length p.nodes.items → flag_at f k ≡ false) → (t : Tree) → AreLaidOut p.nodes.items p.above.items p.empties.items t → HasFinals (flag_at f) t
   clear-finals f down t st = down-finals t st
     where
       root-down : (s : Tree) (x : Node) → slice_get p.nodes.items (root_of s) ≡ Some x → flag_at f (root_of s) ≡ false
       root-down s x is = down (root_of s) (slice_get_within p.nodes.items (root_of s) x is)
 
-      tree-down : (s : Tree) → StandsIn p.nodes.items p.above.items p.empties.items s → flag_at f (root_of s) ≡ false
+      tree-down : (s : Tree) → AreLaidOut p.nodes.items p.above.items p.empties.items s → flag_at f (root_of s) ≡ false
       tree-down (Nothing k) st = root-down (Nothing k) _ st.0
       tree-down (OneByte k l) st = root-down (OneByte k l) _ st.0
       tree-down (Then k t u) st = root-down (Then k t u) _ st.0
@@ -98,7 +98,7 @@ module _ (p : Program) where
       tree-down (Several k t) st = root-down (Several k t) _ st.0
       tree-down (Maybe k t) st = root-down (Maybe k t) _ st.0
 
-      down-finals : (s : Tree) → StandsIn p.nodes.items p.above.items p.empties.items s → HasFinals (flag_at f) s
+      down-finals : (s : Tree) → AreLaidOut p.nodes.items p.above.items p.empties.items s → HasFinals (flag_at f) s
       down-finals (Nothing k) st = tree-down (Nothing k) st
       down-finals (OneByte k l) st = tt
       down-finals (Then k t u) st = (tree-down (Then k t u) st ∙ sym (λ i. (tree-down t st.4 i && empty_of (pattern_of u)) || tree-down u st.5 i), down-finals t st.4, down-finals u st.5)
@@ -115,7 +115,7 @@ pub record Matched (text : Bytes) (t : Tree) (f : List Bool) (at place longest :
   pub found : 0 < longest → MatchesFrom (pattern_of t) text at (at + longest)
   pub most : (n : ℕ) → at + n ≤ place → MatchesFrom (pattern_of t) text at (at + n) → n ≤ longest
 
-module _ (p : Program) (text : Bytes) (t : Tree) (st : StandsIn p.nodes.items p.above.items p.empties.items t) where
+module _ (p : Program) (text : Bytes) (t : Tree) (st : AreLaidOut p.nodes.items p.above.items p.empties.items t) where
   pub matched-none : (f : List Bool) (at : ℕ) → ((k : ℕ) → k < length p.nodes.items → flag_at f k ≡ false) → Matched text t f at at 0
   matched-none f at down = record {
     finals = clear-finals p f down t st;

@@ -9,21 +9,21 @@ use Rattle.sg_patterns.specs.declared.program.Node.TheVariants.{Nothing, Leaf, T
 use Rattle.sg_patterns.specs.declared.program.Above.TheVariants.{Top, Same, After, Again}
 use Rattle.sg_patterns.specs.declared.program.Program.{Program}
 use Rattle.sg_patterns.specs.declared.program.Building.{Building}
-use Rattle.sg_patterns.specs.Trees.{Tree, root_of, pattern_of, Stands}
+use Rattle.sg_patterns.specs.Trees.{Tree, root_of, pattern_of, IsLaidOut}
 
 -- the flag at a place, and false past the end
 abbrev pub flag_at : List Bool → ℕ → Bool
 flag_at flags k = slice_index_or flags k false
 
 -- the tree stands in these lists
-abbrev pub StandsIn : List Node → List Above → List Bool → Tree → Type 0
-StandsIn nodes above empties t = Stands (slice_get nodes) (slice_get above) (flag_at empties) t
+abbrev pub AreLaidOut : List Node → List Above → List Bool → Tree → Type 0
+AreLaidOut nodes above empties t = IsLaidOut (slice_get nodes) (slice_get above) (flag_at empties) t
 
 -- trees stand one before the other, the last before place n, and none is a part of another
 abbrev pub StandBelow : List Node → List Above → List Bool → ℕ → List Tree → Type 0
 StandBelow nodes above empties n [] = Unit {0}
 StandBelow nodes above empties n (t ∷ ts) =
-    (root_of t < n) × (slice_get above (root_of t) ≡ Some Top) × StandsIn nodes above empties t × StandBelow nodes above empties (root_of t) ts
+    (root_of t < n) × (slice_get above (root_of t) ≡ Some Top) × AreLaidOut nodes above empties t × StandBelow nodes above empties (root_of t) ts
 
 -- the roots of trees, that of the first tree last
 abbrev pub roots_of : List Tree → List ℕ
@@ -91,7 +91,7 @@ pub record IsProgram (p : Program) (pattern : plain.Lexeme) : Type 0 where
   pub is_pattern : pattern_of tree ≡ pattern
   pub is_root : root_of tree ≡ p.root
   pub is_top : slice_get p.above.items p.root ≡ Some Top
-  pub stands : StandsIn p.nodes.items p.above.items p.empties.items tree
+  pub stands : AreLaidOut p.nodes.items p.above.items p.empties.items tree
   pub above_each : length p.above.items ≡ length p.nodes.items
   pub empty_each : length p.empties.items ≡ length p.nodes.items
   pub ordered : IsOrdered p

@@ -50,19 +50,19 @@ empty_of (plain.Several p) = empty_of p
 empty_of (plain.Maybe p) = true
 
 -- the nodes of a tree, what stands above each part, and which of them match the empty text
-abbrev pub Stands : (ℕ → Option Node) → (ℕ → Option Above) → (ℕ → Bool) → Tree → Type 0
-Stands ns up em (Nothing k) = (ns k ≡ Some node.Nothing) × (em k ≡ true)
-Stands ns up em (OneByte k l) = (ns k ≡ Some (node.Leaf l)) × (em k ≡ false)
-Stands ns up em (Then k t u) =
+abbrev pub IsLaidOut : (ℕ → Option Node) → (ℕ → Option Above) → (ℕ → Bool) → Tree → Type 0
+IsLaidOut ns up em (Nothing k) = (ns k ≡ Some node.Nothing) × (em k ≡ true)
+IsLaidOut ns up em (OneByte k l) = (ns k ≡ Some (node.Leaf l)) × (em k ≡ false)
+IsLaidOut ns up em (Then k t u) =
     (ns k ≡ Some (node.Then (root_of t) (root_of u))) × (em k ≡ (em (root_of t) && em (root_of u)))
-    × (up (root_of t) ≡ Some (Same k)) × (up (root_of u) ≡ Some (After k (root_of t))) × Stands ns up em t × Stands ns up em u
-Stands ns up em (Either k t u) =
+    × (up (root_of t) ≡ Some (Same k)) × (up (root_of u) ≡ Some (After k (root_of t))) × IsLaidOut ns up em t × IsLaidOut ns up em u
+IsLaidOut ns up em (Either k t u) =
     (ns k ≡ Some (node.Either (root_of t) (root_of u))) × (em k ≡ (em (root_of t) || em (root_of u)))
-    × (up (root_of t) ≡ Some (Same k)) × (up (root_of u) ≡ Some (Same k)) × Stands ns up em t × Stands ns up em u
-Stands ns up em (Many k t) = (ns k ≡ Some (node.Over (root_of t))) × (em k ≡ true) × (up (root_of t) ≡ Some (Again k)) × Stands ns up em t
-Stands ns up em (Several k t) =
-    (ns k ≡ Some (node.Over (root_of t))) × (em k ≡ em (root_of t)) × (up (root_of t) ≡ Some (Again k)) × Stands ns up em t
-Stands ns up em (Maybe k t) = (ns k ≡ Some (node.Over (root_of t))) × (em k ≡ true) × (up (root_of t) ≡ Some (Same k)) × Stands ns up em t
+    × (up (root_of t) ≡ Some (Same k)) × (up (root_of u) ≡ Some (Same k)) × IsLaidOut ns up em t × IsLaidOut ns up em u
+IsLaidOut ns up em (Many k t) = (ns k ≡ Some (node.Over (root_of t))) × (em k ≡ true) × (up (root_of t) ≡ Some (Again k)) × IsLaidOut ns up em t
+IsLaidOut ns up em (Several k t) =
+    (ns k ≡ Some (node.Over (root_of t))) × (em k ≡ em (root_of t)) × (up (root_of t) ≡ Some (Again k)) × IsLaidOut ns up em t
+IsLaidOut ns up em (Maybe k t) = (ns k ≡ Some (node.Over (root_of t))) × (em k ≡ true) × (up (root_of t) ≡ Some (Same k)) × IsLaidOut ns up em t
 
 -- each root of a part is final as its marks say; leaves are final where they are marked
 abbrev pub HasFinals : (ℕ → Bool) → Tree → Type 0

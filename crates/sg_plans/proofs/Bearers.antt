@@ -16,10 +16,10 @@ use Rattle.sg_kinds.specs.Specification.{args_of, is_inherited, rules_of}
 use Rattle.sg_kinds.specs.Places.{Place, sub}
 use Rattle.sg_kinds.specs.Nets.{Net, Reference, Operation, Holding, phylum_at, referred, label_of, net_of}
 use Rattle.sg_kinds.specs.Instances.{Site, rule_for, rule_under, site_at, site_above, is_inherited_at, site_of}
-use Rattle.sg_kinds.specs.Dependencies.{occurrence}
+use Rattle.sg_kinds.specs.Dependencies.{is_inherited_there, occurrence}
 use Rattle.sg_kinds.specs.Keys.{operation, operator_in}
 use Rattle.sg_orders.specs.LiveSites.{IsLive}
-use Rattle.sg_orders.specs.Proper.{is_inherited_there, is_owed, IsOwed, AreProper}
+use Rattle.sg_orders.specs.Proper.{is_owed, IsOwed, AreProper}
 use Rattle.sg_orders.specs.Vertices.{IsVertex, AreInRange}
 use Rattle.sg_orders.proofs.KeysFall.{IsSiteAt, site_found}
 use Rattle.sg_orders.proofs.SoundRules.{sound_range, sound_proper}

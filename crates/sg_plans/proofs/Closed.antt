@@ -11,12 +11,12 @@ use Rattle.sg_kinds.specs.Specification.{args_of, phylum_of, is_inherited, rules
 use Rattle.sg_kinds.specs.Places.{Place}
 use Rattle.sg_kinds.specs.Nets.{Net, Reference, phylum_at, referred, net_of}
 use Rattle.sg_kinds.specs.Instances.{Site, site_of}
-use Rattle.sg_kinds.specs.Dependencies.{IsAttr, phylum_there, occurrence}
+use Rattle.sg_kinds.specs.Dependencies.{is_inherited_there, IsAttr, phylum_there, occurrence}
 use Rattle.sg_kinds.specs.Keys.{operation, operator_in}
 use Rattle.sg_kinds.specs.declared.plans.Plans.{Plans}
 use Rattle.sg_kinds.specs.Visits.{row_at, belongs, seat, position_in, visit_count}
 use Rattle.sg_orders.specs.LiveSites.{IsLive}
-use Rattle.sg_orders.specs.Proper.{is_inherited_there, is_owed}
+use Rattle.sg_orders.specs.Proper.{is_owed}
 use Rattle.sg_orders.specs.Timed.{AreTimed}
 use Rattle.sg_orders.specs.Vertices.{IsVertex, AreInRange}
 use Rattle.sg_orders.proofs.KeysFall.{inherited_attr}

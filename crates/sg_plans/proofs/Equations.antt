@@ -16,7 +16,7 @@ use Rattle.sg_kinds.specs.declared.spec.Occurrence.{Occurrence}
 use Rattle.sg_kinds.specs.declared.marks.Shape.{Shape}
 use Rattle.sg_kinds.specs.Specification.{attrs_of, args_of, locals_of, phylum_of, has_shape, is_leaf_shape, is_inherited, is_way_inherited, rules_of}
 use Rattle.sg_kinds.specs.Instances.{below, attr_count, defines, rule_for}
-use Rattle.sg_kinds.specs.Dependencies.{phylum_there, occurrence}
+use Rattle.sg_kinds.specs.Dependencies.{is_inherited_there, phylum_there, occurrence}
 use Rattle.sg_kinds.specs.Sound as sound
 use Rattle.sg_kinds.specs.Sound.{HasShapes, HasRules, IsValue, IsShaped, is_operator_of, operators_of}
 use Rattle.sg_kinds.specs.Typing.{attr_types, slots_there, slot_type}
@@ -109,7 +109,7 @@ slots_long spec p (suc k) = omega (arith, types_long spec (slice_get (args_of sp
 pub owed_alike : (spec : Spec) (op k slot : ℕ) → IsVertex (rules_of spec) op (occurrence k slot) → is_owed (rules_of spec) op k slot ≡ sound.is_owed spec op k slot
 owed_alike spec op (suc k) slot is = refl
 owed_alike spec op zero slot is =
-    sym (ap (λ b. b && not (sound.is_inherited_there spec op 0 slot)) (ap is_some (slice_get-get_or (slots_there spec op 0) slot 0 (omega (arith, is, slots_long spec op 0)))))
+    sym (ap (λ b. b && not (is_inherited_there (rules_of spec) op 0 slot)) (ap is_some (slice_get-get_or (slots_there spec op 0) slot 0 (omega (arith, is, slots_long spec op 0)))))
 
 pub owed_rule : (spec : Spec) → HasRules spec → (op : ℕ) (o : Occurrence) → IsVertex (rules_of spec) op o → is_owed (rules_of spec) op o.at o.slot ≡ true → (r : Rule) × (rule_for spec.rules op o ≡ Some r)
 owed_rule spec rules op o is owed =

@@ -4,7 +4,7 @@ use Rattle.std.proofs.Common.{sym, ◌∙◌, ap, subst, arith, append_assoc, le
 use Rattle.std.proofs.lemmas.List.{map-append}
 use Rattle.std.proofs.lemmas.Option.{slice_get_within}
 use Rattle.sg_kinds.specs.Values.{Value, Truth, Number, Chars, Tree, Fault, row_of, size_of, sizes_of, depth_of, depths_of, is_within, size_limit, depth_limit}
-use Rattle.sg_pool.specs.Pools.{value_at, tree_over, has_value, with_value, interned, interned_all, is_kept, IsGrown, Stands}
+use Rattle.sg_pool.specs.Pools.{value_at, tree_over, has_value, with_value, interned, interned_all, is_kept, IsGrown, StandsFor}
 use Rattle.sg_pool.specs.PoolView.{AreBelow}
 use Rattle.sg_kinds.specs.SameValue.{both}
 use Rattle.sg_pool.proofs.Pooled.{map-value_at, below_more}
@@ -29,10 +29,10 @@ grown_longer us vs g = let l : length (us ++ g.more) ≡ length us + length g.mo
 pub map_stays : (us vs : List Value) (ks : List ℕ) → IsGrown us vs → AreBelow (length us) ks → map (value_at vs) ks ≡ map (value_at us) ks
 map_stays us vs ks g h = ap (λ l. map (value_at l) ks) g.is ∙ map-value_at us g.more ks h
 
-pub stands_at : (vs : List Value) (k : ℕ) (v : Value) → Stands vs k v → value_at vs k ≡ v
+pub stands_at : (vs : List Value) (k : ℕ) (v : Value) → StandsFor vs k v → value_at vs k ≡ v
 stands_at vs k v h = rw h refl
 
-pub map_push : (vs : List Value) (ks : List ℕ) (k : ℕ) (v : Value) → Stands vs k v → map (value_at vs) (ks ++ k ∷ []) ≡ map (value_at vs) ks ++ v ∷ []
+pub map_push : (vs : List Value) (ks : List ℕ) (k : ℕ) (v : Value) → StandsFor vs k v → map (value_at vs) (ks ++ k ∷ []) ≡ map (value_at vs) ks ++ v ∷ []
 map_push vs ks k v h = map-append (value_at vs) ks (k ∷ []) ∙ ap (λ x. map (value_at vs) ks ++ x ∷ []) (stands_at vs k v h)
 
 pub below_push : (n : ℕ) (ks : List ℕ) (k : ℕ) → AreBelow n ks → k < n → AreBelow n (ks ++ k ∷ [])
@@ -40,7 +40,7 @@ below_push n [] k h l = (l, tt)
 below_push n (j ∷ ks) k h l = (h.0, below_push n ks k h.1 l)
 
 -- a step of putting values in: the numbers so far, and one more
-module _ (us vs : List Value) (ks : List ℕ) (k : ℕ) (v : Value) (g : IsGrown us vs) (below : AreBelow (length us) ks) (h : Stands vs k v) where
+module _ (us vs : List Value) (ks : List ℕ) (k : ℕ) (v : Value) (g : IsGrown us vs) (below : AreBelow (length us) ks) (h : StandsFor vs k v) where
   pub numbers_push : (done : List Value) → map (value_at us) ks ≡ done → map (value_at vs) (ks ++ k ∷ []) ≡ done ++ v ∷ []
   numbers_push done e = map_push vs ks k v h ∙ ap (λ l. l ++ v ∷ []) (map_stays us vs ks g below ∙ e)
 

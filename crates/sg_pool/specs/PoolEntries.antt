@@ -15,9 +15,9 @@ entry_value pool (entry.Tree op kids) = tree_over pool op kids
 entry_value pool (entry.Fault kind) = Fault kind
 
 -- the numbers of its children
-abbrev pub kids_of : Entry → List ℕ
-kids_of (entry.Tree op kids) = kids
-kids_of e = []
+abbrev pub kid_numbers : Entry → List ℕ
+kid_numbers (entry.Tree op kids) = kids
+kid_numbers e = []
 
 -- whether two entries are the same
 abbrev pub same_entry : Entry → Entry → Bool

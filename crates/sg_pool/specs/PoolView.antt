@@ -2,7 +2,7 @@
 use Rattle.std.specs.Prelude.{◌≡◌, ℕ, suc, ◌<◌, List, [], ◌∷◌, ◌++◌, map, ⊤}
 use Rattle.sg_kinds.specs.Values.{Value, size_of, depth_of}
 use Rattle.sg_pool.specs.Pools.{AreDifferent}
-use Rattle.sg_pool.specs.PoolEntries.{Entry, entry_value, kids_of}
+use Rattle.sg_pool.specs.PoolEntries.{Entry, entry_value, kid_numbers}
 use Rattle.sg_pool.specs.declared.pool.Measure.{Measure}
 
 -- the values of entries, one after another, behind those that are there
@@ -10,8 +10,8 @@ abbrev pub values_from : List Value → List Entry → List Value
 values_from done [] = done
 values_from done (e ∷ es) = values_from (done ++ entry_value done e ∷ []) es
 
-abbrev pub values_of : List Entry → List Value
-values_of es = values_from [] es
+abbrev pub pooled_values : List Entry → List Value
+pooled_values es = values_from [] es
 
 -- each number is below n
 abbrev pub AreBelow : ℕ → List ℕ → Type 0
@@ -21,7 +21,7 @@ AreBelow n (k ∷ ks) = (k < n) × AreBelow n ks
 -- each entry's children have smaller numbers; the first entry has the number n
 abbrev pub AreOrdered : ℕ → List Entry → Type 0
 AreOrdered n [] = ⊤
-AreOrdered n (e ∷ es) = AreBelow n (kids_of e) × AreOrdered (suc n) es
+AreOrdered n (e ∷ es) = AreBelow n (kid_numbers e) × AreOrdered (suc n) es
 
 -- what is kept of a value: its size and its depth
 abbrev pub measure_of : Value → Measure
@@ -29,5 +29,5 @@ measure_of v = record { size = size_of v; depth = depth_of v }
 
 pub record IsPooled (es : List Entry) (ms : List Measure) : Type 0 where
   pub ordered : AreOrdered 0 es
-  pub different : AreDifferent (values_of es)
-  pub measures : ms ≡ map measure_of (values_of es)
+  pub different : AreDifferent (pooled_values es)
+  pub measures : ms ≡ map measure_of (pooled_values es)

@@ -9,8 +9,8 @@ abbrev pub value_at : List Value → ℕ → Value
 value_at pool id = unwrap_or (slice_get pool id) untyped
 
 -- the number stands for the value
-abbrev pub Stands : List Value → ℕ → Value → Type 0
-Stands pool id v = slice_get pool id ≡ Some v
+abbrev pub StandsFor : List Value → ℕ → Value → Type 0
+StandsFor pool id v = slice_get pool id ≡ Some v
 
 -- the tree of an operator over the values of numbers
 abbrev pub tree_over : List Value → ℕ → List ℕ → Value

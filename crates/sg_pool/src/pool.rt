@@ -1,8 +1,8 @@
 // The pool of shared values.
 ghost use Rattle.std.specs.Prelude.{◌≡◌, ℕ, ◌<◌, ◌↔◌, [], length, map, All, IsTrue, IsErrOf, MatchOption, IfOk, OnOk, OnErr, IfErr, MatchResult, true, false, slice_get, Some};
 ghost use Rattle.sg_kinds.specs.Values.{row_of, Truth, Number, Chars, Tree, Fault, size_of, depth_of, is_within};
-ghost use Rattle.sg_pool.specs.Pools.{value_at, Stands, tree_over, with_value, interned, interned_all, is_kept, IsGrown, AreDifferent};
-ghost use Rattle.sg_pool.specs.PoolEntries.{entry_value, kids_of};
+ghost use Rattle.sg_pool.specs.Pools.{value_at, StandsFor, tree_over, with_value, interned, interned_all, is_kept, IsGrown, AreDifferent};
+ghost use Rattle.sg_pool.specs.PoolEntries.{entry_value, kid_numbers};
 ghost use Rattle.sg_pool.specs.PoolView.{AreBelow, measure_of};
 ghost use Rattle.sg_pool.specs.declared.pool.PoolFault.TheVariants.{NoMemory as PoolNoMemory};
 
@@ -62,9 +62,9 @@ impl Model for Pool {
 
     ghost coded = { coded_list value_code };
 
-    ghost use Rattle.sg_pool.specs.PoolView.{values_of, IsPooled};
+    ghost use Rattle.sg_pool.specs.PoolView.{pooled_values, IsPooled};
 
-    ghost view = { λ p. values_of p.entries.keys };
+    ghost view = { λ p. pooled_values p.entries.keys };
 
     ghost invariant = { λ p. IsPooled p.entries.keys p.measures.items };
 }
@@ -101,8 +101,8 @@ impl Pool {
     #[tactic(auto, using(crate::proofs::Pooled::entries_length, crate::proofs::Pooled::entry_told, crate::proofs::Pooled::kids_told))]
     pub fn entry(&self, id: ValueId) -> &Entry
         requires { id < length self.now }
-        ensures value { Stands self.now id (entry_value self.now result.now) }
-        ensures kids { All (λ k. k < id) (kids_of result.now) }
+        ensures value { StandsFor self.now id (entry_value self.now result.now) }
+        ensures kids { All (λ k. k < id) (kid_numbers result.now) }
     {
         item(self.entries.as_slice(), id.number)
     }
@@ -127,7 +127,7 @@ impl Pool {
     #[cycle(value)]
     pub fn value(&self, alloc: Global, id: ValueId) -> Result<Value, NoMemory>
         requires { id < length self.now }
-        ensures { IfOk result (λ v. Stands self.now id v) }
+        ensures { IfOk result (λ v. StandsFor self.now id v) }
     {
         match self.entry(id) {
             Entry::Bool(b) => Ok(Value::truth(*b)),
@@ -157,7 +157,7 @@ impl Pool {
     #[tactic(auto, using(crate::proofs::Grown::kids_kept, crate::proofs::Grown::grown_with, crate::proofs::Grown::grown_twice))]
     pub fn put(&mut self, v: &Value) -> Result<ValueId, NoMemory>
         requires { IsTrue (is_kept v.now) }
-        ensures stands { IfOk result (λ id. Stands self.new id v.now) }
+        ensures stands { IfOk result (λ id. StandsFor self.new id v.now) }
         ensures pool { OnOk result (self.new ≡ interned self.old v.now) }
         ensures grown { IsGrown self.old self.new }
     {
@@ -202,7 +202,7 @@ impl Pool {
 
     /// The number of a truth value.
     pub fn put_truth(&mut self, b: bool) -> Result<ValueId, NoMemory>
-        ensures stands { IfOk result (λ id. Stands self.new id (Truth b)) }
+        ensures stands { IfOk result (λ id. StandsFor self.new id (Truth b)) }
         ensures pool { OnOk result (self.new ≡ with_value self.old (Truth b)) }
         ensures grown { IsGrown self.old self.new }
     {
@@ -211,7 +211,7 @@ impl Pool {
 
     /// The number of a number.
     pub fn put_number(&mut self, n: i64) -> Result<ValueId, NoMemory>
-        ensures stands { IfOk result (λ id. Stands self.new id (Number n)) }
+        ensures stands { IfOk result (λ id. StandsFor self.new id (Number n)) }
         ensures pool { OnOk result (self.new ≡ with_value self.old (Number n)) }
         ensures grown { IsGrown self.old self.new }
     {
@@ -220,7 +220,7 @@ impl Pool {
 
     /// The number of a text, whatever its length.
     pub fn put_text(&mut self, text: Text) -> Result<ValueId, NoMemory>
-        ensures stands { IfOk result (λ id. Stands self.new id (Chars text)) }
+        ensures stands { IfOk result (λ id. StandsFor self.new id (Chars text)) }
         ensures pool { OnOk result (self.new ≡ with_value self.old (Chars text)) }
         ensures grown { IsGrown self.old self.new }
     {
@@ -230,7 +230,7 @@ impl Pool {
 
     /// The number of a fault.
     pub fn put_fault(&mut self, kind: FaultKind) -> Result<ValueId, NoMemory>
-        ensures stands { IfOk result (λ id. Stands self.new id (Fault kind)) }
+        ensures stands { IfOk result (λ id. StandsFor self.new id (Fault kind)) }
         ensures pool { OnOk result (self.new ≡ with_value self.old (Fault kind)) }
         ensures grown { IsGrown self.old self.new }
     {
@@ -242,7 +242,7 @@ impl Pool {
     #[tactic(auto, using(crate::proofs::Pooled::below_all))]
     pub fn node(&mut self, op: OpId, kids: &[ValueId]) -> Result<ValueId, PoolFault>
         requires { All (λ k. k < length self.old) kids.now }
-        ensures stands { IfOk result (λ id. Stands self.new id (tree_over self.old op kids.now)) }
+        ensures stands { IfOk result (λ id. StandsFor self.new id (tree_over self.old op kids.now)) }
         ensures pool { OnOk result (self.new ≡ with_value self.old (tree_over self.old op kids.now)) }
         ensures size { IsErrOf result PoolFault.Size ↔ (is_within (tree_over self.old op kids.now) ≡ false) }
         ensures err { OnErr result (self.new ≡ self.old) }
@@ -276,9 +276,9 @@ impl Pool {
     // the number of an entry, which is put last where it is not there
     #[tactic(auto, using(crate::proofs::Grown::grown_same, crate::proofs::Grown::grown_put))]
     fn enter(&mut self, entry: Entry, measure: Measure) -> Result<ValueId, NoMemory>
-        requires kids { AreBelow (length self.old) (kids_of entry) }
+        requires kids { AreBelow (length self.old) (kid_numbers entry) }
         requires measure { measure ≡ measure_of (entry_value self.old entry) }
-        ensures stands { IfOk result (λ id. Stands self.new id (entry_value self.old entry)) }
+        ensures stands { IfOk result (λ id. StandsFor self.new id (entry_value self.old entry)) }
         ensures pool { OnOk result (self.new ≡ with_value self.old (entry_value self.old entry)) }
         ensures err { OnErr result (self.new ≡ self.old) }
         ensures grown { IsGrown self.old self.new }

@@ -16,7 +16,7 @@ use Rattle.sg_kinds.specs.declared.plans.PlanStep.TheVariants.{Eval}
 use Rattle.sg_kinds.specs.declared.spec.Rule.{Rule}
 use Rattle.sg_kinds.specs.declared.spec.Rules.{Rules}
 use Rattle.sg_kinds.specs.declared.spec.Spec.{Spec}
-use Rattle.sg_pool.specs.Pools.{Stands, value_at}
+use Rattle.sg_pool.specs.Pools.{StandsFor, value_at}
 use Rattle.sg_eval.specs.declared.journal.Instance.{Instance}
 use Rattle.sg_forest.specs.declared.node_id.NodeId.{NodeId}
 use Rattle.sg_forest.specs.Trees.{Climbs}
@@ -55,13 +55,13 @@ value_by g m slot id at = ap (λ o. unwrap_or (option_map (value_at g.pool) o) u
 
 -- numbers before and after an evaluation are equal exactly where the values are
 module _ (old new : Grove) (is : IsGrove old) (is_new : IsGrove new) (changed : NodeId → ℕ → Type 0) (only : OnlyStored old new changed) (m : NodeId) (slot was after : ℕ) (was_is : number_at old m slot ≡ Some was) (after_is : number_at new m slot ≡ Some after) where
-  stands : (v : Value) × Stands old.pool was v
+  stands : (v : Value) × StandsFor old.pool was v
   stands = number_stands old is m slot was was_is
 
   old_value : value_there old m slot ≡ stands.0
   old_value = value_by old m slot was was_is ∙ ap (λ o. unwrap_or o untyped) stands.1
 
-  still_stands : Stands new.pool was stands.0
+  still_stands : StandsFor new.pool was stands.0
   still_stands = Stands-grown old.pool new.pool was stands.0 only.pool stands.1
 
   pub same_number : was ≡ after → value_there new m slot ≡ value_there old m slot

@@ -79,23 +79,23 @@ at_there t p op k h = by (phylum_named t p.text) refl h
     by (Some P) e f = (P, e, f)
 
 -- places and separators are those that were written
-same_places : (t : Table) (op : ℕ) (items : List Written) → count_by is_place (map (item_of t op) items) ≡ count_by places.is_place items
+same_places : (t : Table) (op : ℕ) (items : List Written) → count_by is_place (map (item_of t op) items) ≡ count_by places.is_child items
 same_places t op [] = refl
-same_places t op (x ∷ items) = more (is_place (item_of t op x)) (places.is_place x) (same_place x) (same_places t op items)
+same_places t op (x ∷ items) = more (is_place (item_of t op x)) (places.is_child x) (same_place x) (same_places t op items)
   where
-    same_place : (y : Written) → is_place (item_of t op y) ≡ places.is_place y
+    same_place : (y : Written) → is_place (item_of t op y) ≡ places.is_child y
     same_place (Writes s) = refl
     same_place (Child how) = refl
     same_place (Shows s) = refl
     same_place (Separates ss) = refl
 
-    more : (a b : Bool) → a ≡ b → count_by is_place (map (item_of t op) items) ≡ count_by places.is_place items → count_by is_place (map (item_of t op) (x ∷ items)) ≡ count_by places.is_place (x ∷ items)
+    more : (a b : Bool) → a ≡ b → count_by is_place (map (item_of t op) items) ≡ count_by places.is_child items → count_by is_place (map (item_of t op) (x ∷ items)) ≡ count_by places.is_child (x ∷ items)
     more a b e h =
         sum_by-cons (λ y. cond (is_place y) 1 0) (item_of t op x) (map (item_of t op) items)
         ∙ (λ i. cond (same_place x i) 1 0 + h i)
-        ∙ sym (sum_by-cons (λ y. cond (places.is_place y) 1 0) x items)
+        ∙ sym (sum_by-cons (λ y. cond (places.is_child y) 1 0) x items)
 
-same_separators : (t : Table) (op : ℕ) (may : Bool) (n : ℕ) (items : List Written) → separators_fit may n (map (item_of t op) items) ≡ places.separators_fit may n items
+same_separators : (t : Table) (op : ℕ) (may : Bool) (n : ℕ) (items : List Written) → separators_fit may n (map (item_of t op) items) ≡ places.separators_stand may n items
 same_separators t op may n [] = refl
 same_separators t op may n (Writes s ∷ items) = same_separators t op may n items
 same_separators t op may n (Child how ∷ items) = same_separators t op may (suc n) items
@@ -110,7 +110,7 @@ fitting_is pair arity op s h = by (places.is_fitting pair arity s) h
     by false e = absurd (cc e)
 
 module _ (t : Table) (spec : Spec) (kept : HasTable t spec) where
-  same_pair : (p op : ℕ) → phylum_of t.ops op ≡ Some p → is_pair spec op ≡ places.is_pair t p op
+  same_pair : (p op : ℕ) → phylum_of t.ops op ≡ Some p → is_pair spec op ≡ places.is_list_pair t p op
   same_pair p op own =
       ap (λ o. unwrap_or (option_map (λ q. has_shape spec.phyla is_list_shape q && nat_eq (length (args_of spec.ops op)) 2) o) false) (phylum_kept t spec kept op ∙ own)
       ∙ (λ i. has_shape (kept.phyla i) is_list_shape p && nat_eq (length (args_kept t spec kept op i)) 2)
@@ -141,12 +141,12 @@ module _ (t : Table) (spec : Spec) (kept : HasTable t spec) where
   item_fine op (Separates ss) h = tt
   item_fine op (Shows x) h = leaf_shown op x (target_place x) (target_type t op x) refl h
 
-  scheme_fine : (p op : ℕ) (n : Name) (s : SchemeDecl) → phylum_of t.ops op ≡ Some p → (places_fault (places.is_pair t p op) (length (args_of t.ops op)) n s ≡ None) × (hidden_scheme t op s ≡ None) → IsScheme spec op (scheme_of t op s)
+  scheme_fine : (p op : ℕ) (n : Name) (s : SchemeDecl) → phylum_of t.ops op ≡ Some p → (places_fault (places.is_list_pair t p op) (length (args_of t.ops op)) n s ≡ None) × (hidden_scheme t op s ≡ None) → IsScheme spec op (scheme_of t op s)
   scheme_fine p op n s own h =
-      let fits = and_parts (nat_eq (count_by places.is_place s.items) (length (args_of t.ops op))) (places.separators_fit (places.is_pair t p op) 0 s.items) (fitting_is (places.is_pair t p op) (length (args_of t.ops op)) n s h.0) in
+      let fits = and_parts (nat_eq (count_by places.is_child s.items) (length (args_of t.ops op))) (places.separators_stand (places.is_list_pair t p op) 0 s.items) (fitting_is (places.is_list_pair t p op) (length (args_of t.ops op)) n s h.0) in
       record {
-        places = same_places t op s.items ∙ eq_is (count_by places.is_place s.items) (length (args_of t.ops op)) fits.0 ∙ ap length (sym (args_kept t spec kept op));
-        separators = same_separators t op (is_pair spec op) 0 s.items ∙ ap (λ b. places.separators_fit b 0 s.items) (same_pair p op own) ∙ fits.1;
+        places = same_places t op s.items ∙ eq_is (count_by places.is_child s.items) (length (args_of t.ops op)) fits.0 ∙ ap length (sym (args_kept t spec kept op));
+        separators = same_separators t op (is_pair spec op) 0 s.items ∙ ap (λ b. places.separators_stand b 0 s.items) (same_pair p op own) ∙ fits.1;
         shown = All-from_recursion (IsItem spec op) (map (item_of t op) s.items) (each_map (IsItem spec op) (λ i. hidden_item t op i ≡ None) (item_of t op) s.items (item_fine op) (first-none (hidden_item t op) s.items h.1));
       }
 
@@ -163,10 +163,10 @@ module _ (t : Table) (spec : Spec) (kept : HasTable t spec) where
       ap (option_and_then (λ j. operator_faults t there.0 j op ss)) (sym there.2) ∙ ap (option_and_then (λ P. phylum_faults t P op ss)) (sym there.1) ∙ kids in
       let number : body.operator t p op ≡ k = ap (λ o. unwrap_or o 0) e in
       let shows : first (hidden_scheme t k) ss ≡ None = ap (λ j. first (hidden_scheme t j) ss) (sym number) ∙ hid in
-      each_map IsOfOperator (λ s. (places_fault (places.is_pair t there.0 k) (length (args_of t.ops k)) op s ≡ None) × (hidden_scheme t k s ≡ None)) (λ s. (k, scheme_of t k s)) ss
+      each_map IsOfOperator (λ s. (places_fault (places.is_list_pair t there.0 k) (length (args_of t.ops k)) op s ≡ None) × (hidden_scheme t k s ≡ None)) (λ s. (k, scheme_of t k s)) ss
       (λ s h. scheme_fine there.0 k op s own h)
-      (each_both (λ s. places_fault (places.is_pair t there.0 k) (length (args_of t.ops k)) op s ≡ None) (λ s. hidden_scheme t k s ≡ None) ss
-      (first-none (places_fault (places.is_pair t there.0 k) (length (args_of t.ops k)) op) ss none) (first-none (hidden_scheme t k) ss shows))
+      (each_both (λ s. places_fault (places.is_list_pair t there.0 k) (length (args_of t.ops k)) op s ≡ None) (λ s. hidden_scheme t k s ≡ None) ss
+      (first-none (places_fault (places.is_list_pair t there.0 k) (length (args_of t.ops k)) op) ss none) (first-none (hidden_scheme t k) ss shows))
 
   decl_fine : (d : Decl) → (kids_fault t d ≡ None) × (hidden_at t d ≡ None) → Each IsOfOperator (schemes_at t d)
   decl_fine (Schemes p op None ss) h = schemes_fine p op ss (operator_at t p op) refl h.0 h.1

@@ -4,7 +4,7 @@ ghost use Rattle.std.specs.Prelude.{◌&&◌};
 ghost use Rattle.sg_kinds.specs.Specification.{has_shape, is_list_shape};
 ghost use Rattle.sg_ast.specs.FirstFault.{first};
 ghost use Rattle.sg_ast.specs.View.{tree_of, trees_of};
-ghost use Rattle.sg_schemes.specs.Places.{is_place, separators_fit, is_fitting, places_fault, is_pair, operator_faults, phylum_faults, kids_fault, scheme_kids};
+ghost use Rattle.sg_schemes.specs.Places.{is_child, separators_stand, is_fitting, places_fault, is_list_pair, operator_faults, phylum_faults, kids_fault, scheme_kids};
 
 use sg_ast::decl::{Decl, Item, SchemeDecl};
 use sg_ast::name::Name;
@@ -15,22 +15,22 @@ use sg_kinds::memory::NoMemory;
 use sg_names::names::Names;
 use std::alloc::Global;
 
-fn is_place(item: &Item) -> bool
-    ensures { result ≡ is_place item.now }
+fn is_child(item: &Item) -> bool
+    ensures { result ≡ is_child item.now }
 {
     matches!(item, Item::Child(_))
 }
 
 /// How many places there are.
 fn place_count(items: &[Item]) -> usize
-    ensures { result ≡ count_by is_place items.now }
+    ensures { result ≡ count_by is_child items.now }
 {
-    items.iter().filter(|item| is_place(item)).count()
+    items.iter().filter(|item| is_child(item)).count()
 }
 
 /// Whether a separator stands only where it may, once, after the first place.
-fn separators_fit(pair: bool, items: &[Item]) -> bool
-    ensures { result ≡ separators_fit pair 0 items.now }
+fn separators_stand(pair: bool, items: &[Item]) -> bool
+    ensures { result ≡ separators_stand pair 0 items.now }
 {
     let mut may = pair;
     let mut places = 0usize;
@@ -53,7 +53,7 @@ fn is_fitting(pair: bool, arity: usize, scheme: &SchemeDecl) -> bool
     ensures { result ≡ is_fitting pair arity scheme.now }
 {
     let items = scheme.items.as_slice();
-    place_count(items) == arity && separators_fit(pair, items)
+    place_count(items) == arity && separators_stand(pair, items)
 }
 
 /// The fault of a scheme of an operator, if it has one.
@@ -100,8 +100,8 @@ fn is_list(names: &Names, phylum: PhylumId) -> bool
 }
 
 /// Whether it is the binary operator of a list.
-fn is_pair(names: &Names, phylum: PhylumId, op: OpId) -> bool
-    ensures { result ≡ is_pair names.now phylum op }
+fn is_list_pair(names: &Names, phylum: PhylumId, op: OpId) -> bool
+    ensures { result ≡ is_list_pair names.now phylum op }
 {
     is_list(names, phylum) && names.args(op).len() == 2
 }
@@ -117,7 +117,7 @@ fn operator_faults(
 ) -> Result<Option<SpecFault>, NoMemory>
     ensures { IfOk result (λ f. f ≡ operator_faults names.now phylum number op.now schemes.now) }
 {
-    let pair = is_pair(names, phylum, number);
+    let pair = is_list_pair(names, phylum, number);
     let arity = names.args(number).len();
     first_places_fault(alloc, pair, arity, op, schemes)
 }

@@ -15,7 +15,7 @@ use Rattle.sg_text.specs.Forms.{value_of}
 use Rattle.sg_kinds.proofs.Elementary.{and_true, eq_is, eq_false, le_is, le_true, lt_is, not_true}
 use Rattle.sg_script.specs.Words.{is_space, word_len, spaces_at, word_at, behind_spaces, next_word, closing, next_string, last_of}
 use Rattle.sg_script.specs.Forms.{is_name_byte, is_name, name_of, is_graphic, is_file_name, file_name_of, is_count, count_of, has_length}
-use Rattle.sg_script.specs.Spelled.{escaped, string_of, is_place, is_text}
+use Rattle.sg_script.specs.Spelled.{escaped, string_of, is_position, is_text}
 
 -- what holds of each byte, where something stronger does
 weaker : (p q : ℕ → Bool) → ((b : ℕ) → p b ≡ true → q b ≡ true) → (bs : List ℕ) → list_all p bs ≡ true → list_all q bs ≡ true
@@ -154,7 +154,7 @@ written_count (d ∷ ds) h f l =
     (and_true (not (48 + d == 48)) (nat_le (length (written ds)) 8) (ap not other) few)
     (written_digits (d ∷ ds) h)
 
-module _ (n : ℕ) (h : is_place n ≡ true) where
+module _ (n : ℕ) (h : is_position n ≡ true) where
   some : 0 < n
   some = lt_is 0 n (and_parts (nat_lt 0 n) (nat_lt n 1000000000) h).0
 

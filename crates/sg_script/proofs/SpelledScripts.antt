@@ -18,7 +18,7 @@ use Rattle.sg_script.specs.declared.fault.ScriptFault.TheVariants.{Long, Line, M
 use Rattle.sg_script.specs.Forms.{is_name, name_of, is_file_name, file_name_of, count_of}
 use Rattle.sg_script.specs.Commands.{one_name, one_file, one_count, one_string, loaded, placed, command_of}
 use Rattle.sg_script.specs.Script.{says_nothing, meaning_of, commands_said, commands_in, is_unknown, bad_line, fault_in, verdict, script_of}
-use Rattle.sg_script.specs.Spelled.{string_of, line_of, is_place, is_text, has_forms, text_of, is_script}
+use Rattle.sg_script.specs.Spelled.{string_of, line_of, is_position, is_text, has_forms, text_of, is_script}
 use Rattle.sg_script.proofs.Spelled.{is_plain, first_word, name_word, name_plain, name_there, name_is, name_last, file_plain, file_is, file_last, place_word, place_plain, place_there, place_is, place_last, unescaped_escaped, string_last, plain_append, string_plain}
 
 one_name_is : (b : List ℕ) → is_name b ≡ true → one_name (space ∷ b) ≡ Some b
@@ -27,7 +27,7 @@ one_name_is b h = ap (option_and_then name_of) (name_last b h) ∙ name_is b h
 one_file_is : (f : List ℕ) → is_file_name f ≡ true → one_file (space ∷ f) ≡ Some f
 one_file_is f h = ap (option_and_then file_name_of) (file_last f h) ∙ file_is f h
 
-one_count_is : (n : ℕ) → is_place n ≡ true → one_count (space ∷ decimal n) ≡ Some n
+one_count_is : (n : ℕ) → is_position n ≡ true → one_count (space ∷ decimal n) ≡ Some n
 one_count_is n h = ap (option_and_then count_of) (place_last n h) ∙ place_is n h
 
 one_string_is : (t : List ℕ) → is_text t ≡ true → one_string (space ∷ string_of t) ≡ Some t
@@ -39,7 +39,7 @@ loaded_is b f h k =
     ∙ ap (option_and_then (λ name. option_map (Load name) (one_file (space ∷ f)))) (name_is b h)
     ∙ ap (option_map (Load b)) (one_file_is f k)
 
-placed_is : (l c : ℕ) → is_place l ≡ true → is_place c ≡ true → placed (space ∷ decimal l ++ space ∷ decimal c) ≡ Some (Goto l c)
+placed_is : (l c : ℕ) → is_position l ≡ true → is_position c ≡ true → placed (space ∷ decimal l ++ space ∷ decimal c) ≡ Some (Goto l c)
 placed_is l c h k =
     ap (option_and_then (λ w. option_and_then (λ line. option_map (Goto line) (one_count w.1)) (count_of w.0))) (first_word (decimal l) (decimal c) (place_word l h) (place_there l h))
     ∙ ap (option_and_then (λ line. option_map (Goto line) (one_count (space ∷ decimal c)))) (place_is l h)
@@ -57,7 +57,7 @@ spelled Prev h = refl
 spelled Up h = refl
 spelled First h = refl
 spelled Sibling h = refl
-spelled (Goto l c) h = let p = and_parts (is_place l) (is_place c) h in placed_is l c p.0 p.1
+spelled (Goto l c) h = let p = and_parts (is_position l) (is_position c) h in placed_is l c p.0 p.1
 spelled (Do t) h = ap (option_map Do) (one_string_is t h)
 spelled Delete h = refl
 spelled Remove h = refl
@@ -85,7 +85,7 @@ line_plain (Load b f) h =
     let p = and_parts (is_name b) (is_file_name f) h in plain_append b (space ∷ f) (name_plain b p.0) (file_plain f p.1)
 line_plain (Switch b) h = name_plain b h
 line_plain (Goto l c) h =
-    let p = and_parts (is_place l) (is_place c) h in
+    let p = and_parts (is_position l) (is_position c) h in
     plain_append (decimal l) (space ∷ decimal c) (place_plain l p.0) (place_plain c p.1)
 line_plain (Do t) h = string_plain t h
 line_plain (Text t) h = string_plain t h

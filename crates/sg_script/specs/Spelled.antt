@@ -51,8 +51,8 @@ line_of (SaveText file) = codes "save-text " ++ file
 
 -- whether its words have their forms: a line and a column are from 1 on and have at most nine digits, and a string
 -- holds no carriage return
-abbrev pub is_place : ℕ → Bool
-is_place n = nat_lt 0 n && nat_lt n 1000000000
+abbrev pub is_position : ℕ → Bool
+is_position n = nat_lt 0 n && nat_lt n 1000000000
 
 abbrev pub is_text : List ℕ → Bool
 is_text text = list_all (λ b. not (b == carriage_return)) text
@@ -61,7 +61,7 @@ abbrev pub has_forms : Command → Bool
 has_forms (New buffer) = is_name buffer
 has_forms (Load buffer file) = is_name buffer && is_file_name file
 has_forms (Switch buffer) = is_name buffer
-has_forms (Goto line column) = is_place line && is_place column
+has_forms (Goto line column) = is_position line && is_position column
 has_forms (Do text) = is_text text
 has_forms (Text text) = is_text text
 has_forms (TypeIn text) = is_text text

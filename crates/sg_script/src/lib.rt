@@ -1,8 +1,8 @@
 //! Scripts: the commands that the lines of a text spell.
 #![tactic(auto)]
 
-pub mod command;
-pub mod fault;
+mod command;
+mod fault;
 mod forms;
 pub mod laws;
 mod lines;

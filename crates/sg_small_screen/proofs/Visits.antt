@@ -8,7 +8,7 @@ use Rattle.sg_kinds.specs.Values.{Bytes, Value, Fault}
 use Rattle.sg_kinds.specs.Terms.{Term, Terms, Node, kids_of, height_of, height_of_all}
 use Rattle.sg_kinds.specs.Instances.{below}
 use Rattle.sg_kinds.specs.Outcome.{outcome}
-use Rattle.sg_pool.specs.Pools.{value_at, Stands, IsGrown}
+use Rattle.sg_pool.specs.Pools.{value_at, StandsFor, IsGrown}
 use Rattle.sg_kinds.specs.declared.spec.Spec.{Spec}
 use Rattle.sg_kinds.specs.declared.spec.Rule.{Rule}
 use Rattle.sg_kinds.specs.declared.spec.Occurrence.{Occurrence}
@@ -39,14 +39,14 @@ pub all_below : (m n : ℕ) (ks : List ℕ) → m ≤ n → All (λ j. j < m) ks
 all_below m n ks l h i d o = let p : get_or ks i d < m = h i d o in omega (arith, p)
 
 -- a node without children: each slot is `fuel`
-nothing_slots : (pool : List Value) (s : Slots) (fuel : ℕ) → s.numbers ≡ [] → s.rest ≡ fuel → Stands pool fuel (Fault Fuel) → slots_in pool s ≡ no_slot
+nothing_slots : (pool : List Value) (s : Slots) (fuel : ℕ) → s.numbers ≡ [] → s.rest ≡ fuel → StandsFor pool fuel (Fault Fuel) → slots_in pool s ≡ no_slot
 nothing_slots pool s fuel e r h = λ i slot. each slot i
   where
     each : (slot : ℕ) → value_at pool (unwrap_or (slice_get s.numbers slot) s.rest) ≡ Fault Fuel
     each slot = rw (e, r) (stands_at pool fuel (Fault Fuel) h)
 
 pub argument_more : (args : List Occurrence) (i : ℕ) (kids : List Found) (nothing : Slots) (fuel : ℕ) (numbers news : List ℕ) (k : ℕ) (d : Occurrence) → i < length args → nothing.numbers ≡ [] → nothing.rest ≡ fuel
-    → news ≡ numbers ++ k ∷ [] → (pool : List Value) → Stands pool fuel (Fault Fuel) → map (value_at pool) numbers ≡ map (occurrence_in no_slot (all_slots_in pool kids)) (take i args)
+    → news ≡ numbers ++ k ∷ [] → (pool : List Value) → StandsFor pool fuel (Fault Fuel) → map (value_at pool) numbers ≡ map (occurrence_in no_slot (all_slots_in pool kids)) (take i args)
     → value_at pool k ≡ occurrence_in (slots_in pool nothing) (all_slots_in pool kids) (get_or args i d)
     → map (value_at pool) news ≡ map (occurrence_in no_slot (all_slots_in pool kids)) (take (i + 1) args)
 argument_more args i kids nothing fuel numbers news k d l e r push pool stands before here =
@@ -131,7 +131,7 @@ equations_within spec op n m l = let up : equations_below spec op (suc n) ≤ eq
 
 -- one more slot
 pub slot_more : (spec : Spec) (op : ℕ) (kids : List Found) (first us vs : List Value) (numbers news : List ℕ) (slot k : ℕ) → IsGrown first us → IsGrown us vs → AreKnown (length first) kids
-    → All (λ j. j < length us) numbers → map (value_at us) numbers ≡ map (own_slots spec op (all_slots_in first kids)) (below slot) → Stands vs k (own_slots spec op (all_slots_in us kids) slot) → news ≡ numbers ++ k ∷ []
+    → All (λ j. j < length us) numbers → map (value_at us) numbers ≡ map (own_slots spec op (all_slots_in first kids)) (below slot) → StandsFor vs k (own_slots spec op (all_slots_in us kids) slot) → news ≡ numbers ++ k ∷ []
     → map (value_at vs) news ≡ map (own_slots spec op (all_slots_in first kids)) (below (slot + 1))
 slot_more spec op kids first us vs numbers news slot k g h known all before here push =
     ap (map (value_at vs)) push ∙ map-append (value_at vs) numbers (k ∷ [])
@@ -139,7 +139,7 @@ slot_more spec op kids first us vs numbers news slot k g h known all before here
     ∙ sym (map-append (own_slots spec op (all_slots_in first kids)) (below slot) (slot ∷ []))
     ∙ (let e : suc slot ≡ slot + 1 = omega arith in ap (λ n. map (own_slots spec op (all_slots_in first kids)) (below n)) e)
 
-pub more_known : (us vs : List Value) (numbers news : List ℕ) (k : ℕ) (v : Value) → IsGrown us vs → All (λ j. j < length us) numbers → Stands vs k v → news ≡ numbers ++ k ∷ [] → All (λ j. j < length vs) news
+pub more_known : (us vs : List Value) (numbers news : List ℕ) (k : ℕ) (v : Value) → IsGrown us vs → All (λ j. j < length us) numbers → StandsFor vs k v → news ≡ numbers ++ k ∷ [] → All (λ j. j < length vs) news
 more_known us vs numbers news k v g all h push =
     subst (All (λ j. j < length vs)) (sym push) (all_push (length vs) numbers k (all_below (length us) (length vs) numbers (grown_longer us vs g) all) (slice_get_within vs k v h))
 
@@ -167,7 +167,7 @@ below_there (suc n) k l = by (nat_eq k n) refl (λ m. below_there n k m)
     by false e again = let other : k ≢ n = grind arith in let m : k < n = omega arith in front (below n) (n ∷ []) k k (again m)
 
 pub node_slots : (spec : Spec) → IsUpward spec → (op : ℕ) (kids : List (ℕ → Value)) (us vs : List Value) (s : Slots) (numbers : List ℕ) → s.numbers ≡ numbers
-    → map (value_at us) numbers ≡ map (own_slots spec op kids) (below (slot_count spec op)) → IsGrown us vs → All (λ j. j < length us) numbers → Stands vs s.rest (Fault Fuel)
+    → map (value_at us) numbers ≡ map (own_slots spec op kids) (below (slot_count spec op)) → IsGrown us vs → All (λ j. j < length us) numbers → StandsFor vs s.rest (Fault Fuel)
     → slots_in vs s ≡ own_slots spec op kids
 node_slots spec up op kids us vs s numbers e h g all rest = λ i slot. each slot i
   where

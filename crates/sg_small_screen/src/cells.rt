@@ -5,7 +5,7 @@ ghost use Rattle.sg_kinds.specs.Values.{Value, Fault};
 ghost use Rattle.sg_kinds.specs.declared.spec.Occurrence.{Occurrence};
 ghost use Rattle.sg_kinds.specs.declared.spec.Item.TheVariants.{Child};
 ghost use Rattle.sg_kinds.specs.Terms.{kids_of};
-ghost use Rattle.sg_pool.specs.Pools.{value_at, Stands};
+ghost use Rattle.sg_pool.specs.Pools.{value_at, StandsFor};
 ghost use Rattle.sg_kinds.specs.declared.marks.FaultKind.TheVariants.{Fuel};
 ghost use Rattle.sg_kinds.specs.declared.spec.Item.{Item as IsItem};
 ghost use Rattle.sg_small_screen.specs.Cells.{fault_text, value_text, pieces_text, placed, items_text, items_of, goes_on};
@@ -128,7 +128,7 @@ fn write_item(
     item: &Item,
     next: &mut usize,
 ) -> Result<(), NoMemory>
-    requires rest { Stands shown.now.pool.now shown.now.own.now.rest (Fault Fuel) }
+    requires rest { StandsFor shown.now.pool.now shown.now.own.now.rest (Fault Fuel) }
     requires own { IsKnown (length shown.now.pool.now) shown.now.own.now }
     requires kids { AreKnown (length shown.now.pool.now) shown.now.kids.now }
     requires next { next.old ≤ length shown.now.kids.now }
@@ -154,7 +154,7 @@ fn write_item(
 
 // writes the items of a scheme
 fn write_items(shown: &Shown, items: &[Item]) -> Result<Vec<u8>, NoMemory>
-    requires rest { Stands shown.now.pool.now shown.now.own.now.rest (Fault Fuel) }
+    requires rest { StandsFor shown.now.pool.now shown.now.own.now.rest (Fault Fuel) }
     requires own { IsKnown (length shown.now.pool.now) shown.now.own.now }
     requires kids { AreKnown (length shown.now.pool.now) shown.now.kids.now }
     ensures { IfOk result (λ v. v.items ≡ items_text (occurrence_in (slots_in shown.now.pool.now shown.now.own.now) (all_slots_in shown.now.pool.now shown.now.kids.now)) shown.now.goes_on items.now (texts_of shown.now.kids.now)) }
@@ -175,7 +175,7 @@ pub fn node_cells(
     scheme: u32,
     elided: bool,
 ) -> Result<Text, NoMemory>
-    requires rest { Stands shown.now.pool.now shown.now.own.now.rest (Fault Fuel) }
+    requires rest { StandsFor shown.now.pool.now shown.now.own.now.rest (Fault Fuel) }
     requires own { IsKnown (length shown.now.pool.now) shown.now.own.now }
     requires kids { AreKnown (length shown.now.pool.now) shown.now.kids.now }
     ensures { IfOk result (λ t. t ≡ cond elided (codes "...") (items_text (occurrence_in (slots_in shown.now.pool.now shown.now.own.now) (all_slots_in shown.now.pool.now shown.now.kids.now)) shown.now.goes_on (items_of spec.now op scheme) (texts_of shown.now.kids.now))) }

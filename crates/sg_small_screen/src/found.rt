@@ -1,7 +1,7 @@
 // What is found of a node.
 ghost use Rattle.std.specs.Prelude.{◌≡◌, ℕ, ◌<◌, List, MatchOption, Some, None, slice_get};
 ghost use Rattle.sg_kinds.specs.Values.{Value, Fault};
-ghost use Rattle.sg_pool.specs.Pools.{value_at, Stands};
+ghost use Rattle.sg_pool.specs.Pools.{value_at, StandsFor};
 ghost use Rattle.sg_kinds.specs.declared.marks.FaultKind.TheVariants.{Fuel};
 ghost use Rattle.sg_small_screen.specs.Upward.{occurrence_in};
 ghost use Rattle.sg_small_screen.specs.Found.{number_of, slots_in, all_slots_in, IsKnown, AreKnown};
@@ -46,7 +46,7 @@ pub fn at<T>(items: &[T], k: usize) -> Option<&T>
 
 /// The number of an occurrence's value, by the slots of a node without children and by what was found of its children.
 pub fn occurrence(own: &Slots, kids: &[Found], o: Occurrence) -> ValueId
-    ensures value { (pool : List Value) → Stands pool own.now.rest (Fault Fuel) → value_at pool result ≡ occurrence_in (slots_in pool own.now) (all_slots_in pool kids.now) o }
+    ensures value { (pool : List Value) → StandsFor pool own.now.rest (Fault Fuel) → value_at pool result ≡ occurrence_in (slots_in pool own.now) (all_slots_in pool kids.now) o }
     ensures known { (n : ℕ) → IsKnown n own.now → AreKnown n kids.now → result < n }
 {
     if o.at == 0 {

@@ -2,7 +2,7 @@
 ghost use Rattle.std.specs.Prelude.{◌≡◌, ℕ, ◌+◌, ◌<◌, ◌≤◌, Bool, List, map, length, All, cond, codes, IfOk, OnOk, MatchOption, None};
 ghost use Rattle.sg_kinds.specs.Values.{Value, Fault};
 ghost use Rattle.sg_kinds.specs.Terms.{kids_of};
-ghost use Rattle.sg_pool.specs.Pools.{value_at, Stands, IsGrown};
+ghost use Rattle.sg_pool.specs.Pools.{value_at, StandsFor, IsGrown};
 ghost use Rattle.sg_kinds.specs.Specification.{attrs_of};
 ghost use Rattle.sg_kinds.specs.Instances.{below};
 ghost use Rattle.sg_kinds.specs.declared.marks.FaultKind.TheVariants.{Fuel};
@@ -105,7 +105,7 @@ fn arguments(
     kids: &[Found],
     fuel: ValueId,
 ) -> Result<Vec<ValueId>, NoMemory>
-    ensures values { (pool : List Value) → Stands pool fuel (Fault Fuel) → IfOk result (λ v. map (value_at pool) v.items ≡ map (occurrence_in no_slot (all_slots_in pool kids.now)) args.now) }
+    ensures values { (pool : List Value) → StandsFor pool fuel (Fault Fuel) → IfOk result (λ v. map (value_at pool) v.items ≡ map (occurrence_in no_slot (all_slots_in pool kids.now)) args.now) }
     ensures known { (n : ℕ) → AreKnown n kids.now → fuel < n → IfOk result (λ v. All (λ k. k < n) v.items) }
 {
     let nothing = Slots {
@@ -133,7 +133,7 @@ fn evaluate_slot(
     requires same { tour.now.evaluator.now ≡ tour.now.spec.now }
     requires known { AreKnown (length pool.old) kids.now }
     requires made { AreMade tour.now.evaluator.now made.old pool.old }
-    ensures value { IfOk result (λ id. Stands pool.new id (own_slots tour.now.spec.now node.now.op (all_slots_in pool.old kids.now) slot)) }
+    ensures value { IfOk result (λ id. StandsFor pool.new id (own_slots tour.now.spec.now node.now.op (all_slots_in pool.old kids.now) slot)) }
     ensures grown { IsGrown pool.old pool.new }
     ensures made { AreMade tour.now.evaluator.now made.new pool.new }
     ensures evaluated { OnOk result (length (now_of journal.new) ≡ length (now_of journal.old) + equations_of (own_rule tour.now.spec.now node.now.op slot)) }
@@ -191,7 +191,7 @@ fn shown_cells(
     own: &Slots,
     kids: &[Found],
 ) -> Result<Text, NoMemory>
-    requires rest { Stands pool.now own.now.rest (Fault Fuel) }
+    requires rest { StandsFor pool.now own.now.rest (Fault Fuel) }
     requires own { IsKnown (length pool.now) own.now }
     requires kids { AreKnown (length pool.now) kids.now }
     ensures { IfOk result (λ t. t ≡ cond node.now.elided (codes "...") (items_text (occurrence_in (slots_in pool.now own.now) (all_slots_in pool.now kids.now)) node.now.goes_on (items_of tour.now.spec.now node.now.op node.now.scheme) (texts_of kids.now))) }

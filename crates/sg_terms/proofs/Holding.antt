@@ -6,7 +6,7 @@ use Rattle.sg_kinds.specs.Evaluation.{untyped}
 use Rattle.sg_kinds.specs.Values.{Value}
 use Rattle.sg_kinds.specs.Terms.{Term, Terms, Leaf, Node, NoTerm, AndTerm, terms_of}
 use Rattle.sg_kinds.specs.Places.{child}
-use Rattle.sg_pool.specs.Pools.{value_at, Stands as StandsFor}
+use Rattle.sg_pool.specs.Pools.{value_at, StandsFor}
 use Rattle.sg_forest.specs.declared.node_id.NodeId.{NodeId}
 use Rattle.sg_forest.specs.Node.{Node as ForestNode}
 use Rattle.sg_forest.specs.Trees.{IsChild}

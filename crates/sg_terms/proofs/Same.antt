@@ -4,7 +4,7 @@ use Rattle.std.specs.FinMap as finmap
 use Rattle.sg_kinds.proofs.Elementary.{slice_get-before}
 use Rattle.sg_kinds.specs.Values.{Value}
 use Rattle.sg_kinds.specs.declared.spec.Spec.{Spec}
-use Rattle.sg_pool.specs.Pools.{IsGrown, Stands}
+use Rattle.sg_pool.specs.Pools.{IsGrown, StandsFor}
 use Rattle.sg_forest.specs.declared.node_id.NodeId.{NodeId}
 use Rattle.sg_forest.specs.Node.{Node}
 use Rattle.sg_forest.specs.Trees.{Trees, node_at, room_below}
@@ -16,8 +16,8 @@ use Rattle.sg_groves.specs.Grove.{IsTyped, AreTyped}
 use Rattle.sg_groves.specs.Unchanged.{KeepsPart, OnlyStored}
 use Rattle.sg_terms.specs.Storable.{IsNoSlot}
 
-pub Stands-grown : (was now : List Value) (id : ℕ) (v : Value) → IsGrown was now → Stands was id v → Stands now id v
-Stands-grown was now id v grown stands = subst (λ l. Stands l id v) (sym grown.is) (slice_get-before was grown.more id v stands)
+pub Stands-grown : (was now : List Value) (id : ℕ) (v : Value) → IsGrown was now → StandsFor was id v → StandsFor now id v
+Stands-grown was now id v grown stands = subst (λ l. StandsFor l id v) (sym grown.is) (slice_get-before was grown.more id v stands)
 
 module _ (spec : Spec) (was now : List Value) (grown : IsGrown was now) where
   pub IsTyped-grown : (type id : ℕ) → IsTyped spec was type id → IsTyped spec now type id

@@ -22,7 +22,7 @@ use Rattle.sg_kinds.specs.Dependencies.{phylum_there}
 use Rattle.sg_kinds.specs.Typing.{slot_type, slots_there, attr_types, types_at, is_typed}
 use Rattle.sg_kinds.specs.Sound.{IsShaped, IsValue, is_owed, is_rule_typed}
 use Rattle.sg_kinds.specs.declared.marks.Shape.TheVariants.{Truths, Numbers, Texts, Lexemes, Ordinary, Optional, Listed, OptionalListed}
-use Rattle.sg_pool.specs.Pools.{value_at, Stands}
+use Rattle.sg_pool.specs.Pools.{value_at, StandsFor}
 use Rattle.sg_forest.specs.declared.node_id.NodeId.{NodeId}
 use Rattle.sg_forest.specs.Node.{Node}
 use Rattle.sg_forest.specs.Trees.{IsChild}
@@ -255,7 +255,7 @@ module _ (g : Grove) (held : IsGrove g) where
             below kid.node at_m arg.0 kid.fits arg.2 (subst (λ w. slice_get (attr_types g.spec w) r.target.slot ≡ Some has_types.type) arg.1 has) kid.node.label.op refl
 
   -- the numbers of arguments, and their values
-  pub numbers_are : (n : NodeId) (os : List Occurrence) (ids : List ℕ) → map Some ids ≡ map (number_for g.trees n) os → ((o : Occurrence) (k : ℕ) → slice_get os k ≡ Some o → (id : ℕ) × (number_for g.trees n o ≡ Some id) × (v : Value) × Stands g.pool id v)
+  pub numbers_are : (n : NodeId) (os : List Occurrence) (ids : List ℕ) → map Some ids ≡ map (number_for g.trees n) os → ((o : Occurrence) (k : ℕ) → slice_get os k ≡ Some o → (id : ℕ) × (number_for g.trees n o ≡ Some id) × (v : Value) × StandsFor g.pool id v)
       → All (λ k. k < length g.pool) ids × (map (value_at g.pool) ids ≡ map (value_for g n) os)
   numbers_are n [] [] e known = ((λ i d l. absurd (omega arith)), refl)
   numbers_are n [] (id ∷ ids) e known = cc
@@ -265,7 +265,7 @@ module _ (g : Grove) (held : IsGrove g) where
       let first : Some id ≡ number_for g.trees n o = cc e in
       let rest_is : map Some ids ≡ map (number_for g.trees n) os = cc e in
       let same : id ≡ it.0 = cc (first, it.1) in
-      let stands : Stands g.pool id it.2 = subst (λ k. Stands g.pool k it.2) (sym same) it.3 in
+      let stands : StandsFor g.pool id it.2 = subst (λ k. StandsFor g.pool k it.2) (sym same) it.3 in
       let rest = numbers_are n os ids rest_is (λ p k at. known p (suc k) at) in (
         more id ids (slice_get_within g.pool id it.2 stands) rest.0,
         ap (λ v. v ∷ map (value_at g.pool) ids) (ap (λ w. unwrap_or (option_map (value_at g.pool) w) untyped) first) ∙ ap (λ vs. value_for g n o ∷ vs) rest.1,
@@ -291,7 +291,7 @@ module _ (g : Grove) (held : IsGrove g) where
       record { there = args.0; types = t.types; have = t.args; typed = args.1; known = λ ids e. numbers_are n r.args ids e (each x.0 x.1 x.2 r.args t.types t.args) }
     where
       each : (x : Node Kind Part) → nodes g n ≡ Some x → x.label.op ≡ Some r.op → (os : List Occurrence) (types : List ℕ) → types_at g.spec r.op os ≡ Some types
-          → (o : Occurrence) (k : ℕ) → slice_get os k ≡ Some o → (id : ℕ) × (number_for g.trees n o ≡ Some id) × (v : Value) × Stands g.pool id v
+          → (o : Occurrence) (k : ℕ) → slice_get os k ≡ Some o → (id : ℕ) × (number_for g.trees n o ≡ Some id) × (v : Value) × StandsFor g.pool id v
       each x found is_op [] types e o k at_k = cc
       each x found is_op (p ∷ os) types e o zero at_k =
           let same : p ≡ o = cc at_k in
@@ -306,7 +306,7 @@ module _ (g : Grove) (held : IsGrove g) where
 
   -- what stands for an outcome of the equation may be stored for what it defines
   pub storable_outcome : (n : NodeId) (rule : ℕ) (r : Rule) → slice_get g.spec.rules rule ≡ Some r → op_at g n ≡ Some r.op → (m : NodeId) (slot id : ℕ) → IsBearer g n r m slot → (args : List Value) (types : List ℕ) → types_at g.spec r.op r.args ≡ Some types → AreOfTypes g.spec types args
-      → Stands g.pool id (outcome g.spec r args) → IsStorable g m slot id
+      → StandsFor g.pool id (outcome g.spec r args) → IsStorable g m slot id
   storable_outcome n rule r at is m slot id bearer args types have typed stands =
       let x = op_node g n r.op is in
       let t = has_types n x.0 x.1 rule r at x.2 in
@@ -315,6 +315,6 @@ module _ (g : Grove) (held : IsGrove g) where
       (record { value = outcome g.spec r args; stands = stands; typed = rule_typed g.spec held.sound rule r at types args t.type have typed t.defines }))
 
   pub storable_result : {E : Type 0} (n : NodeId) (rule : ℕ) (r : Rule) → slice_get g.spec.rules rule ≡ Some r → op_at g n ≡ Some r.op → (m : NodeId) (slot : ℕ) → IsBearer g n r m slot → (args : List Value) (types : List ℕ) → types_at g.spec r.op r.args ≡ Some types → AreOfTypes g.spec types args
-      → (result : Result ℕ E) → IfOk result (λ id. Stands g.pool id (outcome g.spec r args)) → IfOk result (IsStorable g m slot)
+      → (result : Result ℕ E) → IfOk result (λ id. StandsFor g.pool id (outcome g.spec r args)) → IfOk result (IsStorable g m slot)
   storable_result n rule r at is m slot bearer args types have typed (Ok id) stands = storable_outcome n rule r at is m slot id bearer args types have typed stands
   storable_result n rule r at is m slot bearer args types have typed (Err e) stands = tt

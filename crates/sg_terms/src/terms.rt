@@ -5,7 +5,7 @@ ghost use Rattle.sg_kinds.specs.Terms.{Term, Leaf, Node};
 ghost use Rattle.sg_kinds.specs.Fits.{Fits};
 ghost use Rattle.sg_kinds.specs.Places.{child};
 ghost use Rattle.sg_kinds.specs.Outcome.{outcome};
-ghost use Rattle.sg_pool.specs.Pools.{Stands, value_at};
+ghost use Rattle.sg_pool.specs.Pools.{StandsFor, value_at};
 ghost use Rattle.sg_kinds.specs.Sound.{IsSound};
 ghost use Rattle.sg_kinds.specs.Specification.{args_of};
 ghost use Rattle.sg_kinds.specs.declared.spec.Rule.{Rule};
@@ -219,7 +219,7 @@ impl Terms {
         ensures number { number_at self.now n slot ≡ Some result }
         ensures within { result < length self.now.pool }
         ensures typed { (op : ℕ) → op_at self.now n ≡ Some op → IsStorable self.now n slot result }
-        ensures leaf { (p : ℕ) (v : _) → Holds self.now n (Leaf p v) → Stands self.now.pool result v }
+        ensures leaf { (p : ℕ) (v : _) → Holds self.now n (Leaf p v) → StandsFor self.now.pool result v }
     {
         number(&self.trees, n, slot)
     }
@@ -394,7 +394,7 @@ impl Terms {
         requires who { who.rule ≡ rule }
         requires args { All (λ k. k < length self.old.pool) args.now }
         ensures outcome { (r : Rule) → slice_get self.old.spec.rules rule ≡ Some r → IfOk result
-            (λ id. Stands self.new.pool id (outcome self.old.spec r (map (value_at self.old.pool) args.now))) }
+            (λ id. StandsFor self.new.pool id (outcome self.old.spec r (map (value_at self.old.pool) args.now))) }
         ensures noted { OnOk result (now_of journal.new ≡ now_of journal.old ++ who ∷ []) }
         ensures err { OnErr result ((now_of journal.new ≡ now_of journal.old)
             ⊎ (now_of journal.new ≡ now_of journal.old ++ who ∷ [])) }
@@ -420,7 +420,7 @@ impl Terms {
         ensures bearer { (r : Rule) → slice_get self.old.spec.rules rule ≡ Some r
             → IfOk result (λ it. IsBearer self.old n r it.node it.slot) }
         ensures outcome { (r : Rule) → slice_get self.old.spec.rules rule ≡ Some r → IfOk result
-            (λ it. Stands self.new.pool it.after (outcome self.old.spec r (map (value_for self.old n) r.args))) }
+            (λ it. StandsFor self.new.pool it.after (outcome self.old.spec r (map (value_for self.old n) r.args))) }
         ensures before { IfOk result (λ it. number_at self.old it.node it.slot ≡ Some it.before) }
         ensures after { IfOk result (λ it. number_at self.new it.node it.slot ≡ Some it.after) }
         ensures kept { IfOk result (λ it. OnlyStored self.old self.new (IsSlot it.node it.slot)) }
@@ -467,7 +467,7 @@ impl Terms {
         requires operator { (r : Rule) → slice_get self.old.spec.rules rule ≡ Some r → op_at self.old n ≡ Some r.op }
         requires bearer { (r : Rule) → slice_get self.old.spec.rules rule ≡ Some r → IsBearer self.old n r node slot }
         ensures outcome { (r : Rule) → slice_get self.old.spec.rules rule ≡ Some r → IfOk result
-            (λ id. Stands self.new.pool id (outcome self.old.spec r (map (value_for self.old n) r.args))) }
+            (λ id. StandsFor self.new.pool id (outcome self.old.spec r (map (value_for self.old n) r.args))) }
         ensures storable { IfOk result (IsStorable self.new node slot) }
         ensures noted { OnOk result
             (now_of journal.new ≡ now_of journal.old ++ record { node = node; slot = slot; rule = rule } ∷ []) }

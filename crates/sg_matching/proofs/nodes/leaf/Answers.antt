@@ -3,7 +3,7 @@ use Rattle.std.proofs.lemmas.Option.{same_Some}
 use Rattle.std.specs.Prelude.{IsSome}
 use Rattle.sg_kinds.specs.Terms.{Leaf}
 use Rattle.sg_kinds.proofs.Elementary.{some_there}
-use Rattle.sg_pool.specs.Pools.{Stands}
+use Rattle.sg_pool.specs.Pools.{StandsFor}
 use Rattle.sg_pool.specs.PoolEntries.{entry_value}
 use Rattle.sg_matching.proofs.NodeValues.{op_value, leaf_at, value_told, none_there}
 use Rattle.sg_matching.proofs.nodes.leaf.Goals as goal
@@ -25,5 +25,5 @@ returns c =
     let leaf = leaf_at c.args.terms.now c.facts.ensures c.args.n c.requires (sym c.op.ensures.op ∙ none) in
     let entry = c.entry.result.now in
     let held = c.stored.ensures.leaf leaf.phylum leaf.value leaf.holds in
-    let stands = subst (λ p. Stands p c.stored.result (entry_value p entry)) c.pool.ensures c.entry.ensures.value in
+    let stands = subst (λ p. StandsFor p c.stored.result (entry_value p entry)) c.pool.ensures c.entry.ensures.value in
     value_told c.args.terms.now c.facts.ensures c.args.n (Leaf leaf.phylum leaf.value) leaf.holds ∙ same_Some leaf.value (entry_value c.args.terms.now.pool entry) (sym held ∙ stands)

@@ -2,7 +2,7 @@ use Rattle.std.proofs.Common.{◌≡◌, sym, ◌∙◌, ap, subst, map, length,
 use Rattle.std.specs.List.{slice_get, All}
 use Rattle.std.proofs.lemmas.Option.{MatchOption-at_some, slice_get_within}
 use Rattle.sg_kinds.specs.Values.{Fault}
-use Rattle.sg_pool.specs.Pools.{value_at, Stands}
+use Rattle.sg_pool.specs.Pools.{value_at, StandsFor}
 use Rattle.sg_kinds.specs.declared.marks.FaultKind.TheVariants.{Fuel}
 use Rattle.sg_kinds.specs.declared.spec.Spec.{Spec}
 use Rattle.sg_pool.proofs.Grown.{grown_longer}
@@ -32,7 +32,7 @@ returns-clause-value c =
     let found : slice_get ev.rules c.in-Some.number ≡ Some r = ap (λ (s : Spec). slice_get s.rules c.in-Some.number) c.requires.same ∙ there in
     let values : map (value_at vs) c.deref.result.now ≡ map (occurrence_in no_slot (all_slots_in vs kids)) r.args =
     ap (map (value_at vs)) c.deref.ensures.value ∙ c.in_ok-args.ensures.values vs c.in_ok-fuel.ensures.stands ∙ ap (map (occurrence_in no_slot (all_slots_in vs kids))) c.as_slice-2.ensures in
-    subst (λ v. IfOk c.run.result (λ id. Stands c.run.new.pool id v))
+    subst (λ v. IfOk c.run.result (λ id. StandsFor c.run.new.pool id v))
     (slot_value spec ev c.args.node.now.op c.args.slot c.in-Some.number r (all_slots_in us kids) (all_slots_in vs kids) (map (value_at vs) c.deref.result.now) c.requires.same own there
     (all_slots_later us vs kids c.in_ok-fuel.ensures.grown c.requires.known) values)
     (c.run.ensures.outcome r found)

@@ -1,7 +1,7 @@
 use Rattle.std.proofs.Common.{◌≡◌, map, take, length}
 use Rattle.sg_pool.specs.Pools.{value_at}
 use Rattle.sg_pool.specs.PoolView.{AreBelow}
-use Rattle.sg_eval.specs.Lives.{clipped}
+use Rattle.sg_kinds.specs.Evaluation.{clipped}
 use Rattle.sg_eval.proofs.evaluator.Evaluator.apply.Given as goal
 
 abbrev pub invariant-loop-value : goal.invariant-loop-value

@@ -4,7 +4,7 @@ use Rattle.std.specs.Prelude.{IfOk}
 use Rattle.sg_kinds.specs.Outcome.{outcome}
 use Rattle.sg_kinds.specs.declared.spec.Spec.{Spec}
 use Rattle.sg_kinds.specs.declared.spec.Rule.{Rule}
-use Rattle.sg_pool.specs.Pools.{Stands, value_at}
+use Rattle.sg_pool.specs.Pools.{StandsFor, value_at}
 use Rattle.sg_eval.specs.MadeTerms.{AreMade}
 use Rattle.sg_terms.proofs.Same.{OnlyStored-none}
 use Rattle.sg_terms.proofs.Steps.{IsGrove-same}
@@ -35,7 +35,7 @@ pub returns-clause-outcome : goal.returns-clause-outcome
 returns-clause-outcome c =
     let same = rw (← c.self.view_is) at c.requires.same in
     rw (← c.self.view_is)
-    (subst (λ (s : Spec). (r : Rule) → slice_get s.rules c.args.rule ≡ Some r → IfOk c.run.result (λ id. Stands c.run.new.pool id (outcome s r (map (value_at c.self.inside.pool) c.args.args.now)))) same c.run.ensures.outcome)
+    (subst (λ (s : Spec). (r : Rule) → slice_get s.rules c.args.rule ≡ Some r → IfOk c.run.result (λ id. StandsFor c.run.new.pool id (outcome s r (map (value_at c.self.inside.pool) c.args.args.now)))) same c.run.ensures.outcome)
 
 pub returns-clause-kept : goal.returns-clause-kept
 returns-clause-kept c =

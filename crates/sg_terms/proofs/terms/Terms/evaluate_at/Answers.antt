@@ -2,7 +2,7 @@ use Rattle.std.proofs.Common.{◌≡◌, ℕ, List, [], ◌∷◌, ◌++◌, map
 use Rattle.std.specs.Prelude.{OnErr}
 use Rattle.sg_kinds.specs.declared.spec.Rule.{Rule}
 use Rattle.sg_kinds.specs.Outcome.{outcome}
-use Rattle.sg_pool.specs.Pools.{Stands}
+use Rattle.sg_pool.specs.Pools.{StandsFor}
 use Rattle.sg_eval.specs.declared.journal.Instance.{Instance}
 use Rattle.sg_eval.specs.Journal.{now_of}
 use Rattle.sg_forest.specs.declared.node_id.NodeId.{NodeId}
@@ -31,7 +31,7 @@ refused (Err e) P p = p
 
 pub returns-clause-outcome : goal.returns-clause-outcome
 returns-clause-outcome c =
-    λ r at. subst (λ p. Stands p c.in_ok-after.after (outcome c.args.self.now.spec r (map (value_for c.args.self.now c.args.n) r.args))) (sym c.store-before.ensures.pool) (c.in_ok-after.ensures.outcome r at)
+    λ r at. subst (λ p. StandsFor p c.in_ok-after.after (outcome c.args.self.now.spec r (map (value_for c.args.self.now c.args.n) r.args))) (sym c.store-before.ensures.pool) (c.in_ok-after.ensures.outcome r at)
 
 pub returns-clause-before : goal.returns-clause-before
 returns-clause-before c = rw c.outcome_at.ensures.trees at c.store-before.ensures.before

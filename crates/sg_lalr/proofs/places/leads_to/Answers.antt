@@ -1,8 +1,8 @@
 use Rattle.std.proofs.Common.{◌≡◌, sym, ap, arith}
 use Rattle.sg_lalr.specs.Automaton.{move_at}
 use Rattle.sg_lalr.proofs.PlaceLemmas.{target-at, target-none}
-use Rattle.sg_lalr.proofs.places.target_of.Goals as goal
-use Rattle.sg_lalr.proofs.places.target_of.Goals.{else-at-row-via-then-at-row+else-row-at, else-at-row-via-else-at-row}
+use Rattle.sg_lalr.proofs.places.leads_to.Goals as goal
+use Rattle.sg_lalr.proofs.places.leads_to.Goals.{else-at-row-via-then-at-row+else-row-at, else-at-row-via-else-at-row}
 
 pub returns-then-row-at : goal.returns-then-row-at
 returns-then-row-at c = sym (target-at c.args.row.now c.args.x c.place_of_move-at.result c.requires (omega arith) (omega arith))

@@ -1,9 +1,0 @@
-use Rattle.std.proofs.Common.{◌≡◌, ◌≤◌, drop}
-use Rattle.sg_schemes.specs.Places.{separators_fit}
-use Rattle.sg_schemes.proofs.places.separators_fit.Given as goal
-
-abbrev pub invariant-loop-item : goal.invariant-loop-item
-invariant-loop-item l = record {
-  so_far : separators_fit l.may l.places (drop l.item-index l.items) ≡ separators_fit l.pair 0 l.items;
-  few : l.places ≤ l.item-index;
-}
