@@ -80,7 +80,8 @@ is_truth l = is_reserved keyword.True l || is_reserved keyword.False l
 -- 'true' | 'false'
 unfoldable pub truth : Reader (Bool × Position)
 truth = λ ms.
-    if sees (is_reserved keyword.True) ms then ((λ (place : Position). (true, place)) <$> expect (is_reserved keyword.True)) ms
+    if sees (is_reserved keyword.True) ms then ((λ (place : Position). (true, place)) <$> expect
+    (is_reserved keyword.True)) ms
     else ((λ (place : Position). (false, place)) <$> expect (is_reserved keyword.False)) ms
 
 -- '<' name '>' or '[' name ']', made by f
@@ -358,7 +359,8 @@ lexeme n = do
 unfoldable pub way : Reader Way
 way = do
   is_synthesized ← eat (is_reserved keyword.Synthesized)
-  if is_synthesized then done Synthesized else (λ (place : Position). Inherited) <$> expect (is_reserved keyword.Inherited)
+  if is_synthesized then done Synthesized else (λ (place : Position). Inherited) <$> expect
+      (is_reserved keyword.Inherited)
 
 -- ( 'synthesized' | 'inherited' ) name name ';'
 unfoldable pub attr : Reader AttrDecl

@@ -278,4 +278,5 @@ spell (Transform n title q e) =
 spell (Productions n rights) =
     named n ∷ sign ColonColonEquals ∷ join_by spell_right bar rights ++ sign Semicolon ∷ []
 spell (Entry n m a) = named n ∷ sign Tilde ∷ named m ∷ sign Dot ∷ named a ∷ sign Semicolon ∷ []
-spell (Precedence g literals place) = Kept (Word (group_word g)) place ∷ flat_map spell_literal literals ++ sign Semicolon ∷ []
+spell (Precedence g literals place) = Kept (Word (group_word g)) place ∷ flat_map spell_literal literals
+    ++ sign Semicolon ∷ []

@@ -7,8 +7,8 @@ use Rattle.sg_ast.specs.Declarations.{Decl}
 use Rattle.sg_ast.specs.Grouped.{IsTree}
 use Rattle.sg_ast.specs.Spelling.{Mark, Takes, spell}
 
--- the tree is one of the grammar, and the marks fit its spelling: each token's lexeme is as spelled, and each place that
--- the tree keeps is that of its token
+-- the tree is one of the grammar, and the marks fit its spelling: each token's lexeme is as spelled, and each place
+-- that the tree keeps is that of its token
 pub record Spells (ms : List Mark) (d : Decl) : Type 0 where
   pub tree : IsTree d
   pub fits : Takes (spell d) ms []

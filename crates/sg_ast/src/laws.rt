@@ -28,12 +28,15 @@ pub fn no_two_trees_spell_alike()
 pub fn first_faults<X, A>()
     ensures before { (a b c : Option A) → or_else (or_else a b) c ≡ or_else a (or_else b c) }
     ensures append { (f : X → Option A) (xs ys : List X) → first f (xs ++ ys) ≡ or_else (first f xs) (first f ys) }
-    ensures joined { (f : X → Option A) (g : X → List X) (xs : List X) → first f (flat_map g xs) ≡ first (λ x. first f (g x)) xs }
+    ensures joined { (f : X → Option A) (g : X → List X) (xs : List X)
+        → first f (flat_map g xs) ≡ first (λ x. first f (g x)) xs }
     ensures mapped { (f : X → Option A) (g : X → X) (xs : List X) → first f (map g xs) ≡ first (λ x. f (g x)) xs }
-    ensures filtered { (f : X → Option A) (p : X → Bool) (xs : List X) → first f (filter p xs) ≡ first (λ x. if p x then f x else None) xs }
+    ensures filtered { (f : X → Option A) (p : X → Bool) (xs : List X)
+        → first f (filter p xs) ≡ first (λ x. if p x then f x else None) xs }
     ensures absent { (f : X → Option A) (xs : List X) → first f xs ≡ None → AllByRecursion (λ x. f x ≡ None) xs }
     ensures all_absent { (f : X → Option A) (xs : List X) → AllByRecursion (λ x. f x ≡ None) xs → first f xs ≡ None }
-    ensures rules { (rules more : List (Option A)) → first_of (rules ++ more) ≡ or_else (first_of rules) (first_of more) }
+    ensures rules { (rules more : List (Option A)) → first_of (rules ++ more)
+        ≡ or_else (first_of rules) (first_of more) }
 {}
 
 /// Where no key repeats, there are no repeats.
@@ -45,7 +48,9 @@ pub fn no_repeats<X>()
 /// of these places, in their order.
 #[tactic(auto, using(crate::proofs::RisingLaws::one_rises, crate::proofs::RisingLaws::all_rise, crate::proofs::RisingLaws::some_rise))]
 pub fn places_rise()
-    ensures one { (bytes : List ℕ) (n : ℕ) (ts : List Token) (d : Decl) → Spells (marks_from bytes n ts) d → RiseFrom n (places_of d) }
-    ensures all { (bytes : List ℕ) (ts : List Token) (ds : List Decl) → EachSpells (declarations bytes ts) ds → RiseFrom 0 (flat_map places_of ds) }
+    ensures one { (bytes : List ℕ) (n : ℕ) (ts : List Token) (d : Decl) → Spells (marks_from bytes n ts) d
+        → RiseFrom n (places_of d) }
+    ensures all { (bytes : List ℕ) (ts : List Token) (ds : List Decl) → EachSpells (declarations bytes ts) ds
+        → RiseFrom 0 (flat_map places_of ds) }
     ensures some { (ps qs : List Position) (n : ℕ) → SomeOf ps qs → RiseFrom n qs → RiseFrom n ps }
 {}

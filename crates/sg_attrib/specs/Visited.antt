@@ -28,7 +28,8 @@ use Rattle.sg_terms.specs.Entries.{Gained, GainedAll}
 
 -- the references of a set have their from-scratch values, at the nodes of the term that a root holds
 abbrev pub AreRight : Grove → NodeId → Term → (Reference Place → Type 0) → Type 0
-AreRight g root t refs = (a : Reference Place) (m : NodeId) → refs a → Climbs (nodes g) a.node m root → IsRightAt g t a.node m a.slot
+AreRight g root t refs = (a : Reference Place) (m : NodeId) → refs a → Climbs (nodes g) a.node m root
+    → IsRightAt g t a.node m a.slot
 
 -- what is known as visit k of the node at u begins: what it takes, and what the visits before it gave
 pub data IsKnown (rules : Rules) (plans : Plans) (k : ℕ) (t : Term) (u : Place) (a : Reference Place) : Type 0 where
@@ -52,13 +53,15 @@ IsNeeded rules plans (Eval r) t u a = IsArgument rules r t u a
 IsNeeded rules plans (Visit k j) t u a = IsKnown rules plans j t (k ∷ u) a
 
 -- what the step gives
-pub record IsStepGiven (rules : Rules) (plans : Plans) (s : PlanStep) (t : Term) (u : Place) (a : Reference Place) : Type 0 where
+pub record IsStepGiven (rules : Rules) (plans : Plans) (s : PlanStep) (t : Term) (u : Place)
+    (a : Reference Place) : Type 0 where
   pub site : Site Place
   pub found : site_of rules (net_of t) a ≡ Some site
   pub of_step : IsOfStep rules plans t u s site
 
 -- a slot of a node of the node's own term, which is one of a set of references
-pub record IsSlotOf (refs : Term → Place → Reference Place → Type 0) (g : Grove) (n m : NodeId) (slot : ℕ) : Type 0 where
+pub record IsSlotOf (refs : Term → Place → Reference Place
+    → Type 0) (g : Grove) (n m : NodeId) (slot : ℕ) : Type 0 where
   pub root : NodeId
   pub term : Term
   pub place : Place
@@ -82,17 +85,21 @@ pub record IsStepAt (plans : Plans) (g : Grove) (n : NodeId) (s : PlanStep) : Ty
   pub at : slice_get (steps_of plans visited.op visit) place ≡ Some s
 
 -- a call at a node stores what it gives, rightly where what it needs is right, and lists it once
-pub record Gives {A E : Type 0} (needs gives : Term → Place → Reference Place → Type 0) (old new : Grove) (was now : List Instance) (n : NodeId) (r : Result A E) : Type 0 where
-  pub values : (root : NodeId) (t : Term) (u : Place) → IsPlaced old root t u n → AreRight old root t (needs t u) → OnOk r (AreRight new root t (gives t u))
+pub record Gives {A E : Type 0} (needs gives : Term → Place → Reference Place
+    → Type 0) (old new : Grove) (was now : List Instance) (n : NodeId) (r : Result A E) : Type 0 where
+  pub values : (root : NodeId) (t : Term) (u : Place) → IsPlaced old root t u n → AreRight old root t (needs t u)
+      → OnOk r (AreRight new root t (gives t u))
   pub frame : OnlyStored old new (IsSlotOf gives old n)
-  pub noted : (root : NodeId) (t : Term) (u : Place) → IsPlaced old root t u n → MatchResult r (λ _. GainedAll old root t (gives t u) was now) (λ _. Gained old root t (gives t u) was now)
+  pub noted : (root : NodeId) (t : Term) (u : Place) → IsPlaced old root t u n
+      → MatchResult r (λ _. GainedAll old root t (gives t u) was now) (λ _. Gained old root t (gives t u) was now)
 
 -- nothing
 abbrev pub IsNothing : Term → Place → Reference Place → Type 0
 IsNothing t u a = ⊥
 
 -- what the visits of the node at u before visit k give
-pub record IsGivenUpTo (rules : Rules) (plans : Plans) (k : ℕ) (t : Term) (u : Place) (a : Reference Place) : Type 0 where
+pub record IsGivenUpTo (rules : Rules) (plans : Plans) (k : ℕ) (t : Term) (u : Place)
+    (a : Reference Place) : Type 0 where
   pub visit : ℕ
   pub less : visit < k
   pub given : IsGivenBy rules plans t u visit a
@@ -101,6 +108,9 @@ pub record IsGivenUpTo (rules : Rules) (plans : Plans) (k : ℕ) (t : Term) (u :
 abbrev pub HasEquation : Rules → Term → Place → Reference Place → Type 0
 HasEquation rules t u a = (i : Site Place) × (site_of rules (net_of t) a ≡ Some i)
 
--- each equation at the nodes of a tree has there, as the stored value of what it defines, its outcome on the stored values of its arguments
+-- each equation at the nodes of a tree has there, as the stored value of what it defines, its outcome on the stored
+-- values of its arguments
 pub record IsSolved (g : Grove) (root : NodeId) : Type 0 where
-  pub each : (n m : NodeId) (slot : ℕ) (r : Rule) → IsInside (nodes g) n root → op_at g n ≡ Some r.op → Contains g.spec.rules r → IsBearer g n r m slot → value_there g m slot ≡ outcome g.spec r (map (value_for g n) r.args)
+  pub each : (n m : NodeId) (slot : ℕ) (r : Rule) → IsInside (nodes g) n root → op_at g n ≡ Some r.op
+      → Contains g.spec.rules r → IsBearer g n r m slot
+      → value_there g m slot ≡ outcome g.spec r (map (value_for g n) r.args)

@@ -18,4 +18,5 @@ OfWhole g n P = (root : NodeId) (whole : Term) (u : Place) → IsPlaced g root w
 
 -- and this of the whole term with another one, of these counts, in the node's place
 abbrev pub OfReplaced : Grove → NodeId → Counts → (Term → Type 0) → Type 0
-OfReplaced g n c P = (root : NodeId) (whole s : Term) (u : Place) → IsPlaced g root whole u n → AreCounts s c → P (put whole u s)
+OfReplaced g n c P = (root : NodeId) (whole s : Term) (u : Place) → IsPlaced g root whole u n → AreCounts s c
+    → P (put whole u s)

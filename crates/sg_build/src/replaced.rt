@@ -13,9 +13,9 @@ use crate::limits::{Counts, are_within};
 use sg_forest::NodeId;
 use sg_terms::Terms;
 
-/// How many nodes the whole term around a node has with a term of these counts in the node's place, or its counts exactly
-/// where it is over a limit. `known` is how many nodes it has now, in the limits. Only what is under the node and the way
-/// up are read, and the rest of the tree where a limit is passed. It takes no memory.
+/// How many nodes the whole term around a node has with a term of these counts in the node's place, or its counts
+/// exactly where it is over a limit. `known` is how many nodes it has now, in the limits. Only what is under the node
+/// and the way up are read, and the rest of the tree where a limit is passed. It takes no memory.
 pub fn counts_replaced(terms: &Terms, at: NodeId, known: usize, t: &Counts) -> Result<usize, Counts>
     requires live { IsLive (nodes terms.now) at }
     requires known { OfWhole terms.now at (λ whole. known ≡ nodes_of whole) }

@@ -32,12 +32,14 @@ tops past future = tops_of past ++ tops_of future
 module _ (tree : NodeId → Term) where
   -- the change of the newest past step
   abbrev pub past_change : Term → Step → Change
-  past_change t (Replaced path hangs before after) = Put (place_of path) (tree hangs) (part_of t (place_of path)) before after
+  past_change t (Replaced path hangs before after) = Put (place_of path) (tree hangs)
+      (part_of t (place_of path)) before after
   past_change t (Marked path old new before after) = Mark (place_of path) old new before after
 
   -- the change of the next future step
   abbrev pub future_change : Term → Step → Change
-  future_change t (Replaced path hangs before after) = Put (place_of path) (part_of t (place_of path)) (tree hangs) before after
+  future_change t (Replaced path hangs before after) =
+      Put (place_of path) (part_of t (place_of path)) (tree hangs) before after
   future_change t (Marked path old new before after) = Mark (place_of path) old new before after
 
   -- the changes of past steps, the newest first
@@ -67,6 +69,7 @@ HoldsPart new t (Replaced path hangs before after) x = new x ≡ part_of t (plac
 HoldsPart new t (Marked path old made before after) x = ⊤
 
 -- after a step the subtree that stood at its place hangs; those of the other steps hang as before
-pub record Exchanged (old new : NodeId → Term) (t : Term) (s : Step) (x : NodeId) (past future : List Step) : Type 0 where
+pub record Exchanged (old new : NodeId → Term) (t : Term) (s : Step) (x : NodeId)
+    (past future : List Step) : Type 0 where
   pub top : HoldsPart new t s x
   pub others : Agree old new (tops past future)

@@ -1,5 +1,5 @@
-//! What a buffer keeps beside its forest: selections, the steps of its history and a capture, with the definitions and laws
-//! of undo and redo over terms.
+//! What a buffer keeps beside its forest: selections, the steps of its history and a capture, with the definitions
+//! and laws of undo and redo over terms.
 #![tactic(auto)]
 
 mod capture;

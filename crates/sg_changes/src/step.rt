@@ -17,8 +17,8 @@ pub struct Marks {
 /// A step of a history, with what is selected and shown before and after it.
 #[derive(Drop)]
 pub enum Step {
-    /// another subterm at a path; `hangs` is the top of the one that is not in the term: the old one in the past, the new
-    /// one in the future
+    /// another subterm at a path; `hangs` is the top of the one that is not in the term: the old one in the past, the
+    /// new one in the future
     Replaced {
         path: Path,
         hangs: NodeId,

@@ -54,7 +54,8 @@ fn other_alt(alloc: Global, tokens: &mut Tokens<'_>) -> Result<Alt, Refusal>
 
 /// `{ '|' name '(' { name } ')' }`, after those that were found.
 fn alts(alloc: Global, tokens: &mut Tokens<'_>, found: Vec<Alt>) -> Result<Vec<Alt>, Refusal>
-    ensures { Reads (λ v. v.items) (many (sees (is_sign sign.Bar)) (spec.other spec.alt) found.items (left_of tokens.old))
+    ensures { Reads (λ v. v.items) (many (sees (is_sign sign.Bar)) (spec.other spec.alt) found.items
+        (left_of tokens.old))
         result (left_of tokens.new) }
 {
     repeated(alloc, tokens, Ahead::Sign(Symbol::Bar), other_alt, found)

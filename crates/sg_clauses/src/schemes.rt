@@ -61,7 +61,8 @@ fn item(alloc: Global, tokens: &mut Tokens<'_>) -> Result<Item, Refusal>
 
 /// `{ item }`
 fn items(alloc: Global, tokens: &mut Tokens<'_>) -> Result<Vec<Item>, Refusal>
-    ensures { Reads (λ v. v.items) (many (spec.sees_other (is_sign sign.RightBracket)) spec.item_of [] (left_of tokens.old))
+    ensures { Reads (λ v. v.items) (many (spec.sees_other (is_sign sign.RightBracket)) spec.item_of []
+        (left_of tokens.old))
         result (left_of tokens.new) }
 {
     repeated(

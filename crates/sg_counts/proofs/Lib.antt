@@ -3,4 +3,5 @@ pub mod Walks
 pub mod Names
 pub mod Clashing
 pub mod SameKeys
+pub mod Along
 pub mod Order

@@ -6,9 +6,9 @@ use Rattle.sg_counts.specs.declared.definitions.Form.{Form}
 use Rattle.sg_counts.specs.declared.definitions.Form.TheVariants as form
 use Rattle.sg_counts.specs.declared.definitions.Definition.{Definition}
 
--- the spaces of names: phyla, lexeme phyla and nonterminals; operators, functions and builtins; what `list` and `optional`
--- speak of; the attributes of an owner; the locals of an operator of a phylum; the operators of a phylum that have schemes,
--- in the ordinary view or in that with a name
+-- the spaces of names: phyla, lexeme phyla and nonterminals; operators, functions and builtins; what `list` and
+-- `optional` speak of; the attributes of an owner; the locals of an operator of a phylum; the operators of a phylum
+-- that have schemes, in the ordinary view or in that with a name
 pub data Space : Type 0 where
   Phyla : Space
   Callables : Space

@@ -24,10 +24,12 @@ defined form space n = record { key = record { space = space; name = n.text }; f
 abbrev pub definitions_of : Decl → List (Definition Key)
 definitions_of (decl.Listed p) = defined form.Alone Listings p ∷ []
 definitions_of (decl.Optional listed p) = defined form.Alone Listings p ∷ []
-definitions_of (decl.Operators p alts) = defined form.Operators Phyla p ∷ map (λ (a : Alt). defined form.Alone Callables a.name) alts
+definitions_of (decl.Operators p alts) = defined form.Operators Phyla p
+    ∷ map (λ (a : Alt). defined form.Alone Callables a.name) alts
 definitions_of (decl.LexemeOf p s) = defined form.Alone Phyla p ∷ []
 definitions_of (decl.Attributes p attrs) = map (λ (a : AttrDecl). defined form.Alone (Attributes p.text) a.name) attrs
-definitions_of (decl.Equations p op locals equations) = map (λ (l : Typed). defined form.Alone (Locals p.text op.text) l.name) locals
+definitions_of (decl.Equations p op locals equations) =
+    map (λ (l : Typed). defined form.Alone (Locals p.text op.text) l.name) locals
 definitions_of (decl.Schemes p op view schemes) = defined form.Alone (Schemes p.text (view_name view)) op ∷ []
 definitions_of (decl.Function t n params e) = defined form.Alone Callables n ∷ []
 definitions_of (decl.Productions n rights) = defined form.Productions Phyla n ∷ []
@@ -35,7 +37,11 @@ definitions_of d = []
 
 -- the base phyla and the builtins, which are there before each text; they do not clash, so their place is not printed
 abbrev pub before_text : Space → Bytes → Definition Key
-before_text space n = record { key = record { space = space; name = n }; form = form.Alone; place = record { token = 0; line = 0 } }
+before_text space n = record {
+  key = record { space = space; name = n };
+  form = form.Alone;
+  place = record { token = 0; line = 0 };
+}
 
 abbrev pub given : List (Definition Key)
 given = map (before_text Phyla) base_names ++ map (before_text Callables) builtin_names
@@ -48,4 +54,5 @@ duplicate_fault d = fault.Duplicate d.place d.key.name
 
 -- the first definition that clashes with one before it
 abbrev pub duplicate : List Decl → Option SpecFault
-duplicate ds = option_map duplicate_fault (option_and_then (slice_get (definitions_in ds)) (first_repeat (clashes is_same_key) (definitions_in ds)))
+duplicate ds = option_map duplicate_fault (option_and_then (slice_get (definitions_in ds))
+    (first_repeat (clashes is_same_key) (definitions_in ds)))

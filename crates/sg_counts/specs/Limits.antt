@@ -1,5 +1,5 @@
 -- The counts of a specification that are over their limits.
-use Rattle.std.specs.Prelude.{ℕ, Bool, true, false, not, ◌&&◌, List, [], ◌∷◌, map, length, filter, flat_map, count_by, bytes_eq, Option, option_map}
+use Rattle.std.specs.Prelude.{◌≡◌, ℕ, Bool, true, false, not, ◌&&◌, List, [], ◌∷◌, map, length, filter, flat_map, count_by, bytes_eq, Option, option_map}
 use Rattle.std.specs.List.{list_any}
 use Rattle.sg_kinds.specs.Values.{Bytes}
 use Rattle.sg_kinds.specs.Sound.{base_names}
@@ -7,9 +7,13 @@ use Rattle.sg_kinds.specs.declared.fault.Counted.{Counted}
 use Rattle.sg_kinds.specs.declared.fault.Counted.TheVariants as counted
 use Rattle.sg_kinds.specs.declared.fault.SpecFault.{SpecFault}
 use Rattle.sg_kinds.specs.declared.fault.SpecFault.TheVariants as fault
+use Rattle.sg_kinds.specs.declared.fault.Position.{Position}
+use Rattle.sg_ast.specs.declared.name.Typed.{Typed}
 use Rattle.sg_ast.specs.declared.decl.Alt.{Alt}
+use Rattle.sg_ast.specs.declared.decl.AttrDecl.{AttrDecl}
 use Rattle.sg_ast.specs.Declarations.{Decl, Right, Operators, LexemeOf, Attributes, Equations, Schemes, Function, Transform, Productions}
 use Rattle.sg_ast.specs.FirstFault.{first, over}
+use Rattle.sg_ast.specs.Rising.{places_of, SomeOf}
 use Rattle.sg_counts.specs.Crowds.{different, crowd}
 
 -- the phylum that a declaration defines, if it is no base phylum
@@ -57,8 +61,9 @@ is_transform d = false
 abbrev pub is_same_operator : Bytes × Bytes → Bytes × Bytes → Bool
 is_same_operator a b = bytes_eq a.0 b.0 && bytes_eq a.1 b.1
 
--- the counts over their limits, in the order in which they are tested. Repeated names count, but for phyla. Attributes and
--- locals add up over the declarations of their owner; the owner that is first over the limit counts whole
+-- the counts over their limits, in the order in which they are tested. Repeated names count, but for phyla.
+-- Attributes and locals add up over the declarations of their owner; the owner that is first over the limit counts
+-- whole
 abbrev pub counts_over : List Decl → List (Counted × Option ℕ)
 counts_over ds =
     (counted.Phyla, over 512 (length (different bytes_eq (flat_map phyla_of ds))))
@@ -73,6 +78,33 @@ counts_over ds =
     ∷ (counted.Productions, over 1024 (length (flat_map symbols_of ds)))
     ∷ (counted.Symbols, first (over 16) (flat_map symbols_of ds))
     ∷ []
+
+-- where the things stand that counts go along: attributes, locals, the names of functions, the operators of schemes,
+-- productions
+abbrev pub attribute_places : Decl → List Position
+attribute_places (Attributes p attrs) = map (λ (a : AttrDecl). a.name.place) attrs
+attribute_places d = []
+
+abbrev pub local_places : Decl → List Position
+local_places (Equations p op locals equations) = map (λ (l : Typed). l.name.place) locals
+local_places d = []
+
+abbrev pub parameter_places : Decl → List Position
+parameter_places (Function t n params e) = n.place ∷ []
+parameter_places d = []
+
+abbrev pub scheme_places : Decl → List Position
+scheme_places (Schemes p op view schemes) = op.place ∷ []
+scheme_places d = []
+
+abbrev pub symbol_places : Decl → List Position
+symbol_places (Productions n rights) = map (λ (r : Right). r.place) rights
+symbol_places d = []
+
+-- a count goes along things one at each place, in the order of the text
+pub record GoesAlong {X : Type 0} (things : Decl → List X) (places : Decl → List Position) : Type 0 where
+  pub one_each : (d : Decl) → length (things d) ≡ length (places d)
+  pub in_order : (ds : List Decl) → SomeOf (flat_map places ds) (flat_map places_of ds)
 
 abbrev pub limit_fault : Counted × Option ℕ → Option SpecFault
 limit_fault c = option_map (fault.Limit c.0) c.1

@@ -60,7 +60,8 @@ fn define<'a>(
     space: Space<'a>,
     name: &'a Name,
 ) -> Result<(), NoMemory>
-    ensures { OnOk result (seen_of found.new.items ≡ seen_of found.old.items ++ defined as_form (space_of space.entry) name.now ∷ []) }
+    ensures { OnOk result (seen_of found.new.items ≡ seen_of found.old.items
+        ++ defined as_form (space_of space.entry) name.now ∷ []) }
 {
     let key = Key {
         space,
@@ -80,7 +81,8 @@ fn give<'a>(
     space: Space<'a>,
     name: &'a [u8],
 ) -> Result<(), NoMemory>
-    ensures { OnOk result (seen_of found.new.items ≡ seen_of found.old.items ++ before_text (space_of space.entry) name.now ∷ []) }
+    ensures { OnOk result (seen_of found.new.items ≡ seen_of found.old.items
+        ++ before_text (space_of space.entry) name.now ∷ []) }
 {
     found.push(Definition {
         key: Key { space, name },
@@ -92,7 +94,8 @@ fn give<'a>(
 
 /// Puts the operators of a phylum last.
 fn add_operators<'a>(found: &mut Vec<Definition<Key<'a>>>, alts: &'a [Alt]) -> Result<(), NoMemory>
-    ensures { OnOk result (seen_of found.new.items ≡ seen_of found.old.items ++ map (λ a. defined form.Alone spec.Callables a.name) alts.now) }
+    ensures { OnOk result (seen_of found.new.items ≡ seen_of found.old.items
+        ++ map (λ a. defined form.Alone spec.Callables a.name) alts.now) }
 {
     for alt in alts {
         define(found, Form::Alone, Space::Callables, &alt.name)?;
@@ -106,7 +109,9 @@ fn add_phylum<'a>(
     phylum: &'a Name,
     alts: &'a [Alt],
 ) -> Result<(), NoMemory>
-    ensures { OnOk result (seen_of found.new.items ≡ seen_of found.old.items ++ defined form.Operators spec.Phyla phylum.now ∷ map (λ a. defined form.Alone spec.Callables a.name) alts.now) }
+    ensures { OnOk result (seen_of found.new.items ≡ seen_of found.old.items
+        ++ defined form.Operators spec.Phyla phylum.now
+        ∷ map (λ a. defined form.Alone spec.Callables a.name) alts.now) }
 {
     define(found, Form::Operators, Space::Phyla, phylum)?;
     add_operators(found, alts)
@@ -118,7 +123,8 @@ fn add_attributes<'a>(
     owner: &'a Name,
     attrs: &'a [AttrDecl],
 ) -> Result<(), NoMemory>
-    ensures { OnOk result (seen_of found.new.items ≡ seen_of found.old.items ++ map (λ a. defined form.Alone (spec.Attributes owner.now.text) a.name) attrs.now) }
+    ensures { OnOk result (seen_of found.new.items ≡ seen_of found.old.items
+        ++ map (λ a. defined form.Alone (spec.Attributes owner.now.text) a.name) attrs.now) }
 {
     for attr in attrs {
         let space = Space::Attributes(owner.text.as_slice());
@@ -134,7 +140,8 @@ fn add_locals<'a>(
     op: &'a Name,
     locals: &'a [Typed],
 ) -> Result<(), NoMemory>
-    ensures { OnOk result (seen_of found.new.items ≡ seen_of found.old.items ++ map (λ l. defined form.Alone (spec.Locals phylum.now.text op.now.text) l.name) locals.now) }
+    ensures { OnOk result (seen_of found.new.items ≡ seen_of found.old.items
+        ++ map (λ l. defined form.Alone (spec.Locals phylum.now.text op.now.text) l.name) locals.now) }
 {
     for local in locals {
         let space = Space::Locals(phylum.text.as_slice(), op.text.as_slice());
@@ -178,7 +185,8 @@ fn add<'a>(found: &mut Vec<Definition<Key<'a>>>, decl: &'a Decl) -> Result<(), N
 
 /// Puts the base phyla last.
 fn give_phyla<'a>(found: &mut Vec<Definition<Key<'a>>>) -> Result<(), NoMemory>
-    ensures { OnOk result (seen_of found.new.items ≡ seen_of found.old.items ++ map (before_text spec.Phyla) base_names) }
+    ensures { OnOk result (seen_of found.new.items ≡ seen_of found.old.items
+        ++ map (before_text spec.Phyla) base_names) }
 {
     give(found, Space::Phyla, b"BOOL".as_slice())?;
     give(found, Space::Phyla, b"INT".as_slice())?;
@@ -187,7 +195,8 @@ fn give_phyla<'a>(found: &mut Vec<Definition<Key<'a>>>) -> Result<(), NoMemory>
 
 /// Puts the builtins last.
 fn give_builtins<'a>(found: &mut Vec<Definition<Key<'a>>>) -> Result<(), NoMemory>
-    ensures { OnOk result (seen_of found.new.items ≡ seen_of found.old.items ++ map (before_text spec.Callables) builtin_names) }
+    ensures { OnOk result (seen_of found.new.items ≡ seen_of found.old.items
+        ++ map (before_text spec.Callables) builtin_names) }
 {
     give(found, Space::Callables, b"STRtoINT".as_slice())?;
     give(found, Space::Callables, b"INTtoSTR".as_slice())?;

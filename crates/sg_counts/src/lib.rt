@@ -1,5 +1,5 @@
-//! The faults of a specification that its declarations show by their counts and names alone: a count over its limit, and
-//! a second definition where there may be one.
+//! The faults of a specification that its declarations show by their counts and names alone: a count over its limit,
+//! and a second definition where there may be one.
 #![tactic(auto)]
 
 mod crowds;

@@ -120,7 +120,8 @@ fn attributes(alloc: Global, decls: &[Decl]) -> Result<Vec<&[u8]>, NoMemory>
 
 /// Puts the phylum and the operator of each local last.
 fn add_locals<'a>(found: &mut Vec<(&'a [u8], &'a [u8])>, decl: &'a Decl) -> Result<(), NoMemory>
-    ensures { OnOk result (operators_of found.new.items ≡ operators_of found.old.items ++ locals_of (tree_of decl.now)) }
+    ensures { OnOk result (operators_of found.new.items
+        ≡ operators_of found.old.items ++ locals_of (tree_of decl.now)) }
 {
     if let Decl::Equations(phylum, op, locals, _) = decl {
         for _ in locals.as_slice() {

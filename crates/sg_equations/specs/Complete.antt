@@ -37,7 +37,8 @@ twice defs = twice_at defs (first_repeat is_same_target defs)
 
 -- an operator that owes what no equation defines
 abbrev pub is_defined : List Defined → ℕ → Occurrence → Bool
-is_defined defs op o = list_any (λ (d : Defined). nat_eq d.op op && (nat_eq d.target.at o.at && nat_eq d.target.slot o.slot)) defs
+is_defined defs op o = list_any (λ (d : Defined). nat_eq d.op op
+    && (nat_eq d.target.at o.at && nat_eq d.target.slot o.slot)) defs
 
 abbrev pub lacks_slot : Table → List Defined → ℕ → ℕ → ℕ → Bool
 lacks_slot t defs op k slot = let o = occurrence k slot in owes t op o && not (is_defined defs op o)
@@ -55,7 +56,8 @@ abbrev pub first_lacking : Table → List Defined → Option ℕ
 first_lacking t defs = first (lacking t defs) (below (length t.ops))
 
 abbrev pub missing_at : Table → ℕ → Option SpecFault
-missing_at t op = option_and_then (λ place. option_map (λ (o : Operator). fault.Missing place o.name) (slice_get t.ops op)) (slice_get t.op_places op)
+missing_at t op = option_and_then (λ place. option_map (λ (o : Operator). fault.Missing place o.name)
+    (slice_get t.ops op)) (slice_get t.op_places op)
 
 abbrev pub missing : Table → List Defined → Option SpecFault
 missing t defs = option_and_then (missing_at t) (first_lacking t defs)

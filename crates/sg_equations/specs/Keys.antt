@@ -16,4 +16,5 @@ key_of d = key_at d.op d.target
 
 -- the set has the keys of what these equations define
 abbrev pub AreSeen : List Defined → BTreeSet Key → Type 0
-AreSeen defs seen = (k : Key) → contains order.TheImpl.ghosts.cmp seen k ≡ list_any (λ d. is_at (order.TheImpl.ghosts.cmp (key_of d)) k) defs
+AreSeen defs seen = (k : Key) → contains order.TheImpl.ghosts.cmp seen k
+    ≡ list_any (λ d. is_at (order.TheImpl.ghosts.cmp (key_of d)) k) defs

@@ -13,8 +13,9 @@ ghost use Rattle.sg_equations.specs.Complete.{incomplete};
 ghost use Rattle.sg_equations.specs.Literals.{HasLiterals};
 ghost use Rattle.sg_equations.specs.RulesOf.{rules_in};
 
-/// Where no equation has a fault, what an operator owes has exactly one rule, there is no other rule, and each is well typed. Of the
-/// declarations it asks that the literals of their equations are values, as those of what is written are.
+/// Where no equation has a fault, what an operator owes has exactly one rule, there is no other rule, and each is
+/// well typed. Of the declarations it asks that the literals of their equations are values, as those of what is
+/// written are.
 #[tactic(auto, using(crate::proofs::RulesSound::written_literals))]
 pub fn rules_are_sound()
     ensures sound { (t : Table) (ds : List Decl) (spec : Spec) →

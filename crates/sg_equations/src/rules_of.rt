@@ -74,7 +74,8 @@ fn add_rules(
     rules: &mut Vec<Rule>,
 ) -> Result<(), NoMemory>
     requires { IsNarrow names.now }
-    ensures { OnOk result (rules.new.items ≡ rules.old.items ++ spec.rules_from names.now exprs.now op first (map equation_of equations.now)) }
+    ensures { OnOk result (rules.new.items ≡ rules.old.items
+        ++ spec.rules_from names.now exprs.now op first (map equation_of equations.now)) }
 {
     let mut k = first;
     for equation in equations {
@@ -95,7 +96,8 @@ fn add_decl(
     rules: &mut Vec<Rule>,
 ) -> Result<(), NoMemory>
     requires { IsNarrow names.now }
-    ensures { OnOk result (rules.new.items ≡ rules.old.items ++ spec.rules_at names.now exprs.now k (tree_of decl.now)) }
+    ensures { OnOk result (rules.new.items ≡ rules.old.items
+        ++ spec.rules_at names.now exprs.now k (tree_of decl.now)) }
 {
     if let Decl::Equations(phylum, op, _, equations) = decl
         && let Some(op) = names.operator_at(phylum, op)
@@ -124,9 +126,9 @@ fn all_rules(
     Ok(rules)
 }
 
-/// The rules of the record, one for each equation in the order of the text, or the first fault of the equations: of the
-/// first that defines what its operator does not owe, else of the first that defines what one before it defines, else of
-/// the first operator that owes what no equation defines. `names` and `typed` are those of the declarations.
+/// The rules of the record, one for each equation in the order of the text, or the first fault of the equations: of
+/// the first that defines what its operator does not owe, else of the first that defines what one before it defines,
+/// else of the first operator that owes what no equation defines. `names` and `typed` are those of the declarations.
 pub fn rules(
     alloc: Global,
     decls: &[Decl],

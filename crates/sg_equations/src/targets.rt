@@ -42,7 +42,8 @@ fn add_defined(
     defined: &mut Vec<Defined>,
 ) -> Result<(), NoMemory>
     requires { spec.IsNarrow names.now }
-    ensures { OnOk result (defined.new.items ≡ defined.old.items ++ spec.defined_under names.now (map equation_of equations.now) (Some op)) }
+    ensures { OnOk result (defined.new.items ≡ defined.old.items
+        ++ spec.defined_under names.now (map equation_of equations.now) (Some op)) }
 {
     for equation in equations {
         if let Some(target) = target_there(names, op, &equation.target) {

@@ -6,4 +6,5 @@ use Rattle.sg_kinds.specs.declared.spec.Production.{Production}
 
 -- the expression is that of a transformation or of an input production
 abbrev pub IsApplied : Spec → ℕ → Type 0
-IsApplied spec e = Any (λ (x : Transform). x.expr ≡ e) spec.transforms ⊎ Any (λ (r : Production). r.expr ≡ e) spec.productions
+IsApplied spec e = Any (λ (x : Transform). x.expr ≡ e) spec.transforms
+    ⊎ Any (λ (r : Production). r.expr ≡ e) spec.productions

@@ -26,8 +26,8 @@ use std::marker::Model;
 /// How many nodes of an expression one evaluation may enter. 73,717 of them were measured to take about a millisecond.
 pub const FUEL: u32 = 100_000;
 
-/// How many nodes may be entered and not left. A call nested so often, alone or through `with`, was measured to end in `depth`
-/// within 640 KiB of stack as LLVM builds it, and within 1,536 KiB as Rattle's own compiler does.
+/// How many nodes may be entered and not left. A call nested so often, alone or through `with`, was measured to end
+/// in `depth` within 640 KiB of stack as LLVM builds it, and within 1,536 KiB as Rattle's own compiler does.
 pub const NESTING: u32 = 2_048;
 
 /// The evaluator of a specification, of which it keeps a copy. Contracts see it as that specification.
@@ -96,9 +96,9 @@ impl Evaluator {
         evaluate(self.alloc, spec, rule.expr, args, pool, made)
     }
 
-    /// The outcome of the expression of a transformation or of an input production on these values, of which each is the
-    /// binding at its place: the values of the pattern's variables, or the results of the nonterminals and the texts of the
-    /// lexemes, from left to right. No journal is handed in, so it takes no equation.
+    /// The outcome of the expression of a transformation or of an input production on these values, of which each is
+    /// the binding at its place: the values of the pattern's variables, or the results of the nonterminals and the
+    /// texts of the lexemes, from left to right. No journal is handed in, so it takes no equation.
     pub fn apply(&self, e: ExprId, bound: &[Value]) -> Result<Value, NoMemory>
         requires applied { IsApplied self.now e }
         ensures { IfOk result (λ v. v ≡ outcome_of self.now e bound.now) }

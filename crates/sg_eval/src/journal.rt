@@ -15,8 +15,8 @@ pub struct Instance {
     pub rule: RuleId,
 }
 
-/// What was evaluated since the last `begin`, in order, and how many evaluations there were before. Only the runtime gives
-/// a new one, and only an evaluator writes in it.
+/// What was evaluated since the last `begin`, in order, and how many evaluations there were before. Only the runtime
+/// gives a new one, and only an evaluator writes in it.
 #[derive(Drop)]
 pub struct Journal {
     entries: Vec<Instance>,

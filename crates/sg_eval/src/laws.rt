@@ -16,8 +16,8 @@ ghost use Rattle.sg_eval.specs.MadeTerms.{AreMade};
 ghost use Rattle.sg_eval.specs.Typed.{AreOfTypes};
 ghost use Rattle.sg_eval.specs.declared.made.MadeTerms.{MadeTerms};
 
-/// Over a sound specification the outcome of an equation is of the type of what it defines, that of a transform of its phylum,
-/// and that of an input production of its result's phylum, where the bindings are of their types.
+/// Over a sound specification the outcome of an equation is of the type of what it defines, that of a transform of
+/// its phylum, and that of an input production of its result's phylum, where the bindings are of their types.
 #[tactic(auto, using(crate::proofs::OfTypes::rule_typed, crate::proofs::OfTypes::transform_typed, crate::proofs::OfTypes::production_typed))]
 pub fn outcomes_are_of_their_types()
     ensures rule { (spec : Spec) → IsSound spec → (n : ℕ) (r : Rule) → slice_get spec.rules n ≡ Some r →
@@ -32,7 +32,8 @@ pub fn outcomes_are_of_their_types()
         IsOfType spec r.of (outcome_of spec r.expr bound) }
 {}
 
-/// Over a sound specification what a pattern binds is of its variables' types, where the value is of the pattern's type.
+/// Over a sound specification what a pattern binds is of its variables' types, where the value is of the pattern's
+/// type.
 #[tactic(auto, using(crate::proofs::OfTypes::pattern_typed))]
 pub fn bindings_are_of_their_types()
     ensures { (spec : Spec) → IsSound spec → (x : Pattern) (p : ℕ) (v : Value) (types : List ℕ) (bound : List Value) →

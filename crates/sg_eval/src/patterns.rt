@@ -229,7 +229,8 @@ fn tree_of(op: OpId, x: Live, pool: &Pool) -> Option<ValueId>
 fn kid_at(id: ValueId, at: usize, pool: &Pool) -> Option<ValueId>
     requires { id < length pool.now }
     ensures value { MatchOption result (kids_from at (value_at pool.now id) ≡ NoValue)
-        (λ kid. kids_from at (value_at pool.now id) ≡ AndValue (value_at pool.now kid) (kids_from (suc at) (value_at pool.now id))) }
+        (λ kid. kids_from at (value_at pool.now id) ≡ AndValue (value_at pool.now kid)
+        (kids_from (suc at) (value_at pool.now id))) }
     ensures known { IfSome result (λ kid. kid < length pool.now) }
     ensures place { IfSome result (λ kid. at < 2 ^ 63) }
 {

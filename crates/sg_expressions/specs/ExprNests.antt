@@ -25,5 +25,6 @@ cases_in n = map case_of n.cases.items
 pub record Nests (depth : ℕ) (pre : Global → MutBor Tokens → ℕ → ℕ → Type 0)
     (post : Global → MutBor Tokens → ℕ → ℕ → Result Node Refusal → MutBor Tokens → Type 0) : Type 0 where
   pub callable : (alloc : Global) (old : MutBor Tokens) (least : ℕ) → pre alloc old depth least
-  pub reads : (alloc : Global) (old new : MutBor Tokens) (least : ℕ) (r : Result Node Refusal) → post alloc old depth least r new
+  pub reads : (alloc : Global) (old new : MutBor Tokens) (least : ℕ) (r : Result Node Refusal)
+      → post alloc old depth least r new
       → Reads node_of (expr_within depth least (left_of old.now)) r (left_of new.now)

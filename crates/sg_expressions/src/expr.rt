@@ -63,7 +63,8 @@ fn with_of(
     others: CaseChain,
     place: Position,
 ) -> Result<Node, NoMemory>
-    ensures { IfOk result (λ n. node_of n ≡ plain.With (node_of scrutinee) (pattern_of first.0) (node_of first.1) (cases_of others.cases) place) }
+    ensures { IfOk result (λ n. node_of n ≡ plain.With (node_of scrutinee) (pattern_of first.0) (node_of first.1)
+        (cases_of others.cases) place) }
 {
     let (pattern, expr) = first;
     let depth = deeper(scrutinee.depth, deeper(expr.depth, others.depth));
@@ -376,7 +377,8 @@ impl<F: Fn(Global, &mut Tokens<'_>, u8, u8) -> Result<Node, Refusal>> Grammar<F>
     ) -> Result<Node, Refusal>
         requires { Nests self.now.depth (F.pre self.now.expr) (F.post self.now.expr) }
         ensures { Reads node_of
-            (made (λ e. plain.Single prefix e place) (spec.expr_within self.now.depth prefix_level) (left_of tokens.old))
+            (made (λ e. plain.Single prefix e place) (spec.expr_within self.now.depth prefix_level)
+            (left_of tokens.old))
             result (left_of tokens.new) }
     {
         let inner = self.inner(tokens, PREFIX)?;
@@ -506,7 +508,8 @@ impl<F: Fn(Global, &mut Tokens<'_>, u8, u8) -> Result<Node, Refusal>> Grammar<F>
         requires nests { Nests self.now.depth (F.pre self.now.expr) (F.post self.now.expr) }
         requires small { self.now.depth < 128 }
         ensures { Reads node_of
-            (spec.climb (spec.expr_within self.now.depth) (self.now.depth + 1) (self.now.depth + 1) least atom_level (node_of left) (left_of tokens.old))
+            (spec.climb (spec.expr_within self.now.depth) (self.now.depth + 1) (self.now.depth + 1) least atom_level
+            (node_of left) (left_of tokens.old))
             result (left_of tokens.new) }
     {
         let mut most = ATOM;
@@ -528,7 +531,8 @@ impl<F: Fn(Global, &mut Tokens<'_>, u8, u8) -> Result<Node, Refusal>> Grammar<F>
         requires nests { Nests self.now.depth (F.pre self.now.expr) (F.post self.now.expr) }
         requires small { self.now.depth < 128 }
         ensures { Reads node_of
-            (spec.chosen (spec.expr_within self.now.depth) (self.now.depth + 1) least (node_of condition) (left_of tokens.old))
+            (spec.chosen (spec.expr_within self.now.depth) (self.now.depth + 1) least (node_of condition)
+            (left_of tokens.old))
             result (left_of tokens.new) }
     {
         if least <= CHOICE && tokens.sees_sign(Symbol::Question) {

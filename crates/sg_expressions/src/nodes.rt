@@ -65,7 +65,8 @@ impl Nodes {
 
     /// One more expression.
     pub fn with(mut self, node: Node) -> Result<Nodes, NoMemory>
-        ensures { IfOk result (λ n. map expr_of n.exprs.items ≡ map expr_of self.exprs.items ++ expr_of node.expr ∷ []) }
+        ensures { IfOk result (λ n. map expr_of n.exprs.items
+            ≡ map expr_of self.exprs.items ++ expr_of node.expr ∷ []) }
     {
         let depth = deeper(self.depth, node.depth);
         self.exprs.push(node.expr)?;
@@ -96,7 +97,8 @@ impl CaseNodes {
 
     /// One more case.
     pub fn with(mut self, case: (Pattern, Node)) -> Result<CaseNodes, NoMemory>
-        ensures { IfOk result (λ n. map case_of n.cases.items ≡ map case_of self.cases.items ++ (pattern_of case.0, expr_of case.1.expr) ∷ []) }
+        ensures { IfOk result (λ n. map case_of n.cases.items
+            ≡ map case_of self.cases.items ++ (pattern_of case.0, expr_of case.1.expr) ∷ []) }
     {
         let (pattern, node) = case;
         let depth = deeper(self.depth, node.depth);
@@ -123,7 +125,8 @@ pub(crate) fn chained(
     cases: CaseNodes,
     default: Option<Node>,
 ) -> Result<CaseChain, NoMemory>
-    ensures { IfOk result (λ c. cases_of c.cases ≡ cases_chain (map case_of cases.cases.items) (option_map (λ n. expr_of n.expr) default)) }
+    ensures { IfOk result (λ c. cases_of c.cases ≡ cases_chain (map case_of cases.cases.items)
+        (option_map (λ n. expr_of n.expr) default)) }
 {
     match default {
         Some(node) => {

@@ -15,10 +15,13 @@ pub record Algebra (A : Type 0) : Type 0 where
 -- a string derives these tokens with these results, one for each symbol, in so many nodes: tokens and productions
 pub data Derives {A : Type 0} (g : Grammar) (alg : Algebra A) : List ℕ → List Token → List A → ℕ → Type 0 where
   nothing : Derives g alg [] [] [] zero
-  token : (x : Token) (X : ℕ) (Xs : List ℕ) (ts : List Token) (vs : List A) (n : ℕ) → X < g.terminals → X ≡ x.terminal → Derives g alg Xs ts vs n
+  token : (x : Token) (X : ℕ) (Xs : List ℕ) (ts : List Token) (vs : List A) (n : ℕ) → X < g.terminals → X ≡ x.terminal
+      → Derives g alg Xs ts vs n
       → Derives g alg (X ∷ Xs) (x ∷ ts) (alg.leaf x ∷ vs) (suc n)
-  under : (p : ℕ) (r : Production) (X : ℕ) (Xs : List ℕ) (us ts all : List Token) (ws vs : List A) (m n k : ℕ) → slice_get g.rules p ≡ Some r → X ≡ r.left
-      → Derives g alg r.right us ws m → Derives g alg Xs ts vs n → all ≡ us ++ ts → k ≡ m + n → Derives g alg (X ∷ Xs) all (alg.node p ws ∷ vs) (suc k)
+  under : (p : ℕ) (r : Production) (X : ℕ) (Xs : List ℕ) (us ts all : List Token) (ws vs : List A) (m n k : ℕ)
+      → slice_get g.rules p ≡ Some r → X ≡ r.left
+      → Derives g alg r.right us ws m → Derives g alg Xs ts vs n → all ≡ us ++ ts → k ≡ m + n
+      → Derives g alg (X ∷ Xs) all (alg.node p ws ∷ vs) (suc k)
 
 -- results that say nothing
 abbrev pub plain : Algebra (Unit {0})

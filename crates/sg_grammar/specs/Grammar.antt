@@ -3,7 +3,8 @@ use Rattle.std.specs.Prelude.{ℕ, List, [], ◌++◌, Option, slice_get, option
 pub use Rattle.sg_grammar.specs.declared.grammar.Made.{Made}
 pub use Rattle.sg_grammar.specs.declared.grammar.Production.{Production}
 
--- the productions, the start productions of the entries, and how many terminals and symbols there are; the terminals come first
+-- the productions, the start productions of the entries, and how many terminals and symbols there are; the terminals
+-- come first
 pub record Grammar : Type 0 where
   pub rules : List Production
   pub entries : List Production
@@ -11,7 +12,12 @@ pub record Grammar : Type 0 where
   pub symbols : ℕ
 
 abbrev pub grammar : List Production → List Production → ℕ → ℕ → Grammar
-grammar rules entries terminals symbols = record { rules = rules; entries = entries; terminals = terminals; symbols = symbols }
+grammar rules entries terminals symbols = record {
+  rules = rules;
+  entries = entries;
+  terminals = terminals;
+  symbols = symbols;
+}
 
 -- the right side of a production; the start productions are counted behind the others
 abbrev pub right_of : Grammar → ℕ → List ℕ

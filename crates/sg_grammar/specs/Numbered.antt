@@ -48,11 +48,16 @@ lexeme_number spec s = 0
 
 abbrev pub symbol_number : Spec → Symbol → ℕ
 symbol_number spec (Quoted s) = first_literal spec + position_or_len (bytes_eq s) (literals_of spec.productions)
-symbol_number spec (Lexical p) = unwrap_or (option_map (λ (x : Phylum). lexeme_number spec x.shape) (slice_get spec.phyla p)) 0
+symbol_number spec (Lexical p) = unwrap_or (option_map (λ (x : Phylum). lexeme_number spec x.shape)
+    (slice_get spec.phyla p)) 0
 symbol_number spec (Nonterminal n) = first_nonterminal spec + n
 
 abbrev pub rule_of : Spec → record_of.Production → Production
-rule_of spec r = record { left = first_nonterminal spec + r.left; right = map (symbol_number spec) r.right; made = Outcome r.expr }
+rule_of spec r = record {
+  left = first_nonterminal spec + r.left;
+  right = map (symbol_number spec) r.right;
+  made = Outcome r.expr;
+}
 
 -- the start production of entry k: its marker, and then its nonterminal
 abbrev pub start_of : Spec → ℕ → Entry → Production
@@ -64,4 +69,5 @@ starts_of spec k [] = []
 starts_of spec k (e ∷ es) = start_of spec k e ∷ starts_of spec (suc k) es
 
 abbrev pub grammar_of : Spec → Grammar
-grammar_of spec = grammar (map (rule_of spec) spec.productions) (starts_of spec 0 spec.entries) (first_nonterminal spec) (symbol_count spec)
+grammar_of spec = grammar (map (rule_of spec) spec.productions) (starts_of spec 0 spec.entries)
+    (first_nonterminal spec) (symbol_count spec)

@@ -24,4 +24,5 @@ pub record IsWellFormed (g : Grammar) : Type 0 where
   pub few : length g.rules ≤ 2 ^ 30
   pub few_entries : length g.entries ≤ 2 ^ 30
   pub rules : All (IsRule (suc (length g.entries)) g.terminals g.symbols) g.rules
-  pub entries : (k : ℕ) (r : Production) → slice_get g.entries k ≡ Some r → IsStart (suc (length g.entries)) g.symbols k r.right
+  pub entries : (k : ℕ) (r : Production) → slice_get g.entries k ≡ Some r
+      → IsStart (suc (length g.entries)) g.symbols k r.right

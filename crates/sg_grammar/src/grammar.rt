@@ -35,9 +35,9 @@ impl TryCopy for Production {
     }
 }
 
-/// A grammar with a start production for each entry. The symbols are numbered from 0: the end, a marker for each entry, and
-/// the other terminals; the nonterminals come last. Items name the production `k` of the entries as the number of rules and
-/// `k` more.
+/// A grammar with a start production for each entry. The symbols are numbered from 0: the end, a marker for each
+/// entry, and the other terminals; the nonterminals come last. Items name the production `k` of the entries as the
+/// number of rules and `k` more.
 #[derive(Drop)]
 pub struct Grammar {
     rules: Row<Production>,
@@ -61,8 +61,8 @@ impl Model for Grammar {
 pub const MOST: usize = 1 << 30;
 
 impl Grammar {
-    /// The grammar of these productions, or None exactly where a number in them is out of range, the end or a marker stands on
-    /// a right side, or a start production does not begin with its marker.
+    /// The grammar of these productions, or None exactly where a number in them is out of range, the end or a marker
+    /// stands on a right side, or a start production does not begin with its marker.
     pub fn new(
         rules: Row<Production>,
         entries: Row<Production>,
@@ -203,7 +203,8 @@ fn is_start(place: usize, right: &[u32], first: u32, symbols: u32) -> bool
 /// Whether each right side is that of a start production.
 fn are_starts(entries: &[Production], first: u32, symbols: u32) -> bool
     requires { length entries.now ≤ 2 ^ 30 }
-    ensures { IsTrue result ↔ ((k : ℕ) (r : Production) → slice_get entries.now k ≡ Some r → IsStart first symbols k r.right) }
+    ensures { IsTrue result ↔ ((k : ℕ) (r : Production) → slice_get entries.now k ≡ Some r
+        → IsStart first symbols k r.right) }
 {
     for (place, entry) in entries.iter().enumerate() {
         if !is_start(place, entry.right.as_slice(), first, symbols) {

@@ -19,7 +19,8 @@ struct Numbering<'a> {
     spec: &'a Spec,
     literals: IndexSet<Vec<u8>>,
     ghost known: { map (λ v. v.items) literals.keys ≡ literals_of spec.now.productions },
-    ghost few: { (length spec.now.entries ≤ 2 ^ 30) × (length literals.keys ≤ 2 ^ 30) × (length spec.now.lexemes ≤ 2 ^ 30) },
+    ghost few: { (length spec.now.entries ≤ 2 ^ 30) × (length literals.keys ≤ 2 ^ 30)
+        × (length spec.now.lexemes ≤ 2 ^ 30) },
 }
 
 /// The number, where it is one of a symbol.
@@ -35,7 +36,8 @@ fn number(n: usize) -> Result<u32, NoMemory>
 
 /// Puts a text behind the others, unless it is among them.
 fn add(literals: &mut IndexSet<Vec<u8>>, text: Vec<u8>) -> Result<(), NoMemory>
-    ensures { OnOk result (map (λ v. v.items) literals.new.keys ≡ with_text (map (λ v. v.items) literals.old.keys) text.items) }
+    ensures { OnOk result (map (λ v. v.items) literals.new.keys
+        ≡ with_text (map (λ v. v.items) literals.old.keys) text.items) }
 {
     literals.insert(text)?;
     Ok(())
@@ -58,7 +60,8 @@ fn add_all(
     literals: &mut IndexSet<Vec<u8>>,
     symbols: &[Symbol],
 ) -> Result<(), NoMemory>
-    ensures { OnOk result (map (λ v. v.items) literals.new.keys ≡ literals_in (map (λ v. v.items) literals.old.keys) symbols.now) }
+    ensures { OnOk result (map (λ v. v.items) literals.new.keys
+        ≡ literals_in (map (λ v. v.items) literals.old.keys) symbols.now) }
 {
     for symbol in symbols {
         if let Symbol::Quoted(text) = symbol {
@@ -113,7 +116,8 @@ impl<'a> Numbering<'a> {
 
     /// The number of a literal.
     fn literal(&self, text: &[u8]) -> Result<u32, NoMemory>
-        ensures { IfOk result (λ n. n ≡ first_literal self.now.spec.now + position_or_len (bytes_eq text.now) (literals_of self.now.spec.now.productions)) }
+        ensures { IfOk result (λ n. n ≡ first_literal self.now.spec.now + position_or_len (bytes_eq text.now)
+            (literals_of self.now.spec.now.productions)) }
     {
         number(self.first_literal() + place_of(&self.literals, text))
     }
@@ -194,9 +198,10 @@ impl<'a> Numbering<'a> {
     }
 }
 
-/// The grammar of a specification: the productions in their order, and for each entry a start production of its marker and
-/// its nonterminal. The symbols are, in this order, the end, the markers, the literals by first occurrence, the lexemes and
-/// the nonterminals. `NoMemory` is also the answer where there are more of them than their numbers reach.
+/// The grammar of a specification: the productions in their order, and for each entry a start production of its
+/// marker and its nonterminal. The symbols are, in this order, the end, the markers, the literals by first
+/// occurrence, the lexemes and the nonterminals. `NoMemory` is also the answer where there are more of them than
+/// their numbers reach.
 pub fn make(alloc: Global, spec: &Spec) -> Result<Grammar, NoMemory>
     ensures { IfOk result (λ g. g ≡ grammar_of spec.now) }
 {

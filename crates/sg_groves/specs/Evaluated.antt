@@ -1,4 +1,5 @@
--- What is evaluated where a subterm is replaced: the equations of the new subterm, and of the others those with a changed argument.
+-- What is evaluated where a subterm is replaced: the equations of the new subterm, and of the others those with a
+-- changed argument.
 use Rattle.std.specs.Prelude.{◌≡◌, ◌≢◌, ◌⊎◌, Bool, false, not, ◌||◌, bytes_eq, List, [], ◌∷◌, ◌++◌, filter, Contains, Some, option_map, unwrap_or}
 use Rattle.std.specs.List.{list_any}
 use Rattle.sg_kinds.specs.Values.{same_value}

@@ -34,13 +34,15 @@ pub record IsTyped (spec : Spec) (pool : List Value) (type id : ℕ) : Type 0 wh
 -- a number for each slot, of a value of its type
 pub record AreTyped (spec : Spec) (pool : List Value) (types values : List ℕ) : Type 0 where
   pub count : length values ≡ length types
-  pub each : (slot type id : ℕ) → slice_get types slot ≡ Some type → slice_get values slot ≡ Some id → IsTyped spec pool type id
+  pub each : (slot type id : ℕ) → slice_get types slot ≡ Some type → slice_get values slot ≡ Some id
+      → IsTyped spec pool type id
 
 -- a node of an operator: its children are of the argument phyla, its values of its slots' types
 pub record IsOperation (g : Grove) (x : Node Kind Part) (op : ℕ) : Type 0 where
   pub phylum : phylum_of g.spec.ops op ≡ Some x.label.phylum
   pub arity : x.label.arity ≡ length (args_of g.spec.ops op)
-  pub kids : (k : ℕ) (n : NodeId) (y : Node Kind Part) → slice_get x.kids k ≡ Some n → nodes g n ≡ Some y → slice_get (args_of g.spec.ops op) k ≡ Some y.label.phylum
+  pub kids : (k : ℕ) (n : NodeId) (y : Node Kind Part) → slice_get x.kids k ≡ Some n → nodes g n ≡ Some y
+      → slice_get (args_of g.spec.ops op) k ≡ Some y.label.phylum
   pub scheme : x.part.scheme < 16
   pub values : AreTyped g.spec g.pool (slots_there g.spec op 0) x.part.values
 

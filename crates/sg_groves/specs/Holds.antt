@@ -13,7 +13,11 @@ use Rattle.sg_groves.specs.Stored.{kept}
 
 -- the term of a node over these terms: of its operator, with its scheme number and its mark, or its leaf
 abbrev pub term_over : List Value → Kind → Part → Terms → Term
-term_over pool kind part ts = elim kind.op [ None ↦ Leaf kind.phylum (kept pool part 0) | Some op ↦ Node op part.scheme part.elided ts ]
+term_over pool kind part ts = elim kind.op [
+  | None ↦ Leaf kind.phylum
+      (kept pool part 0)
+  | Some op ↦ Node op part.scheme part.elided ts
+]
 
 -- the term of a tree, where the values are those of a pool
 abbrev mutual

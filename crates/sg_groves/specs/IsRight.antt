@@ -20,4 +20,5 @@ IsRightAt g t u n slot = value_there g n slot ≡ value_in g.spec t (record { no
 pub record IsRight (g : Grove) (n : NodeId) : Type 0 where
   pub term : Term
   pub holds : Holds g n term
-  pub right : (u : Place) (m : NodeId) (slot : ℕ) (i : Site Place) → Climbs (nodes g) u m n → site_of (rules_of g.spec) (net_of term) (record { node = u; slot = slot }) ≡ Some i → IsRightAt g term u m slot
+  pub right : (u : Place) (m : NodeId) (slot : ℕ) (i : Site Place) → Climbs (nodes g) u m n
+      → site_of (rules_of g.spec) (net_of term) (record { node = u; slot = slot }) ≡ Some i → IsRightAt g term u m slot

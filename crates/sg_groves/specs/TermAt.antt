@@ -13,7 +13,11 @@ use Rattle.sg_groves.specs.Holds.{term_over}
 -- the term under a node, if no way down from it is longer than a number of steps
 abbrev pub term_within : Grove → ℕ → NodeId → Term
 term_within g zero n = Leaf 0 untyped
-term_within g (suc most) n = elim (nodes g n) [ None ↦ Leaf 0 untyped | Some x ↦ term_over g.pool x.label x.part (kids_of (map (term_within g most) x.kids)) ]
+term_within g (suc most) n = elim (nodes g n) [
+  | None ↦ Leaf 0 untyped
+  | Some x ↦ term_over g.pool x.label x.part
+      (kids_of (map (term_within g most) x.kids))
+]
 
 abbrev pub term_at : Grove → NodeId → Term
 term_at g n = term_within g (suc (room_below g.trees n)) n

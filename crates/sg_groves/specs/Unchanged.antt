@@ -23,4 +23,5 @@ pub record OnlyStored (old new : Grove) (changed : NodeId → ℕ → Type 0) : 
   pub pool : IsGrown old.pool new.pool
   pub shape : KeepsShape (nodes old) (nodes new)
   pub room : (n : NodeId) → room_below new.trees n ≡ room_below old.trees n
-  pub parts : (n : NodeId) (x y : Node Kind Part) → nodes old n ≡ Some x → nodes new n ≡ Some y → KeepsPart x.label x.part y.part (changed n)
+  pub parts : (n : NodeId) (x y : Node Kind Part) → nodes old n ≡ Some x → nodes new n ≡ Some y
+      → KeepsPart x.label x.part y.part (changed n)

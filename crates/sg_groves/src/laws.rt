@@ -44,19 +44,22 @@ pub fn subterms_are_held()
         Holds g m t → sub t u ≡ Some s → (n : NodeId) × Climbs (nodes g) u n m × Holds g n s }
     ensures one_node { (g : Grove) → IsGrove g → (u : Place) (n o m : NodeId) →
         Climbs (nodes g) u n m → Climbs (nodes g) u o m → n ≡ o }
-    ensures one_place { (g : Grove) → IsGrove g → (u v : Place) (n m o : NodeId) → IsRoot (nodes g) m → IsRoot (nodes g) o →
+    ensures one_place { (g : Grove) → IsGrove g → (u v : Place) (n m o : NodeId) → IsRoot (nodes g) m
+        → IsRoot (nodes g) o →
         Climbs (nodes g) u n m → Climbs (nodes g) v n o → (u ≡ v) × (m ≡ o) }
-    ensures told { (g : Grove) → IsGrove g → (u : Place) (n m : NodeId) → IsRoot (nodes g) m → Climbs (nodes g) u n m → way_at g n ≡ u }
+    ensures told { (g : Grove) → IsGrove g → (u : Place) (n m : NodeId) → IsRoot (nodes g) m → Climbs (nodes g) u n m
+        → way_at g n ≡ u }
 {}
 
 /// Each stored number stands for a value of the pool.
 #[tactic(auto, using(crate::proofs::Frames::number_stands))]
 pub fn numbers_stand()
-    ensures { (g : Grove) → IsGrove g → (n : NodeId) (slot id : ℕ) → number_at g n slot ≡ Some id → (v : Value) × StandsFor g.pool id v }
+    ensures { (g : Grove) → IsGrove g → (n : NodeId) (slot id : ℕ) → number_at g n slot ≡ Some id
+        → (v : Value) × StandsFor g.pool id v }
 {}
 
-/// That only the stored values that pass a test change holds where nothing does, with a wider test, and of one step after
-/// another with either test.
+/// That only the stored values that pass a test change holds where nothing does, with a wider test, and of one step
+/// after another with either test.
 #[tactic(auto, using(crate::proofs::Frames::only_itself, crate::proofs::Frames::only_more, crate::proofs::Frames::only_twice))]
 pub fn changes_add_up()
     ensures none { (g : Grove) (test : NodeId → ℕ → Bool) → OnlyStored g g (λ n slot. IsTrue (test n slot)) }
@@ -68,8 +71,8 @@ pub fn changes_add_up()
         OnlyStored old new (λ n slot. IsTrue (one n slot) ⊎ IsTrue (two n slot)) }
 {}
 
-/// Where only the stored values that pass a test change, ways, roots, held terms and all other stored values stay, and so
-/// does a right tree in which none changes.
+/// Where only the stored values that pass a test change, ways, roots, held terms and all other stored values stay,
+/// and so does a right tree in which none changes.
 #[tactic(auto, using(crate::proofs::Frames::only_climbs, crate::proofs::Frames::only_root, crate::proofs::Frames::only_holds, crate::proofs::Frames::only_number, crate::proofs::Frames::only_value, crate::proofs::Frames::only_right))]
 pub fn all_else_stays()
     ensures ways { (old new : Grove) (test : NodeId → ℕ → Bool) → OnlyStored old new (λ n slot. IsTrue (test n slot)) →
@@ -78,22 +81,27 @@ pub fn all_else_stays()
         (n : NodeId) → IsRoot (nodes old) n → IsRoot (nodes new) n }
     ensures terms { (old new : Grove) (test : NodeId → ℕ → Bool) → OnlyStored old new (λ n slot. IsTrue (test n slot)) →
         IsGrove old → (n : NodeId) (t : Term) → Holds old n t → Holds new n t }
-    ensures numbers { (old new : Grove) (test : NodeId → ℕ → Bool) → OnlyStored old new (λ n slot. IsTrue (test n slot)) →
+    ensures numbers { (old new : Grove) (test : NodeId → ℕ → Bool)
+        → OnlyStored old new (λ n slot. IsTrue (test n slot)) →
         (n : NodeId) (slot : ℕ) → (IsTrue (test n slot) → ⊥) → number_at new n slot ≡ number_at old n slot }
     ensures right { (old new : Grove) (test : NodeId → ℕ → Bool) → OnlyStored old new (λ n slot. IsTrue (test n slot)) →
         IsGrove old → (n : NodeId) → IsRight old n →
         ((u : Place) (m : NodeId) (slot : ℕ) → Climbs (nodes old) u m n → IsTrue (test m slot) → ⊥) → IsRight new n }
-    ensures values { (old new : Grove) (test : NodeId → ℕ → Bool) → OnlyStored old new (λ n slot. IsTrue (test n slot)) →
-        IsGrove old → (n : NodeId) (slot : ℕ) → (IsTrue (test n slot) → ⊥) → value_there new n slot ≡ value_there old n slot }
+    ensures values { (old new : Grove) (test : NodeId → ℕ → Bool)
+        → OnlyStored old new (λ n slot. IsTrue (test n slot)) →
+        IsGrove old → (n : NodeId) (slot : ℕ) → (IsTrue (test n slot) → ⊥)
+        → value_there new n slot ≡ value_there old n slot }
 {}
 
-/// A tree with another in the place of a subtree stands for its term with the other's term there; a change of the subtree
-/// under which its term becomes another one puts that in its place.
+/// A tree with another in the place of a subtree stands for its term with the other's term there; a change of the
+/// subtree under which its term becomes another one puts that in its place.
 #[tactic(auto, using(crate::proofs::Replacing::tree_replaced, crate::proofs::Replacing::tree_changed))]
 pub fn replaced_trees_hold()
-    ensures replaced { (pool : List Value) (u : Place) (new t : Tree Kind Part) (x : Term) → sub (term_of pool t) u ≡ Some x →
+    ensures replaced { (pool : List Value) (u : Place) (new t : Tree Kind Part) (x : Term)
+        → sub (term_of pool t) u ≡ Some x →
         term_of pool (replaced u new t) ≡ put (term_of pool t) u (term_of pool new) }
-    ensures changed { (pool : List Value) (u : Place) (f : Tree Kind Part → Tree Kind Part) (t : Tree Kind Part) (x s : Term) →
+    ensures changed { (pool : List Value) (u : Place) (f : Tree Kind Part
+        → Tree Kind Part) (t : Tree Kind Part) (x s : Term) →
         sub (term_of pool t) u ≡ Some x → ((d : Tree Kind Part) → term_of pool d ≡ x → term_of pool (f d) ≡ s) →
         term_of pool (changed u f t) ≡ put (term_of pool t) u s }
 {}
@@ -101,7 +109,8 @@ pub fn replaced_trees_hold()
 /// To put a term at a place leaves each node that is not at or below it, and undoes what was put there before.
 #[tactic(auto, using(crate::proofs::Puts::node_outside, crate::proofs::Puts::label_outside, crate::proofs::Puts::put_put))]
 pub fn puts_and_nodes()
-    ensures outside { (t : Term) (u : Place) (s : Term) (w : Place) → (IsAtOrBelow w u → ⊥) → node_in (put t u s) w ≡ node_in t w }
+    ensures outside { (t : Term) (u : Place) (s : Term) (w : Place) → (IsAtOrBelow w u → ⊥)
+        → node_in (put t u s) w ≡ node_in t w }
     ensures labels { (t : Term) (u : Place) (s : Term) (w : Place) → (IsAtOrBelow w u → ⊥) →
         label_of (sub (put t u s) w) ≡ label_of (sub t w) }
     ensures again { (t : Term) (u : Place) (s x : Term) → put (put t u s) u x ≡ put t u x }

@@ -5,8 +5,8 @@ use sg_kinds::ids::ValueId;
 use sg_kinds::row::Row;
 use std::alloc::Global;
 
-/// What a node keeps: its scheme number, its elided mark, and the numbers of its values in a pool. A node of an operator has
-/// a value for each slot, a leaf the one that it holds.
+/// What a node keeps: its scheme number, its elided mark, and the numbers of its values in a pool. A node of an
+/// operator has a value for each slot, a leaf the one that it holds.
 #[derive(Drop)]
 pub struct Part {
     pub scheme: u32,

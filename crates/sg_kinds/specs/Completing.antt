@@ -17,7 +17,8 @@ over spec made (Some op) = option_map (Node op 0 false) (all_made made (args_of 
 
 -- a list with one element: the binary operator over an element and the nullary operator
 abbrev pub one_element : Spec → (ℕ → Option Term) → List ℕ → Option Term
-one_element spec made (nil ∷ pair ∷ ops) = option_map (λ t. Node pair 0 false (AndTerm t (AndTerm (Node nil 0 false NoTerm) NoTerm)))
+one_element spec made (nil ∷ pair ∷ ops) = option_map (λ t. Node pair 0 false
+    (AndTerm t (AndTerm (Node nil 0 false NoTerm) NoTerm)))
     (option_and_then made (slice_get (args_of spec.ops pair) 0))
 one_element spec made ops = None
 
@@ -35,7 +36,8 @@ completed spec made p ops OptionalListed = over spec made (slice_get ops 0)
 -- the completing term, where its depth is at most `room`
 abbrev pub completing_within : Spec → ℕ → ℕ → Option Term
 completing_within spec zero p = None
-completing_within spec (suc room) p = option_and_then (λ (x : Phylum). completed spec (completing_within spec room) p x.ops x.shape) (slice_get spec.phyla p)
+completing_within spec (suc room) p = option_and_then (λ (x : Phylum). completed spec
+    (completing_within spec room) p x.ops x.shape) (slice_get spec.phyla p)
 
 -- the completing term; of a sound specification each phylum has one of depth at most 1,024
 unfoldable pub completing : Spec → ℕ → Term

@@ -10,15 +10,18 @@ pub record InputPiece : Type 0 where
   pub terminal : Symbol
   pub text : Bytes
 
--- a string of symbols derives pieces of a text; the values are the texts of its lexemes and the results of its nonterminals, from
--- left to right, and the number is that of the nodes: pieces and productions
+-- a string of symbols derives pieces of a text; the values are the texts of its lexemes and the results of its
+-- nonterminals, from left to right, and the number is that of the nodes: pieces and productions
 pub data Derives (spec : Spec) : List Symbol → List InputPiece → List Value → ℕ → Type 0 where
   nothing : Derives spec [] [] [] zero
-  literal : (s text : Bytes) (Xs : List Symbol) (ts : List InputPiece) (vs : List Value) (n : ℕ) → Derives spec Xs ts vs n
+  literal : (s text : Bytes) (Xs : List Symbol) (ts : List InputPiece) (vs : List Value) (n : ℕ)
+      → Derives spec Xs ts vs n
       → Derives spec (Quoted s ∷ Xs) (record { terminal = Quoted s; text = text } ∷ ts) vs (suc n)
-  lexeme : (l : ℕ) (text : Bytes) (Xs : List Symbol) (ts : List InputPiece) (vs : List Value) (n : ℕ) → Derives spec Xs ts vs n
+  lexeme : (l : ℕ) (text : Bytes) (Xs : List Symbol) (ts : List InputPiece) (vs : List Value) (n : ℕ)
+      → Derives spec Xs ts vs n
       → Derives spec (Lexical l ∷ Xs) (record { terminal = Lexical l; text = text } ∷ ts) (Chars text ∷ vs) (suc n)
-  under : (r : Production) (Xs : List Symbol) (us ts all : List InputPiece) (ws vs : List Value) (m n k : ℕ) → Contains spec.productions r
+  under : (r : Production) (Xs : List Symbol) (us ts all : List InputPiece) (ws vs : List Value) (m n k : ℕ)
+      → Contains spec.productions r
       → Derives spec r.right us ws m → Derives spec Xs ts vs n → all ≡ us ++ ts → k ≡ m + n
       → Derives spec (Nonterminal r.left ∷ Xs) all (outcome_of spec r.expr ws ∷ vs) (suc k)
 

@@ -118,7 +118,8 @@ abbrev mutual
 
   pub bound_by_all : Spec → Patterns → Values → Option (List Value)
   bound_by_all spec NoPattern NoValue = Some []
-  bound_by_all spec (AndPattern p ps) (AndValue v vs) = option_and_then (λ bs. option_map (λ cs. bs ++ cs) (bound_by_all spec ps vs)) (bound_by spec p v)
+  bound_by_all spec (AndPattern p ps) (AndValue v vs) =
+      option_and_then (λ bs. option_map (λ cs. bs ++ cs) (bound_by_all spec ps vs)) (bound_by spec p v)
   bound_by_all spec ps vs = None
 
 -- how the parts of an expression are evaluated: on bindings and fuel
@@ -137,7 +138,8 @@ row_with (Gives v left) go = go v left
 
 abbrev pub row_reached : Inside → List Value → Exprs → List Value → ℕ → Operands
 row_reached inside done NoExpr env left = Every done left
-row_reached inside done (AndExpr e es) env left = row_with (inside e env left) (λ v l. row_reached inside (done ++ v ∷ []) es env l)
+row_reached inside done (AndExpr e es) env left = row_with (inside e env left)
+    (λ v l. row_reached inside (done ++ v ∷ []) es env l)
 
 abbrev pub with_row : Operands → (List Value → ℕ → Reached) → Reached
 with_row (Every vs left) go = go vs left
@@ -152,7 +154,8 @@ if_bound None here later left = later left
 abbrev pub first_case : Spec → Inside → Value → Cases → List Value → ℕ → Reached
 first_case spec inside v NoCase env left = Gives (Fault NoMatch) left
 first_case spec inside v (Default e) env left = inside e env left
-first_case spec inside v (Case p e rest) env left = if_bound (bound_by spec p v) (λ bs. inside e (env ++ bs)) (first_case spec inside v rest env) left
+first_case spec inside v (Case p e rest) env left = if_bound (bound_by spec p v) (λ bs. inside e (env ++ bs))
+    (first_case spec inside v rest env) left
 
 -- one of two, by a truth value
 abbrev pub choose : Value → (ℕ → Reached) → (ℕ → Reached) → ℕ → Reached
@@ -179,12 +182,17 @@ step spec inside (Constant v) env left = Gives v left
 step spec inside (Named k) env left = Gives (unwrap_or (slice_get env k) untyped) left
 step spec inside (MadeOf made p) env left = Gives (made_value spec made p) left
 step spec inside (Single f a) env left = then_with (inside a env left) (λ v l. Gives (applied f v) l)
-step spec inside (Binary sign a b) env left = then_with (inside a env left) (λ x l. then_with (inside b env l) (λ y m. Gives (combined sign x y) m))
+step spec inside (Binary sign a b) env left = then_with (inside a env left)
+    (λ x l. then_with (inside b env l) (λ y m. Gives (combined sign x y) m))
 step spec inside (Logical c a b) env left = then_with (inside a env left) (λ x l. connected c x (inside b env) l)
-step spec inside (Cons op a b) env left = then_with (inside a env left) (λ x l. then_with (inside b env l) (λ y m. Gives (Tree op (row_of (x ∷ y ∷ []))) m))
-step spec inside (Choice c a b) env left = then_with (inside c env left) (λ x l. choose x (inside a env) (inside b env) l)
-step spec inside (Apply op es) env left = with_row (row_reached inside [] es env left) (λ vs l. Gives (Tree op (row_of vs)) l)
-step spec inside (Call f es) env left = with_row (row_reached inside [] es env left) (body_reached inside (body_of spec f))
+step spec inside (Cons op a b) env left = then_with (inside a env left)
+    (λ x l. then_with (inside b env l) (λ y m. Gives (Tree op (row_of (x ∷ y ∷ []))) m))
+step spec inside (Choice c a b) env left = then_with (inside c env left)
+    (λ x l. choose x (inside a env) (inside b env) l)
+step spec inside (Apply op es) env left = with_row (row_reached inside [] es env left)
+    (λ vs l. Gives (Tree op (row_of vs)) l)
+step spec inside (Call f es) env left = with_row (row_reached inside [] es env left)
+    (body_reached inside (body_of spec f))
 step spec inside (Let a b) env left = then_with (inside a env left) (λ v l. inside b (env ++ v ∷ []) l)
 step spec inside (With a cases) env left = then_with (inside a env left) (λ v l. first_case spec inside v cases env l)
 

@@ -115,16 +115,19 @@ acts [] s = s
 acts (i ∷ is) s = acts is (act i s)
 
 mutual
-  pub acts-code_pattern : (p : Pattern) (k : List Instruction) (s : List Piece) → acts (code_pattern p k) s ≡ acts k (pattern p ∷ s)
+  pub acts-code_pattern : (p : Pattern) (k : List Instruction) (s : List Piece)
+      → acts (code_pattern p k) s ≡ acts k (pattern p ∷ s)
   acts-code_pattern (Exactly v) k s = refl
   acts-code_pattern Anything k s = refl
   acts-code_pattern Variable k s = refl
   acts-code_pattern (MadeAs made p) k s = refl
   acts-code_pattern (Applied op ps) k s = acts-code_patterns ps (applied op ∷ k) s
 
-  pub acts-code_patterns : (ps : Patterns) (k : List Instruction) (s : List Piece) → acts (code_patterns ps k) s ≡ acts k (patterns ps ∷ s)
+  pub acts-code_patterns : (ps : Patterns) (k : List Instruction) (s : List Piece)
+      → acts (code_patterns ps k) s ≡ acts k (patterns ps ∷ s)
   acts-code_patterns NoPattern k s = refl
-  acts-code_patterns (AndPattern p ps) k s = acts-code_pattern p (code_patterns ps (and_pattern ∷ k)) s ∙ acts-code_patterns ps (and_pattern ∷ k) (pattern p ∷ s)
+  acts-code_patterns (AndPattern p ps) k s = acts-code_pattern p (code_patterns ps (and_pattern ∷ k)) s
+      ∙ acts-code_patterns ps (and_pattern ∷ k) (pattern p ∷ s)
 
 mutual
   pub acts-code_expr : (e : Expr) (k : List Instruction) (s : List Piece) → acts (code_expr e k) s ≡ acts k (expr e ∷ s)
@@ -132,25 +135,33 @@ mutual
   acts-code_expr (Named n) k s = refl
   acts-code_expr (MadeOf made p) k s = refl
   acts-code_expr (Single f a) k s = acts-code_expr a (single f ∷ k) s
-  acts-code_expr (Binary sign a b) k s = acts-code_expr a (code_expr b (binary sign ∷ k)) s ∙ acts-code_expr b (binary sign ∷ k) (expr a ∷ s)
-  acts-code_expr (Logical c a b) k s = acts-code_expr a (code_expr b (logical c ∷ k)) s ∙ acts-code_expr b (logical c ∷ k) (expr a ∷ s)
-  acts-code_expr (Cons op a b) k s = acts-code_expr a (code_expr b (cons op ∷ k)) s ∙ acts-code_expr b (cons op ∷ k) (expr a ∷ s)
+  acts-code_expr (Binary sign a b) k s = acts-code_expr a (code_expr b (binary sign ∷ k)) s
+      ∙ acts-code_expr b (binary sign ∷ k) (expr a ∷ s)
+  acts-code_expr (Logical c a b) k s = acts-code_expr a (code_expr b (logical c ∷ k)) s
+      ∙ acts-code_expr b (logical c ∷ k) (expr a ∷ s)
+  acts-code_expr (Cons op a b) k s = acts-code_expr a (code_expr b (cons op ∷ k)) s
+      ∙ acts-code_expr b (cons op ∷ k) (expr a ∷ s)
   acts-code_expr (Choice c a b) k s = acts-code_expr c (code_expr a (code_expr b (choice ∷ k))) s
       ∙ (acts-code_expr a (code_expr b (choice ∷ k)) (expr c ∷ s) ∙ acts-code_expr b (choice ∷ k) (expr a ∷ expr c ∷ s))
   acts-code_expr (Apply op es) k s = acts-code_exprs es (apply op ∷ k) s
   acts-code_expr (Call f es) k s = acts-code_exprs es (call f ∷ k) s
   acts-code_expr (Let a b) k s = acts-code_expr a (code_expr b (bind ∷ k)) s ∙ acts-code_expr b (bind ∷ k) (expr a ∷ s)
-  acts-code_expr (With a cs) k s = acts-code_expr a (code_cases cs (cases ∷ k)) s ∙ acts-code_cases cs (cases ∷ k) (expr a ∷ s)
+  acts-code_expr (With a cs) k s = acts-code_expr a (code_cases cs (cases ∷ k)) s
+      ∙ acts-code_cases cs (cases ∷ k) (expr a ∷ s)
 
-  pub acts-code_exprs : (es : Exprs) (k : List Instruction) (s : List Piece) → acts (code_exprs es k) s ≡ acts k (exprs es ∷ s)
+  pub acts-code_exprs : (es : Exprs) (k : List Instruction) (s : List Piece)
+      → acts (code_exprs es k) s ≡ acts k (exprs es ∷ s)
   acts-code_exprs NoExpr k s = refl
-  acts-code_exprs (AndExpr e es) k s = acts-code_expr e (code_exprs es (and_expr ∷ k)) s ∙ acts-code_exprs es (and_expr ∷ k) (expr e ∷ s)
+  acts-code_exprs (AndExpr e es) k s = acts-code_expr e (code_exprs es (and_expr ∷ k)) s
+      ∙ acts-code_exprs es (and_expr ∷ k) (expr e ∷ s)
 
-  pub acts-code_cases : (cs : Cases) (k : List Instruction) (s : List Piece) → acts (code_cases cs k) s ≡ acts k (arms cs ∷ s)
+  pub acts-code_cases : (cs : Cases) (k : List Instruction) (s : List Piece)
+      → acts (code_cases cs k) s ≡ acts k (arms cs ∷ s)
   acts-code_cases NoCase k s = refl
   acts-code_cases (Default e) k s = acts-code_expr e (default ∷ k) s
   acts-code_cases (Case p e cs) k s = acts-code_pattern p (code_expr e (code_cases cs (case ∷ k))) s
-      ∙ (acts-code_expr e (code_cases cs (case ∷ k)) (pattern p ∷ s) ∙ acts-code_cases cs (case ∷ k) (expr e ∷ pattern p ∷ s))
+      ∙ (acts-code_expr e (code_cases cs (case ∷ k)) (pattern p ∷ s)
+      ∙ acts-code_cases cs (case ∷ k) (expr e ∷ pattern p ∷ s))
 
 abbrev pub first_pattern : List Piece → Pattern
 first_pattern (pattern p ∷ s) = p
@@ -162,7 +173,9 @@ first_expr s = Named 0
 
 -- patterns and expressions are stored as their instructions
 abbrev pub pattern_code : Coded Pattern
-pattern_code = code_by (List Instruction) (coded_list instruction_code) (λ p. code_pattern p []) (λ is. first_pattern (acts is [])) (λ p. ap first_pattern (acts-code_pattern p [] []))
+pattern_code = code_by (List Instruction) (coded_list instruction_code) (λ p. code_pattern p [])
+    (λ is. first_pattern (acts is [])) (λ p. ap first_pattern (acts-code_pattern p [] []))
 
 abbrev pub expr_code : Coded Expr
-expr_code = code_by (List Instruction) (coded_list instruction_code) (λ e. code_expr e []) (λ is. first_expr (acts is [])) (λ e. ap first_expr (acts-code_expr e [] []))
+expr_code = code_by (List Instruction) (coded_list instruction_code) (λ e. code_expr e [])
+    (λ is. first_expr (acts is [])) (λ e. ap first_expr (acts-code_expr e [] []))

@@ -19,8 +19,8 @@ mutual
     NoPattern : Patterns
     AndPattern : Pattern → Patterns → Patterns
 
--- expressions: a constant, a name, a made term, one operand, two operands, `&&` and `||`, `::` with the list's binary operator,
--- `? :`, an operator, a function by its number, `let`, `with`
+-- expressions: a constant, a name, a made term, one operand, two operands, `&&` and `||`, `::` with the list's binary
+-- operator, `? :`, an operator, a function by its number, `let`, `with`
 mutual
   pub data Expr : Type 0 where
     Constant : Value → Expr

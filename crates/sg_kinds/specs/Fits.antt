@@ -22,7 +22,8 @@ MayHold spec shape v = ⊥
 abbrev mutual
   pub Fits : Spec → Term → ℕ → Type 0
   Fits spec (Leaf q v) p = (q ≡ p) × MatchOption (slice_get spec.phyla p) ⊥ (λ x. MayHold spec x.shape v)
-  Fits spec (Node op scheme elided ts) p = MatchOption (slice_get spec.ops op) ⊥ (λ o. (o.phylum ≡ p) × (scheme < 16) × AllFit spec ts o.args)
+  Fits spec (Node op scheme elided ts) p = MatchOption (slice_get spec.ops op) ⊥ (λ o. (o.phylum ≡ p) × (scheme < 16)
+      × AllFit spec ts o.args)
 
   pub AllFit : Spec → Terms → List ℕ → Type 0
   AllFit spec NoTerm [] = ⊤

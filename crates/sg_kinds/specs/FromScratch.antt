@@ -23,7 +23,8 @@ site_value spec net values (Some i) = outcome spec i.rule (map values (args_at n
 -- the value by a chain of at most n equations, and `fuel` where there is a longer one
 abbrev pub scratch : {N : Type 0} → Spec → Net N → ℕ → Reference N → Value
 scratch spec net zero a = leaf_or (net.label a.node) (Fault Fuel)
-scratch spec net (suc n) a = leaf_or (net.label a.node) (site_value spec net (scratch spec net n) (site_of (rules_of spec) net a))
+scratch spec net (suc n) a = leaf_or (net.label a.node)
+    (site_value spec net (scratch spec net n) (site_of (rules_of spec) net a))
 
 -- no chain is longer than there are instances
 abbrev pub value_in : Spec → Term → Reference Place → Value

@@ -31,7 +31,8 @@ site_above rules net slot None = None
 site_above rules net slot (Some (m, k)) = site_at rules net m (record { at = suc k; slot = slot })
 
 abbrev pub is_inherited_at : {N : Type 0} → Rules → Net N → Reference N → Bool
-is_inherited_at rules net a = unwrap_or (option_map (λ p. is_inherited rules.phyla p a.slot) (phylum_at rules.ops (net.label a.node))) false
+is_inherited_at rules net a = unwrap_or (option_map (λ p. is_inherited rules.phyla p a.slot)
+    (phylum_at rules.ops (net.label a.node))) false
 
 abbrev pub site_of : {N : Type 0} → Rules → Net N → Reference N → Option (Site N)
 site_of rules net a = cond (is_inherited_at rules net a)

@@ -18,7 +18,8 @@ operator_in t u = operation (label_of (sub t u))
 -- the positions from position q of the node at the place up to the root's
 abbrev pub key_up : Rules → Plans → Term → Place → ℕ → List ℕ
 key_up rules plans t [] q = q ∷ []
-key_up rules plans t (k ∷ u) q = q ∷ key_up rules plans t u (seat rules plans (operator_in t u) k (belongs rules plans (operator_in t (k ∷ u)) q))
+key_up rules plans t (k ∷ u) q = q ∷ key_up rules plans t u
+    (seat rules plans (operator_in t u) k (belongs rules plans (operator_in t (k ∷ u)) q))
 
 abbrev pub key : Rules → Plans → Term → Site Place → List ℕ
 key rules plans t i = reverse (key_up rules plans t i.node (position_in rules plans i.rule.op i.rule.target))

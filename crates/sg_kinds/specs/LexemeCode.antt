@@ -69,4 +69,5 @@ first_of (p ∷ ps) = p
 
 -- lexeme patterns are stored as their instructions
 abbrev pub lexeme_code : Coded Lexeme
-lexeme_code = code_by (List Instruction) (coded_list instruction_code) (λ p. code_of p []) (λ is. first_of (acts is [])) (λ p. ap first_of (acts-code_of p [] []))
+lexeme_code = code_by (List Instruction) (coded_list instruction_code) (λ p. code_of p [])
+    (λ is. first_of (acts is [])) (λ p. ap first_of (acts-code_of p [] []))

@@ -22,7 +22,8 @@ abbrev pub MatchesFrom : Lexeme → Bytes → ℕ → ℕ → Type 0
 MatchesFrom Nothing text i j = j ≡ i
 MatchesFrom (Byte c) text i j = Passes (nat_eq c) text i j
 MatchesFrom Dot text i j = Passes (λ b. not (nat_eq b 10)) text i j
-MatchesFrom (Class negated ranges) text i j = Passes (λ b. cond negated (not (in_ranges ranges b)) (in_ranges ranges b)) text i j
+MatchesFrom (Class negated ranges) text i j = Passes (λ b. cond negated (not (in_ranges ranges b))
+    (in_ranges ranges b)) text i j
 MatchesFrom (Then p q) text i j = (m : ℕ) × MatchesFrom p text i m × MatchesFrom q text m j
 MatchesFrom (Either p q) text i j = MatchesFrom p text i j ⊎ MatchesFrom q text i j
 MatchesFrom (Many p) text i j = Rounds (MatchesFrom p text) i j

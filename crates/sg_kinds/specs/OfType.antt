@@ -9,4 +9,5 @@ use Rattle.sg_kinds.specs.declared.marks.FaultKind.{FaultKind}
 
 -- a fault, the value of a term that fits the type, or, for STR, a text
 abbrev pub IsOfType : Spec → ℕ → Value → Type 0
-IsOfType spec p v = ((kind : FaultKind) × (v ≡ Fault kind)) ⊎ ((t : Term) × Fits spec t p × (value_of t ≡ v)) ⊎ ((s : Bytes) × (p ≡ texts) × IsTrue (is_text s) × (v ≡ Chars s))
+IsOfType spec p v = ((kind : FaultKind) × (v ≡ Fault kind)) ⊎ ((t : Term) × Fits spec t p × (value_of t ≡ v))
+    ⊎ ((s : Bytes) × (p ≡ texts) × IsTrue (is_text s) × (v ≡ Chars s))

@@ -14,7 +14,8 @@ placeheld spec made p ops shape = completed spec made p ops shape
 
 -- the placeholder, where its depth is at most room + 1
 abbrev pub placeholder_within : Spec → ℕ → ℕ → Option Term
-placeholder_within spec room p = option_and_then (λ (x : Phylum). placeheld spec (completing_within spec room) p x.ops x.shape) (slice_get spec.phyla p)
+placeholder_within spec room p = option_and_then (λ (x : Phylum). placeheld spec
+    (completing_within spec room) p x.ops x.shape) (slice_get spec.phyla p)
 
 -- the placeholder; of a sound specification each phylum has one of depth at most 1,024
 unfoldable pub placeholder : Spec → ℕ → Term

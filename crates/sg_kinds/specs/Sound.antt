@@ -1,4 +1,5 @@
--- When a specification is sound: its numbers are in range, and it has none of the static faults that its record can show.
+-- When a specification is sound: its numbers are in range, and it has none of the static faults that its record can
+-- show.
 use Rattle.std.specs.Prelude.{filter, flat_map, ◌≡◌, ◌≢◌, ◌↔◌, ◌⊎◌, ℕ, zero, suc, ◌<◌, ◌≤◌, Bool, true, false, cond, not, ◌&&◌, List, [], ◌∷◌, ◌++◌, map, take, length, nat_eq, nat_lt, count_by, find, All, AllPairs, Contains, Option, Some, None, slice_get, option_map, option_and_then, unwrap_or, is_some, IsTrue, MatchOption, ⊤}
 use Rattle.sg_kinds.specs.Terms.{Term, nodes_of, height_of}
 use Rattle.sg_kinds.specs.Specification.{Bytes, Spec, Phylum, Shape, Attr, Operator, Local, Scheme, Item, Rule, Function, Transform, Production, Symbol, Entry, truths, numbers, texts, args_of, phylum_of, has_shape, is_lexical_shape, is_list_shape, is_leaf_shape, rules_of}
@@ -80,7 +81,8 @@ abbrev pub IsSmall : Term → Type 0
 IsSmall t = (nodes_of t ≤ 65536) × (height_of t ≤ 1024)
 
 abbrev pub IsFinite : Spec → ℕ → Type 0
-IsFinite spec p = MatchOption (completing_within spec 1024 p) ⊥ IsSmall × MatchOption (placeholder_within spec 1023 p) ⊥ IsSmall
+IsFinite spec p = MatchOption (completing_within spec 1024 p) ⊥ IsSmall
+    × MatchOption (placeholder_within spec 1023 p) ⊥ IsSmall
 
 -- the place of a lexeme phylum's pattern
 abbrev pub lexeme_place : Shape → List ℕ
@@ -92,7 +94,8 @@ pub record HasShapes (spec : Spec) : Type 0 where
   pub ops : All (λ (o : Operator). o.phylum < length spec.phyla) spec.ops
   pub args : All (λ (o : Operator). All (λ p. IsTrue (is_usable spec p)) o.args) spec.ops
   pub locals : All (λ (o : Operator). All (λ (l : Local). IsTrue (is_usable spec l.of)) o.locals) spec.ops
-  pub root : MatchOption (slice_get spec.phyla spec.root) ⊥ (λ x. (1 ≤ length x.ops) × All (λ (a : Attr). a.way ≡ Synthesized) x.attrs)
+  pub root : MatchOption (slice_get spec.phyla spec.root) ⊥ (λ x. (1 ≤ length x.ops)
+      × All (λ (a : Attr). a.way ≡ Synthesized) x.attrs)
   pub lexemes : flat_map (λ (x : Phylum). lexeme_place x.shape) spec.phyla ≡ below (length spec.lexemes)
   pub finite : (p : ℕ) → p < length spec.phyla → IsFinite spec p
 
@@ -101,7 +104,8 @@ abbrev pub base_names : List Bytes
 base_names = (66 ∷ 79 ∷ 79 ∷ 76 ∷ []) ∷ (73 ∷ 78 ∷ 84 ∷ []) ∷ (83 ∷ 84 ∷ 82 ∷ []) ∷ []
 
 abbrev pub builtin_names : List Bytes
-builtin_names = (83 ∷ 84 ∷ 82 ∷ 116 ∷ 111 ∷ 73 ∷ 78 ∷ 84 ∷ []) ∷ (73 ∷ 78 ∷ 84 ∷ 116 ∷ 111 ∷ 83 ∷ 84 ∷ 82 ∷ []) ∷ (83 ∷ 84 ∷ 82 ∷ 108 ∷ 101 ∷ 110 ∷ []) ∷ []
+builtin_names = (83 ∷ 84 ∷ 82 ∷ 116 ∷ 111 ∷ 73 ∷ 78 ∷ 84 ∷ []) ∷ (73 ∷ 78 ∷ 84 ∷ 116 ∷ 111 ∷ 83 ∷ 84 ∷ 82 ∷ [])
+    ∷ (83 ∷ 84 ∷ 82 ∷ 108 ∷ 101 ∷ 110 ∷ []) ∷ []
 
 -- no name stands twice
 abbrev pub AreDistinct : List Bytes → Type 0
@@ -109,33 +113,39 @@ AreDistinct names = AllPairs ◌≢◌ names
 
 -- a nonterminal's name is no phylum's, and tells its number
 abbrev pub IsNamed : Spec → Production → Type 0
-IsNamed spec r = All (λ (x : Phylum). x.name ≢ r.name) spec.phyla × All (λ (s : Production). (s.name ≡ r.name) ↔ (s.left ≡ r.left)) spec.productions
+IsNamed spec r = All (λ (x : Phylum). x.name ≢ r.name) spec.phyla
+    × All (λ (s : Production). (s.name ≡ r.name) ↔ (s.left ≡ r.left)) spec.productions
 
 -- nonterminals are numbered by their first production
 abbrev pub IsNumbered : List Production → Type 0
-IsNumbered productions = (n : ℕ) (r : Production) → slice_get productions n ≡ Some r → (k : ℕ) → k < r.left → Contains (map (λ (s : Production). s.left) (take n productions)) k
+IsNumbered productions = (n : ℕ) (r : Production) → slice_get productions n ≡ Some r → (k : ℕ) → k < r.left
+    → Contains (map (λ (s : Production). s.left) (take n productions)) k
 
 pub record HasNames (spec : Spec) : Type 0 where
   pub base : map (λ (x : Phylum). x.name) (take 3 spec.phyla) ≡ base_names
   pub phyla : AreDistinct (map (λ (x : Phylum). x.name) spec.phyla)
   pub nonterminals : All (IsNamed spec) spec.productions
   pub numbered : IsNumbered spec.productions
-  pub callables : AreDistinct (map (λ (o : Operator). o.name) spec.ops ++ (map (λ (f : Function). f.name) spec.functions ++ builtin_names))
+  pub callables : AreDistinct (map (λ (o : Operator). o.name) spec.ops
+      ++ (map (λ (f : Function). f.name) spec.functions ++ builtin_names))
   pub attrs : All (λ (x : Phylum). AreDistinct (map (λ (a : Attr). a.name) x.attrs)) spec.phyla
   pub locals : All (λ (o : Operator). AreDistinct (map (λ (l : Local). l.name) o.locals)) spec.ops
 
--- whether an operator's equations define an occurrence: a synthesized attribute or local of the left side, an inherited one of an argument
+-- whether an operator's equations define an occurrence: a synthesized attribute or local of the left side, an
+-- inherited one of an argument
 abbrev pub is_owed : Spec → ℕ → ℕ → ℕ → Bool
 is_owed spec op zero slot = is_some (slot_type spec op 0 slot) && not (is_inherited_there (rules_of spec) op 0 slot)
 is_owed spec op (suc k) slot = is_inherited_there (rules_of spec) op (suc k) slot
 
 -- whether an equation is well typed
 abbrev pub is_rule_typed : Spec → Rule → Bool
-is_rule_typed spec r = unwrap_or (option_and_then (λ p. option_map (λ G. is_typed spec G r.expr p) (types_at spec r.op r.args)) (slot_type spec r.op r.target.at r.target.slot)) false
+is_rule_typed spec r = unwrap_or (option_and_then (λ p. option_map (λ G. is_typed spec G r.expr p)
+    (types_at spec r.op r.args)) (slot_type spec r.op r.target.at r.target.slot)) false
 
 -- what an operator's equations are to define has exactly one, and there is no other equation
 pub record HasRules (spec : Spec) : Type 0 where
-  pub one_each : (op k slot : ℕ) → op < length spec.ops → IsTrue (is_owed spec op k slot) → count_by (defines op (record { at = k; slot = slot })) spec.rules ≡ 1
+  pub one_each : (op k slot : ℕ) → op < length spec.ops → IsTrue (is_owed spec op k slot)
+      → count_by (defines op (record { at = k; slot = slot })) spec.rules ≡ 1
   pub no_other : All (λ (r : Rule). IsTrue (is_owed spec r.op r.target.at r.target.slot)) spec.rules
   pub typed : All (λ (r : Rule). IsTrue (is_rule_typed spec r)) spec.rules
 
@@ -151,21 +161,26 @@ symbol_type spec (Nonterminal n) = option_map (λ p. p ∷ []) (result_type spec
 
 abbrev pub symbol_types : Spec → List Symbol → Option (List ℕ)
 symbol_types spec [] = Some []
-symbol_types spec (X ∷ Xs) = option_and_then (λ ps. option_map (λ qs. ps ++ qs) (symbol_types spec Xs)) (symbol_type spec X)
+symbol_types spec (X ∷ Xs) = option_and_then (λ ps. option_map (λ qs. ps ++ qs) (symbol_types spec Xs))
+    (symbol_type spec X)
 
 -- functions, transformations and input productions are well typed
 pub record IsTyped (spec : Spec) : Type 0 where
   pub functions : All (λ (f : Function). IsTrue (is_typed spec f.params f.body f.result)) spec.functions
   pub params : All (λ (f : Function). All (λ p. IsTrue (is_usable spec p)) (f.result ∷ f.params)) spec.functions
-  pub transforms : All (λ (x : Transform). MatchOption (bound_types spec x.pattern x.phylum) ⊥ (λ G. IsTrue (is_typed spec G x.expr x.phylum))) spec.transforms
+  pub transforms : All (λ (x : Transform). MatchOption (bound_types spec x.pattern x.phylum) ⊥
+      (λ G. IsTrue (is_typed spec G x.expr x.phylum))) spec.transforms
   pub phyla : All (λ (x : Transform). IsTrue (is_usable spec x.phylum)) spec.transforms
-  pub productions : All (λ (r : Production). MatchOption (symbol_types spec r.right) ⊥ (λ G. IsTrue (is_typed spec G r.expr r.of))) spec.productions
-  pub results : All (λ (r : Production). (result_type spec r.left ≡ Some r.of) × IsTrue (is_usable spec r.of)) spec.productions
+  pub productions : All (λ (r : Production). MatchOption (symbol_types spec r.right) ⊥
+      (λ G. IsTrue (is_typed spec G r.expr r.of))) spec.productions
+  pub results : All (λ (r : Production). (result_type spec r.left ≡ Some r.of)
+      × IsTrue (is_usable spec r.of)) spec.productions
 
 -- a shown phylum: the root, or an argument phylum of an operator of a shown phylum
 pub data IsShown (spec : Spec) : ℕ → Type 0 where
   root : IsShown spec spec.root
-  argument : (op p q : ℕ) → phylum_of spec.ops op ≡ Some p → IsShown spec p → Contains (args_of spec.ops op) q → IsShown spec q
+  argument : (op p q : ℕ) → phylum_of spec.ops op ≡ Some p → IsShown spec p → Contains (args_of spec.ops op) q
+      → IsShown spec q
 
 -- how many places a scheme has
 abbrev pub is_place : Item → Bool
@@ -180,11 +195,13 @@ separators_fit may places (Separates s ∷ items) = may && (nat_eq places 1 && s
 separators_fit may places (item ∷ items) = separators_fit may places items
 
 abbrev pub is_pair : Spec → ℕ → Bool
-is_pair spec op = unwrap_or (option_map (λ p. has_shape spec.phyla is_list_shape p && nat_eq (length (args_of spec.ops op)) 2) (phylum_of spec.ops op)) false
+is_pair spec op = unwrap_or (option_map (λ p. has_shape spec.phyla is_list_shape p
+    && nat_eq (length (args_of spec.ops op)) 2) (phylum_of spec.ops op)) false
 
 -- BOOL, INT, STR and the lexeme phyla can be shown
 abbrev pub IsItem : Spec → ℕ → Item → Type 0
-IsItem spec op (Shows o) = MatchOption (slot_type spec op o.at o.slot) ⊥ (λ p. IsTrue (has_shape spec.phyla is_leaf_shape p))
+IsItem spec op (Shows o) = MatchOption (slot_type spec op o.at o.slot) ⊥
+    (λ p. IsTrue (has_shape spec.phyla is_leaf_shape p))
 IsItem spec op item = ⊤
 
 pub record IsScheme (spec : Spec) (op : ℕ) (s : Scheme) : Type 0 where
@@ -204,7 +221,8 @@ HasLexemes spec = All (λ p. Matches p [] → ⊥) spec.lexemes
 pub record HasEntries (spec : Spec) : Type 0 where
   pub once : AllPairs (λ (x y : Entry). x.phylum ≢ y.phylum) spec.entries
   pub usable : All (λ (x : Entry). IsTrue (is_usable spec x.phylum)) spec.entries
-  pub results : All (λ (x : Entry). MatchOption (result_type spec x.nonterminal) ⊥ (λ p. IsTrue (is_accepted spec p x.phylum))) spec.entries
+  pub results : All (λ (x : Entry). MatchOption (result_type spec x.nonterminal) ⊥
+      (λ p. IsTrue (is_accepted spec p x.phylum))) spec.entries
 
 pub record IsSound (spec : Spec) : Type 0 where
   pub counted : AreCounted spec

@@ -73,7 +73,8 @@ is_way_inherited Synthesized = false
 is_way_inherited Inherited = true
 
 abbrev pub is_inherited : List Phylum → ℕ → ℕ → Bool
-is_inherited phyla p slot = unwrap_or (option_map (λ (a : Attr). is_way_inherited a.way) (slice_get (attrs_of phyla p) slot)) false
+is_inherited phyla p slot = unwrap_or (option_map (λ (a : Attr). is_way_inherited a.way)
+    (slice_get (attrs_of phyla p) slot)) false
 
 -- what the attribute equations need of a specification
 abbrev pub rules_of : Spec → Rules

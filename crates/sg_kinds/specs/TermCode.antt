@@ -42,11 +42,13 @@ acts [] rows = rows
 acts (i ∷ is) rows = acts is (act i rows)
 
 mutual
-  pub acts-code_of : (t : Term) (k : List Instruction) (r : Terms) (rs : List Terms) → acts (code_of t k) (r ∷ rs) ≡ acts k (AndTerm t r ∷ rs)
+  pub acts-code_of : (t : Term) (k : List Instruction) (r : Terms) (rs : List Terms)
+      → acts (code_of t k) (r ∷ rs) ≡ acts k (AndTerm t r ∷ rs)
   acts-code_of (Leaf p v) k r rs = refl
   acts-code_of (Node op scheme elided ts) k r rs = acts-codes_of ts (node op scheme elided ∷ k) (r ∷ rs)
 
-  pub acts-codes_of : (ts : Terms) (k : List Instruction) (rs : List Terms) → acts (codes_of ts k) (NoTerm ∷ rs) ≡ acts k (ts ∷ rs)
+  pub acts-codes_of : (ts : Terms) (k : List Instruction) (rs : List Terms)
+      → acts (codes_of ts k) (NoTerm ∷ rs) ≡ acts k (ts ∷ rs)
   acts-codes_of NoTerm k rs = refl
   acts-codes_of (AndTerm t ts) k rs = acts-codes_of ts (code_of t k) rs ∙ acts-code_of t k ts rs
 
@@ -60,4 +62,5 @@ first_of_rows (r ∷ rs) = first_term r
 
 -- terms are stored as their instructions
 abbrev pub term_code : Coded Term
-term_code = code_by (List Instruction) (coded_list instruction_code) (λ t. code_of t []) (λ is. first_of_rows (acts is (NoTerm ∷ []))) (λ t. ap first_of_rows (acts-code_of t [] NoTerm []))
+term_code = code_by (List Instruction) (coded_list instruction_code) (λ t. code_of t [])
+    (λ is. first_of_rows (acts is (NoTerm ∷ []))) (λ t. ap first_of_rows (acts-code_of t [] NoTerm []))

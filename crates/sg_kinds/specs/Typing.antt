@@ -23,7 +23,8 @@ abbrev pub whitespace : Bytes
 whitespace = 87 ∷ 72 ∷ 73 ∷ 84 ∷ 69 ∷ 83 ∷ 80 ∷ 65 ∷ 67 ∷ 69 ∷ []
 
 abbrev pub is_usable : Spec → ℕ → Bool
-is_usable spec p = unwrap_or (option_map (λ (x : Phylum). not (is_lexical_shape x.shape && bytes_eq x.name whitespace)) (slice_get spec.phyla p)) false
+is_usable spec p = unwrap_or (option_map (λ (x : Phylum). not (is_lexical_shape x.shape
+    && bytes_eq x.name whitespace)) (slice_get spec.phyla p)) false
 
 abbrev pub only_if : Bool → ℕ → Option ℕ
 only_if b p = cond b (Some p) None
@@ -63,11 +64,13 @@ sign_types sign = (numbers, numbers)
 abbrev pub binary_type : Spec → Sign → ℕ → ℕ → Option ℕ
 binary_type spec Equal p q = only_if (agree spec p q) truths
 binary_type spec Unequal p q = only_if (agree spec p q) truths
-binary_type spec sign p q = only_if (is_accepted spec p (sign_types sign).0 && is_accepted spec q (sign_types sign).0) (sign_types sign).1
+binary_type spec sign p q = only_if (is_accepted spec p (sign_types sign).0
+    && is_accepted spec q (sign_types sign).0) (sign_types sign).1
 
 -- the list phylum of a binary operator with an element
 abbrev pub cons_type : Spec → ℕ → ℕ → Option ℕ → List ℕ → Option ℕ
-cons_type spec p q (Some l) (e ∷ m ∷ []) = only_if (has_shape spec.phyla is_list_shape l && (nat_eq l m && (is_accepted spec p e && is_accepted spec q l))) l
+cons_type spec p q (Some l) (e ∷ m ∷ []) = only_if (has_shape spec.phyla is_list_shape l
+    && (nat_eq l m && (is_accepted spec p e && is_accepted spec q l))) l
 cons_type spec p q o args = None
 
 -- a constant pattern fits the phylum of its value, a text besides the lexeme phyla
@@ -82,11 +85,13 @@ abbrev mutual
   bound_types spec Anything p = Some []
   bound_types spec Variable p = Some (p ∷ [])
   bound_types spec (MadeAs made q) p = cond (is_usable spec q && is_accepted spec q p) (Some []) None
-  bound_types spec (Applied op ps) p = cond (unwrap_or (option_map (nat_eq p) (phylum_of spec.ops op)) false) (bound_types_all spec ps (args_of spec.ops op)) None
+  bound_types spec (Applied op ps) p = cond (unwrap_or (option_map (nat_eq p) (phylum_of spec.ops op)) false)
+      (bound_types_all spec ps (args_of spec.ops op)) None
 
   pub bound_types_all : Spec → Patterns → List ℕ → Option (List ℕ)
   bound_types_all spec NoPattern [] = Some []
-  bound_types_all spec (AndPattern x xs) (p ∷ ps) = option_and_then (λ bs. option_map (λ cs. bs ++ cs) (bound_types_all spec xs ps)) (bound_types spec x p)
+  bound_types_all spec (AndPattern x xs) (p ∷ ps) = option_and_then
+      (λ bs. option_map (λ cs. bs ++ cs) (bound_types_all spec xs ps)) (bound_types spec x p)
   bound_types_all spec xs ps = None
 
 -- the type of an expression, where it has one
@@ -96,12 +101,17 @@ abbrev mutual
   type_of spec G (Named k) = slice_get G k
   type_of spec G (MadeOf made p) = only_if (is_usable spec p) p
   type_of spec G (Single f a) = unary_type spec f (type_of spec G a)
-  type_of spec G (Binary sign a b) = option_and_then (λ p. option_and_then (binary_type spec sign p) (type_of spec G b)) (type_of spec G a)
-  type_of spec G (Logical c a b) = only_if (is_found spec truths (type_of spec G a) && is_found spec truths (type_of spec G b)) truths
-  type_of spec G (Cons op a b) = option_and_then (λ p. option_and_then (λ q. cons_type spec p q (phylum_of spec.ops op) (args_of spec.ops op)) (type_of spec G b)) (type_of spec G a)
-  type_of spec G (Choice c a b) = cond (is_found spec truths (type_of spec G c)) (option_and_then (λ p. where_fits spec p p (type_of spec G b)) (type_of spec G a)) None
+  type_of spec G (Binary sign a b) = option_and_then (λ p. option_and_then (binary_type spec sign p)
+      (type_of spec G b)) (type_of spec G a)
+  type_of spec G (Logical c a b) = only_if (is_found spec truths (type_of spec G a)
+      && is_found spec truths (type_of spec G b)) truths
+  type_of spec G (Cons op a b) = option_and_then (λ p. option_and_then
+      (λ q. cons_type spec p q (phylum_of spec.ops op) (args_of spec.ops op)) (type_of spec G b)) (type_of spec G a)
+  type_of spec G (Choice c a b) = cond (is_found spec truths (type_of spec G c))
+      (option_and_then (λ p. where_fits spec p p (type_of spec G b)) (type_of spec G a)) None
   type_of spec G (Apply op es) = cond (all_fit spec G es (args_of spec.ops op)) (phylum_of spec.ops op) None
-  type_of spec G (Call f es) = option_and_then (λ (g : Function). only_if (all_fit spec G es g.params) g.result) (slice_get spec.functions f)
+  type_of spec G (Call f es) = option_and_then (λ (g : Function). only_if (all_fit spec G es g.params) g.result)
+      (slice_get spec.functions f)
   type_of spec G (Let a b) = option_and_then (λ p. type_of spec (G ++ p ∷ []) b) (type_of spec G a)
   type_of spec G (With a cases) = option_and_then (λ p. case_type spec G p cases) (type_of spec G a)
 
@@ -115,12 +125,14 @@ abbrev mutual
   pub case_type : Spec → List ℕ → ℕ → Cases → Option ℕ
   case_type spec G p NoCase = None
   case_type spec G p (Default e) = None
-  case_type spec G p (Case x e rest) = option_and_then (λ t. only_if (rest_fits spec G p t rest) t) (option_and_then (λ bs. type_of spec (G ++ bs) e) (bound_types spec x p))
+  case_type spec G p (Case x e rest) = option_and_then (λ t. only_if (rest_fits spec G p t rest) t)
+      (option_and_then (λ bs. type_of spec (G ++ bs) e) (bound_types spec x p))
 
   pub rest_fits : Spec → List ℕ → ℕ → ℕ → Cases → Bool
   rest_fits spec G p t NoCase = true
   rest_fits spec G p t (Default e) = is_found spec t (type_of spec G e)
-  rest_fits spec G p t (Case x e rest) = is_found spec t (option_and_then (λ bs. type_of spec (G ++ bs) e) (bound_types spec x p)) && rest_fits spec G p t rest
+  rest_fits spec G p t (Case x e rest) = is_found spec t
+      (option_and_then (λ bs. type_of spec (G ++ bs) e) (bound_types spec x p)) && rest_fits spec G p t rest
 
 -- the types of the slots at an occurrence of an operator: its attributes, and at the left side the locals behind them
 abbrev pub attr_types : Spec → Option ℕ → List ℕ
@@ -137,8 +149,10 @@ slot_type spec op k slot = slice_get (slots_there spec op k) slot
 -- the types of an equation's bindings
 abbrev pub types_at : Spec → ℕ → List Occurrence → Option (List ℕ)
 types_at spec op [] = Some []
-types_at spec op (o ∷ os) = option_and_then (λ p. option_map (λ ps. p ∷ ps) (types_at spec op os)) (slot_type spec op o.at o.slot)
+types_at spec op (o ∷ os) = option_and_then (λ p. option_map (λ ps. p ∷ ps) (types_at spec op os))
+    (slot_type spec op o.at o.slot)
 
--- whether an expression of the specification has, with these bindings, a type that is accepted where the phylum is wanted
+-- whether an expression of the specification has, with these bindings, a type that is accepted where the phylum is
+-- wanted
 abbrev pub is_typed : Spec → List ℕ → ℕ → ℕ → Bool
 is_typed spec G e p = is_found spec p (option_and_then (type_of spec G) (slice_get spec.exprs e))

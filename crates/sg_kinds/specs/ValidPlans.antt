@@ -31,28 +31,35 @@ vertices rules p = attrs_before rules p (suc (length (args_of rules.ops p))) + l
 pub record ArePositions (rules : Rules) (p : ℕ) (layer : ℕ → ℕ → ℕ) (plans : Plans) : Type 0 where
   pub count : length (row_at plans.places p) ≡ vertices rules p
   pub different : AllPairs ◌≢◌ (row_at plans.places p)
-  pub agree : (u v : Occurrence) → Extended rules layer p u v → position_in rules plans p u < position_in rules plans p v
+  pub agree : (u v : Occurrence) → Extended rules layer p u v
+      → position_in rules plans p u < position_in rules plans p v
 
 -- a step of p: one of its equations, at its target's position, or a visit of an argument that is no leaf, at its seat
 abbrev pub IsStepAt : Rules → Plans → ℕ → PlanStep → ℕ → Type 0
-IsStepAt rules plans p (Eval r) q = MatchOption (slice_get rules.rules r) ⊥ (λ x. (x.op ≡ p) × (q ≡ position_in rules plans p x.target))
-IsStepAt rules plans p (Visit k j) q = MatchOption (slice_get (args_of rules.ops p) k) ⊥ (λ X. (has_shape rules.phyla is_leaf_shape X ≡ false) × (1 ≤ j) × (j ≤ visit_count plans X) × (q ≡ seat rules plans p k j))
+IsStepAt rules plans p (Eval r) q = MatchOption (slice_get rules.rules r) ⊥ (λ x. (x.op ≡ p)
+    × (q ≡ position_in rules plans p x.target))
+IsStepAt rules plans p (Visit k j) q = MatchOption (slice_get (args_of rules.ops p) k) ⊥
+    (λ X. (has_shape rules.phyla is_leaf_shape X ≡ false) × (1 ≤ j) × (j ≤ visit_count plans X)
+    × (q ≡ seat rules plans p k j))
 
 -- what visit j of p does: exactly the steps whose positions belong to it, in rising order of position
 pub record AreStepsOf (rules : Rules) (plans : Plans) (p j : ℕ) (steps : List PlanStep) : Type 0 where
-  pub members : (s : PlanStep) → Contains steps s ↔ ((q : ℕ) × IsStepAt rules plans p s q × (belongs rules plans p q ≡ j))
+  pub members : (s : PlanStep) → Contains steps s ↔ ((q : ℕ) × IsStepAt rules plans p s q
+      × (belongs rules plans p q ≡ j))
   pub rising : AllPairs (λ s t. (q r : ℕ) → IsStepAt rules plans p s q → IsStepAt rules plans p t r → q < r) steps
 
 pub record AreSteps (rules : Rules) (p : ℕ) (plans : Plans) : Type 0 where
   pub count : MatchOption (phylum_of rules.ops p) ⊥ (λ X. length (row_at plans.steps p) ≡ visit_count plans X)
-  pub each : (j : ℕ) → j < length (row_at plans.steps p) → AreStepsOf rules plans p (suc j) (row_at (row_at plans.steps p) j)
+  pub each : (j : ℕ) → j < length (row_at plans.steps p)
+      → AreStepsOf rules plans p (suc j) (row_at (row_at plans.steps p) j)
 
 -- the equations of p that name a vertex, in source order
 abbrev pub names : Rules → ℕ → ℕ → Rule → Bool
 names rules p v r = nat_eq r.op p && is_some (find (λ o. nat_eq (vertex rules p o) v) r.args)
 
 abbrev pub readers_of : Rules → ℕ → ℕ → List ℕ
-readers_of rules p v = filter (λ r. unwrap_or (option_map (names rules p v) (slice_get rules.rules r)) false) (below (length rules.rules))
+readers_of rules p v = filter (λ r. unwrap_or (option_map (names rules p v) (slice_get rules.rules r)) false)
+    (below (length rules.rules))
 
 abbrev pub AreReaders : Rules → ℕ → Plans → Type 0
 AreReaders rules p plans = row_at plans.readers p ≡ map (readers_of rules p) (below (vertices rules p))

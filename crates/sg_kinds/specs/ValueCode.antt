@@ -50,14 +50,16 @@ acts [] rows = rows
 acts (i ∷ is) rows = acts is (act i rows)
 
 mutual
-  pub acts-code_of : (v : Value) (k : List Instruction) (r : Values) (rs : List Values) → acts (code_of v k) (r ∷ rs) ≡ acts k (AndValue v r ∷ rs)
+  pub acts-code_of : (v : Value) (k : List Instruction) (r : Values) (rs : List Values)
+      → acts (code_of v k) (r ∷ rs) ≡ acts k (AndValue v r ∷ rs)
   acts-code_of (Truth b) k r rs = refl
   acts-code_of (Number z) k r rs = refl
   acts-code_of (Chars s) k r rs = refl
   acts-code_of (Tree op vs) k r rs = acts-codes_of vs (tree op ∷ k) (r ∷ rs)
   acts-code_of (Fault kind) k r rs = refl
 
-  pub acts-codes_of : (vs : Values) (k : List Instruction) (rs : List Values) → acts (codes_of vs k) (NoValue ∷ rs) ≡ acts k (vs ∷ rs)
+  pub acts-codes_of : (vs : Values) (k : List Instruction) (rs : List Values)
+      → acts (codes_of vs k) (NoValue ∷ rs) ≡ acts k (vs ∷ rs)
   acts-codes_of NoValue k rs = refl
   acts-codes_of (AndValue v vs) k rs = acts-codes_of vs (code_of v k) rs ∙ acts-code_of v k vs rs
 
@@ -71,4 +73,5 @@ first_of_rows (r ∷ rs) = first_value r
 
 -- values are stored as their instructions
 abbrev pub value_code : Coded Value
-value_code = code_by (List Instruction) (coded_list instruction_code) (λ v. code_of v []) (λ is. first_of_rows (acts is (NoValue ∷ []))) (λ v. ap first_of_rows (acts-code_of v [] NoValue []))
+value_code = code_by (List Instruction) (coded_list instruction_code) (λ v. code_of v [])
+    (λ is. first_of_rows (acts is (NoValue ∷ []))) (λ v. ap first_of_rows (acts-code_of v [] NoValue []))

@@ -34,16 +34,20 @@ visit_count plans X = max 1 (greatest (row_at plans.visits X))
 
 -- the synthesized attributes of X in its visit j
 abbrev pub given_in : Rules → Plans → ℕ → ℕ → List ℕ
-given_in rules plans X j = filter (λ a. not (is_inherited rules.phyla X a) && nat_eq (slice_index (row_at plans.visits X) a) j) (below (length (attrs_of rules.phyla X)))
+given_in rules plans X j = filter (λ a. not (is_inherited rules.phyla X a)
+    && nat_eq (slice_index (row_at plans.visits X) a) j) (below (length (attrs_of rules.phyla X)))
 
 -- whether a visit of the left side has a synthesized attribute at a position or later
 abbrev pub gives_from : Rules → Plans → ℕ → ℕ → ℕ → ℕ → Bool
-gives_from rules plans p X q j = is_some (find (λ a. nat_le q (position_in rules plans p (occurrence 0 a))) (given_in rules plans X j))
+gives_from rules plans p X q j = is_some (find (λ a. nat_le q (position_in rules plans p (occurrence 0 a)))
+    (given_in rules plans X j))
 
--- the visit of the left side to which a position belongs: the first with a synthesized attribute there or later, else the last
+-- the visit of the left side to which a position belongs: the first with a synthesized attribute there or later, else
+-- the last
 abbrev pub belongs_by : Rules → Plans → ℕ → ℕ → Option ℕ → ℕ
 belongs_by rules plans p q None = 1
-belongs_by rules plans p q (Some X) = unwrap_or (find (gives_from rules plans p X q) (map suc (below (visit_count plans X)))) (visit_count plans X)
+belongs_by rules plans p q (Some X) = unwrap_or (find (gives_from rules plans p X q)
+    (map suc (below (visit_count plans X)))) (visit_count plans X)
 
 abbrev pub belongs : Rules → Plans → ℕ → ℕ → ℕ
 belongs rules plans p q = belongs_by rules plans p q (phylum_of rules.ops p)
@@ -58,7 +62,8 @@ after_all plans p = suc (greatest (row_at plans.places p))
 
 abbrev pub seat_by : Rules → Plans → ℕ → ℕ → ℕ → Option ℕ → ℕ
 seat_by rules plans p k j None = after_all plans p + k
-seat_by rules plans p k j (Some X) = unwrap_or (least (map (λ a. position_in rules plans p (occurrence (suc k) a)) (given_in rules plans X j))) (after_all plans p + k)
+seat_by rules plans p k j (Some X) = unwrap_or (least (map (λ a. position_in rules plans p (occurrence (suc k) a))
+    (given_in rules plans X j))) (after_all plans p + k)
 
 abbrev pub seat : Rules → Plans → ℕ → ℕ → ℕ → ℕ
 seat rules plans p k j = seat_by rules plans p k j (slice_get (args_of rules.ops p) k)

@@ -29,8 +29,8 @@ pub enum Counted {
     Symbols,
 }
 
-/// A symbol of the grammar as a conflict prints it: the end, the marker of an entry's phylum, a literal, or the name of a
-/// lexeme phylum or nonterminal.
+/// A symbol of the grammar as a conflict prints it: the end, the marker of an entry's phylum, a literal, or the name
+/// of a lexeme phylum or nonterminal.
 #[derive(Drop)]
 pub enum PrintedSymbol {
     End,
@@ -39,7 +39,8 @@ pub enum PrintedSymbol {
     Name(Text),
 }
 
-/// An item as a conflict prints it: the nonterminal (none for a start production), the right side, and the place of the dot.
+/// An item as a conflict prints it: the nonterminal (none for a start production), the right side, and the place of
+/// the dot.
 #[derive(Drop)]
 pub struct PrintedItem {
     pub left: Option<Text>,
@@ -56,8 +57,8 @@ pub struct PrintedConflict {
     pub second: PrintedItem,
 }
 
-/// A vertex of a cycle as it prints: an attribute of the left side, an attribute of an argument's numbered occurrence, or
-/// a local.
+/// A vertex of a cycle as it prints: an attribute of the left side, an attribute of an argument's numbered
+/// occurrence, or a local.
 #[derive(Drop)]
 pub enum PrintedVertex {
     Own(Text),

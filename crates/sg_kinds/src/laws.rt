@@ -23,8 +23,10 @@ pub fn plain_terms()
 /// Completing terms and placeholders fit where the shapes of a specification are sound.
 #[tactic(auto, using(crate::proofs::MadeFits::completing_fits, crate::proofs::MadeFits::placeholder_fits))]
 pub fn made_terms_fit()
-    ensures completing { (spec : Spec) → HasShapes spec → (p : ℕ) → p < length spec.phyla → Fits spec (completing spec p) p }
-    ensures placeholder { (spec : Spec) → HasShapes spec → (p : ℕ) → p < length spec.phyla → Fits spec (placeholder spec p) p }
+    ensures completing { (spec : Spec) → HasShapes spec → (p : ℕ) → p < length spec.phyla
+        → Fits spec (completing spec p) p }
+    ensures placeholder { (spec : Spec) → HasShapes spec → (p : ℕ) → p < length spec.phyla
+        → Fits spec (placeholder spec p) p }
 {}
 
 /// The computed equality of values is their equality.
@@ -48,8 +50,8 @@ pub fn puts_and_subterms()
     ensures same { (t : Term) (u : Place) (x : Term) → sub t u ≡ Some x → put t u x ≡ t }
 {}
 
-/// Counts of a term and of its value: a term that fits is as deep as its value, has no more nodes than the value has size,
-/// and is no deeper than it has nodes.
+/// Counts of a term and of its value: a term that fits is as deep as its value, has no more nodes than the value has
+/// size, and is no deeper than it has nodes.
 #[tactic(auto, using(crate::proofs::PlainFits::depth_of_value, crate::proofs::PlainFits::nodes_within_size, crate::proofs::PlainFits::height_within_nodes))]
 pub fn counts_of_terms()
     ensures depth { (spec : Spec) (t : Term) (p : ℕ) → Fits spec t p → depth_of (value_of t) ≡ height_of t }

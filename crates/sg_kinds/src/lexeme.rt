@@ -2,8 +2,8 @@
 use crate::row::Row;
 use std::marker::Model;
 
-/// The pattern of a lexeme phylum as steps in postfix order: each makes a pattern, of the one or the two made last where
-/// it joins. So a pattern as long as a text is copied and dropped by a loop.
+/// The pattern of a lexeme phylum as steps in postfix order: each makes a pattern, of the one or the two made last
+/// where it joins. So a pattern as long as a text is copied and dropped by a loop.
 #[derive(Drop)]
 pub struct Lexeme {
     pub steps: Row<LexemeStep>,

@@ -102,7 +102,8 @@ impl Spec {
         phyla: &[PhylumId],
         room: u32,
     ) -> Result<Option<Terms0>, NoMemory>
-        ensures { IfOk result (λ ts. MatchOption ts (all_made (completing_within self.now room) phyla.now ≡ None) (λ v. all_made (completing_within self.now room) phyla.now ≡ Some (kids_of v.items))) }
+        ensures { IfOk result (λ ts. MatchOption ts (all_made (completing_within self.now room) phyla.now
+            ≡ None) (λ v. all_made (completing_within self.now room) phyla.now ≡ Some (kids_of v.items))) }
     {
         let mut kids = Vec::with_capacity(alloc, phyla.len())?;
         for p in phyla {
@@ -184,7 +185,8 @@ impl Spec {
     #[cycle(plain)]
     #[tactic(auto, using(crate::proofs::Planned::plain_first, crate::proofs::Planned::plain_next, crate::proofs::Planned::plain_last, crate::proofs::Kids::depth_at))]
     fn plain_all(&self, alloc: Global, kids: &[Value], op: OpId) -> Result<Terms0, NoMemory>
-        ensures { IfOk result (λ ts. kids_of ts.items ≡ plain_all self.now (row_of kids.now) (args_of self.now.ops op)) }
+        ensures { IfOk result (λ ts. kids_of ts.items ≡ plain_all self.now (row_of kids.now)
+            (args_of self.now.ops op)) }
     {
         let mut terms = Vec::with_capacity(alloc, kids.len())?;
         for k in 0..kids.len() {

@@ -26,7 +26,8 @@ pub enum Way {
     Inherited,
 }
 
-/// What a phylum is: a base phylum, a lexeme phylum with the place of its pattern in `lexemes`, or a phylum with operators.
+/// What a phylum is: a base phylum, a lexeme phylum with the place of its pattern in `lexemes`, or a phylum with
+/// operators.
 #[derive(Clone, Copy, PartialEq, Eq)]
 pub enum Shape {
     Truths,

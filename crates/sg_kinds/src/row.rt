@@ -5,7 +5,8 @@ use crate::memory::NoMemory;
 use std::alloc::Global;
 use std::marker::Model;
 
-/// A list that a record keeps, which contracts see as a list. It is made from a `Vec` and gives it back, without memory.
+/// A list that a record keeps, which contracts see as a list. It is made from a `Vec` and gives it back, without
+/// memory.
 #[derive(Drop)]
 pub struct Row<T> {
     items: Vec<T>,

@@ -31,8 +31,8 @@ pub struct Local {
     pub of: PhylumId,
 }
 
-/// An attribute occurrence of an operator. `at` is 0 for the left side and k + 1 for argument k; `slot` is a place in the
-/// attributes of the phylum there or, past these at the left side, in the operator's locals.
+/// An attribute occurrence of an operator. `at` is 0 for the left side and k + 1 for argument k; `slot` is a place in
+/// the attributes of the phylum there or, past these at the left side, in the operator's locals.
 #[derive(Clone, Copy, PartialEq, Eq)]
 pub struct Occurrence {
     pub at: u32,
@@ -75,8 +75,8 @@ pub struct Operator {
     pub schemes: Row<Scheme>,
 }
 
-/// An equation of an operator: what it defines, and the different occurrences that its expression names, in the order of
-/// their first mention. These are the bindings of the expression.
+/// An equation of an operator: what it defines, and the different occurrences that its expression names, in the order
+/// of their first mention. These are the bindings of the expression.
 #[derive(Drop)]
 pub struct Rule {
     pub op: OpId,
@@ -112,8 +112,8 @@ pub enum Symbol {
 }
 
 /// An input production of a nonterminal, with the phylum of its result. Nonterminals are numbered by their first
-/// production. The results of the nonterminals and the texts of the lexemes, from left to right, are the bindings of the
-/// expression.
+/// production. The results of the nonterminals and the texts of the lexemes, from left to right, are the bindings of
+/// the expression.
 #[derive(Drop)]
 pub struct Production {
     pub name: Text,

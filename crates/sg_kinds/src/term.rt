@@ -3,8 +3,8 @@ use crate::ids::{OpId, PhylumId};
 use crate::value::Value;
 use std::marker::Model;
 
-/// A term: a leaf of a base or lexeme phylum with its value, or a node with its operator, scheme number, elided mark and
-/// children.
+/// A term: a leaf of a base or lexeme phylum with its value, or a node with its operator, scheme number, elided mark
+/// and children.
 #[cycle(term)]
 #[derive(Drop)]
 pub struct Term {

@@ -15,8 +15,8 @@ pub const SIZE_LIMIT: u32 = 65536;
 /// The greatest depth of a value.
 pub const DEPTH_LIMIT: u32 = 1024;
 
-/// A value: a truth value, a number, a text, a tree, or why there is none. Its size and depth are kept beside it, as far as
-/// one past their limits.
+/// A value: a truth value, a number, a text, a tree, or why there is none. Its size and depth are kept beside it, as
+/// far as one past their limits.
 #[cycle(value)]
 #[derive(Drop)]
 pub struct Value {

@@ -63,20 +63,24 @@ pub record ComesFrom (g : Grammar) (kernels cores : List (List Item)) (k : ℕ) 
   pub next : HasNext g (row_at cores o.state) o.symbol
   pub behind : row_at kernels (suc k) ≡ advance g o.symbol (row_at cores o.state)
 
--- the kernels that were found, the cores of the first of them, the moves of the first of these, and from where all but the first state came
-pub record IsPart (g : Grammar) (kernels cores : List (List Item)) (moves : List (List Move)) (origins : List Origin) : Type 0 where
+-- the kernels that were found, the cores of the first of them, the moves of the first of these, and from where all
+-- but the first state came
+pub record IsPart (g : Grammar) (kernels cores : List (List Item)) (moves : List (List Move))
+    (origins : List Origin) : Type 0 where
   pub some : 0 < length kernels
   pub first : row_at kernels 0 ≡ start_items g
   pub kernel : (v : ℕ) → v < length kernels → IsKernel g (row_at kernels v)
   pub few : length cores ≤ length kernels
   pub closed : (s : ℕ) → s < length cores → IsClosure g (row_at kernels s) (row_at cores s)
   pub expanded : length moves ≤ length cores
-  pub leads : (s X : ℕ) → s < length moves → HasNext g (row_at cores s) X → IsBehind g kernels (row_at cores s) X (goto moves s X)
+  pub leads : (s X : ℕ) → s < length moves → HasNext g (row_at cores s) X
+      → IsBehind g kernels (row_at cores s) X (goto moves s X)
   pub count : length kernels ≡ suc (length origins)
   pub comes : (k : ℕ) → k < length origins → ComesFrom g kernels cores k (origin_at origins k)
   pub distinct : AllPairs ◌≢◌ kernels
   pub rising : AllPairs Earlier origins
-  pub earliest : (s X k : ℕ) → s < length moves → HasNext g (row_at cores s) X → goto moves s X ≡ suc k → NotLater (origin_at origins k) (origin s X)
+  pub earliest : (s X k : ℕ) → s < length moves → HasNext g (row_at cores s) X → goto moves s X ≡ suc k
+      → NotLater (origin_at origins k) (origin s X)
   pub sorted : (s : ℕ) → s < length moves → IsSorted (moves_at moves s)
 
 -- the kernels with one more
@@ -100,7 +104,8 @@ pub record Overflows (g : Grammar) : Type 0 where
   pub absent : Contains kernels (advance g symbol (row_at cores state)) → ⊥
 
 -- the states with their cores and moves are all that there are, and not too many
-pub record IsWhole (g : Grammar) (kernels cores : List (List Item)) (moves : List (List Move)) (origins : List Origin) : Type 0 where
+pub record IsWhole (g : Grammar) (kernels cores : List (List Item)) (moves : List (List Move))
+    (origins : List Origin) : Type 0 where
   pub part : IsPart g kernels cores moves origins
   pub cored : length cores ≡ length kernels
   pub moved : length moves ≡ length kernels
@@ -114,4 +119,5 @@ state_of moves (X ∷ w) = goto moves (state_of moves w) X
 -- the prefix by which a state was found first
 pub data FoundBy (origins : List Origin) : ℕ → List ℕ → Type 0 where
   at_first : FoundBy origins 0 []
-  further : (k s : ℕ) (w : List ℕ) → k < length origins → s ≡ (origin_at origins k).state → FoundBy origins s w → FoundBy origins (suc k) ((origin_at origins k).symbol ∷ w)
+  further : (k s : ℕ) (w : List ℕ) → k < length origins → s ≡ (origin_at origins k).state → FoundBy origins s w
+      → FoundBy origins (suc k) ((origin_at origins k).symbol ∷ w)

@@ -11,7 +11,8 @@ use Rattle.sg_lalr.specs.Lookaheads.{node_at}
 -- what node m does on a terminal
 abbrev pub Does : Grammar → List Node → List (List Bool) → ℕ → ℕ → Deed → Type 0
 Does g nodes rows t m Shifts = symbol_of g (node_at nodes m).item ≡ Some t
-Does g nodes rows t m (Reduces p) = (p ≡ (node_at nodes m).item.production) × (symbol_of g (node_at nodes m).item ≡ None) × Holds rows m t
+Does g nodes rows t m (Reduces p) = (p ≡ (node_at nodes m).item.production)
+    × (symbol_of g (node_at nodes m).item ≡ None) × Holds rows m t
 
 -- two nodes between two places do different things on a terminal
 pub record Clashes (g : Grammar) (nodes : List Node) (rows : List (List Bool)) (from to t : ℕ) : Type 0 where
@@ -33,12 +34,15 @@ abbrev pub ShiftsThere : Grammar → List Node → ℕ → ℕ → ℕ → Type 
 ShiftsThere g nodes from to t = (m : ℕ) × (from ≤ m) × (m < to) × (symbol_of g (node_at nodes m).item ≡ Some t)
 
 abbrev pub ReducesThere : Grammar → List Node → List (List Bool) → ℕ → ℕ → ℕ → Type 0
-ReducesThere g nodes rows from to t = (m : ℕ) × (from ≤ m) × (m < to) × (symbol_of g (node_at nodes m).item ≡ None) × Holds rows m t
+ReducesThere g nodes rows from to t = (m : ℕ) × (from ≤ m) × (m < to) × (symbol_of g (node_at nodes m).item ≡ None)
+    × Holds rows m t
 
 -- completed items between two places are of different productions
 abbrev pub IsApart : Grammar → List Node → ℕ → ℕ → Type 0
-IsApart g nodes from to = (m n : ℕ) → from ≤ m → m < n → n < to → symbol_of g (node_at nodes m).item ≡ None → symbol_of g (node_at nodes n).item ≡ None → (node_at nodes m).item.production ≢ (node_at nodes n).item.production
+IsApart g nodes from to = (m n : ℕ) → from ≤ m → m < n → n < to → symbol_of g (node_at nodes m).item ≡ None
+    → symbol_of g (node_at nodes n).item ≡ None → (node_at nodes m).item.production ≢ (node_at nodes n).item.production
 
 -- no state below this one has a conflict
 abbrev pub IsClearBelow : Grammar → List Node → List ℕ → List (List Bool) → ℕ → Type 0
-IsClearBelow g nodes firsts rows s = (r u : ℕ) → r < s → Clashes g nodes rows (slice_index firsts r) (slice_index firsts (suc r)) u → ⊥
+IsClearBelow g nodes firsts rows s = (r u : ℕ) → r < s
+    → Clashes g nodes rows (slice_index firsts r) (slice_index firsts (suc r)) u → ⊥

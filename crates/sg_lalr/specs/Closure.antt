@@ -7,7 +7,8 @@ use Rattle.sg_lalr.specs.Items.{Item, item, symbol_of, IsRising}
 
 pub data In (g : Grammar) (kernel : List Item) : ℕ → ℕ → Type 0 where
   kept : (p d : ℕ) → Contains kernel (item p d) → In g kernel p d
-  opened : (p d X q : ℕ) (r : Production) → In g kernel p d → symbol_at g p d ≡ Some X → slice_get g.rules q ≡ Some r → X ≡ r.left → In g kernel q zero
+  opened : (p d X q : ℕ) (r : Production) → In g kernel p d → symbol_at g p d ≡ Some X → slice_get g.rules q ≡ Some r
+      → X ≡ r.left → In g kernel q zero
 
 abbrev pub InRange : Grammar → Item → Type 0
 InRange g i = i.production < length g.rules + length g.entries
@@ -24,12 +25,14 @@ HasLeft rules X b = (r : Production) × (slice_get rules b ≡ Some r) × (X ≡
 
 -- production b is a, or its left side begins the right side of a
 abbrev pub LeadsTo : List Production → ℕ → ℕ → Type 0
-LeadsTo rules a b = (b ≡ a) ⊎ ((r : Production) × (X : ℕ) × (slice_get rules a ≡ Some r) × (slice_get r.right 0 ≡ Some X) × HasLeft rules X b)
+LeadsTo rules a b = (b ≡ a) ⊎ ((r : Production) × (X : ℕ) × (slice_get rules a ≡ Some r)
+    × (slice_get r.right 0 ≡ Some X) × HasLeft rules X b)
 
 -- the left side of a production is a left corner of a's right side, in some steps or none
 pub data Corner (rules : List Production) : ℕ → ℕ → Type 0 where
   same : (a : ℕ) (r : Production) → slice_get rules a ≡ Some r → Corner rules a a
-  further : (a b c X : ℕ) (r : Production) → Corner rules a b → slice_get rules b ≡ Some r → slice_get r.right 0 ≡ Some X → HasLeft rules X c → Corner rules a c
+  further : (a b c X : ℕ) (r : Production) → Corner rules a b → slice_get rules b ≡ Some r
+      → slice_get r.right 0 ≡ Some X → HasLeft rules X c → Corner rules a c
 
 -- the production begins in the closure because of this symbol behind a dot
 abbrev pub Opens : List Production → ℕ → ℕ → Type 0

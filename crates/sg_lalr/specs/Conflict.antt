@@ -7,7 +7,8 @@ use Rattle.sg_lalr.specs.Items.{Item, Before}
 use Rattle.sg_lalr.specs.Prefixes.{Less}
 use Rattle.sg_lalr.specs.ValidItems.{InCore, Looks}
 
--- what an item of the core does on a terminal: it shifts where its dot is before it, and reduces where its dot is at the end and the terminal is its lookahead
+-- what an item of the core does on a terminal: it shifts where its dot is before it, and reduces where its dot is at
+-- the end and the terminal is its lookahead
 abbrev pub Acts : Grammar → List ℕ → ℕ → Item → Deed → Type 0
 Acts g w t i Shifts = (symbol_at g i.production i.dot ≡ Some t) × InCore g w i.production i.dot
 Acts g w t i (Reduces p) = (p ≡ i.production) × (symbol_at g i.production i.dot ≡ None) × Looks g w i.production i.dot t
@@ -23,7 +24,8 @@ pub record Conflict (g : Grammar) (w : List ℕ) (t : ℕ) : Type 0 where
   pub acts_too : Acts g w t other differs
   pub different : does ≢ differs
 
--- the conflict of the least prefix that has one, on its least terminal, with the first item that acts on it and the first that acts otherwise
+-- the conflict of the least prefix that has one, on its least terminal, with the first item that acts on it and the
+-- first that acts otherwise
 pub record LeastConflict (g : Grammar) (w : List ℕ) (t : ℕ) (i j : Item) : Type 0 where
   pub least_prefix : (h : List ℕ) (u : ℕ) → Conflict g h u → Less h w → ⊥
   pub least_terminal : (u : ℕ) → Conflict g w u → t ≤ u

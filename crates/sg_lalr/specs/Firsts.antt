@@ -8,7 +8,8 @@ use Rattle.sg_lalr.specs.Least.{Grown}
 -- what a symbol derives can begin with u
 pub data First (g : Grammar) : ℕ → ℕ → Type 0 where
   itself : (X : ℕ) → X < g.terminals → First g X X
-  within : (q d X Y u : ℕ) (r : Production) → slice_get g.rules q ≡ Some r → X ≡ r.left → Grown g.rules 0 (take d r.right) → slice_get r.right d ≡ Some Y → First g Y u → First g X u
+  within : (q d X Y u : ℕ) (r : Production) → slice_get g.rules q ≡ Some r → X ≡ r.left
+      → Grown g.rules 0 (take d r.right) → slice_get r.right d ≡ Some Y → First g Y u → First g X u
 
 -- what a string derives can begin with u
 abbrev pub Firsts : Grammar → List ℕ → ℕ → Type 0

@@ -1,4 +1,5 @@
--- The order of prefixes, and more of them than there may be states. The symbols of a prefix stand from the last to the first.
+-- The order of prefixes, and more of them than there may be states. The symbols of a prefix stand from the last to
+-- the first.
 use Rattle.std.specs.Prelude.{◌≡◌, ℕ, ◌<◌, ◌⊎◌, ⊤, List, [], ◌∷◌, length, All, AllPairs}
 use Rattle.sg_grammar.specs.Grammar.{Grammar}
 use Rattle.sg_lalr.specs.ValidItems.{Viable, SameCore}

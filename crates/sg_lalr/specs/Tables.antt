@@ -1,4 +1,5 @@
--- The tables of a grammar as contracts see them: the grammar, and the cores of its viable prefixes. A state is a place among them.
+-- The tables of a grammar as contracts see them: the grammar, and the cores of its viable prefixes. A state is a
+-- place among them.
 use Rattle.std.specs.Prelude.{◌≡◌, ◌≢◌, ◌↔◌, ⊤, ℕ, ◌<◌, ◌≤◌, Bool, List, [], ◌∷◌, length, reverse, Contains}
 use Rattle.sg_grammar.specs.Grammar.{Grammar}
 use Rattle.sg_grammar.specs.WellFormed.{IsWellFormed}
@@ -36,14 +37,17 @@ pub record IsTables (v : View) : Type 0 where
   pub productive : AllProductive v.grammar
   pub first : 0 < length v.grammar.entries → (0 < length v.cores) × IsCore v.grammar [] (row_at v.cores 0)
   pub none : length v.grammar.entries ≡ 0 → v.cores ≡ []
-  pub realized : (s : ℕ) → s < length v.cores → (w : List ℕ) × Viable v.grammar w × IsCore v.grammar w (row_at v.cores s)
-  pub complete : (w : List ℕ) → Viable v.grammar w → (s : ℕ) × (s < length v.cores) × IsCore v.grammar w (row_at v.cores s)
+  pub realized : (s : ℕ) → s < length v.cores → (w : List ℕ) × Viable v.grammar w
+      × IsCore v.grammar w (row_at v.cores s)
+  pub complete : (w : List ℕ) → Viable v.grammar w → (s : ℕ) × (s < length v.cores)
+      × IsCore v.grammar w (row_at v.cores s)
   pub distinct : (s u : ℕ) → s < u → u < length v.cores → row_at v.cores s ≢ row_at v.cores u
   pub quiet : IsQuiet v.grammar
 
 -- state u is behind the symbol in state s: it is the core of each prefix of s that is longer by it
 abbrev pub Leads : View → ℕ → ℕ → ℕ → Type 0
-Leads v s X u = (u < length v.cores) × ((w : List ℕ) → IsCore v.grammar w (row_at v.cores s) → IsCore v.grammar (X ∷ w) (row_at v.cores u))
+Leads v s X u = (u < length v.cores) × ((w : List ℕ) → IsCore v.grammar w (row_at v.cores s)
+    → IsCore v.grammar (X ∷ w) (row_at v.cores u))
 
 -- an item of the state does this on the terminal
 abbrev pub ActsIn : View → ℕ → ℕ → Deed → Type 0
@@ -54,7 +58,8 @@ abbrev pub IsAction : View → ℕ → ℕ → Action → Type 0
 IsAction v s t (action.Shift u) = ActsIn v s t Shifts × Leads v s t u
 IsAction v s t (action.Reduce p) = (p < length v.grammar.rules) × ActsIn v s t (Reduces p)
 IsAction v s t action.Accept = (p : ℕ) × (length v.grammar.rules ≤ p) × ActsIn v s t (Reduces p)
-IsAction v s t action.Stop = (w : List ℕ) (i : Item) (a : Deed) → IsCore v.grammar w (row_at v.cores s) → Acts v.grammar w t i a → ⊥
+IsAction v s t action.Stop = (w : List ℕ) (i : Item) (a : Deed) → IsCore v.grammar w (row_at v.cores s)
+    → Acts v.grammar w t i a → ⊥
 
 -- what is decided of tables: what a state does on a terminal, and the state behind a symbol
 pub record Decided (v : View) : Type 0 where
@@ -71,14 +76,16 @@ IsTableFault g (fault.Conflict w t i j) = AllProductive g × (TooMany g → ⊥)
 IsTableFault g fault.NoMemory = ⊤
 
 -- the automaton and the lookaheads of a grammar with an entry
-pub record IsFull (g : Grammar) (kernels cores : List (List Item)) (moves : List (List Move)) (origins : List Origin) (nodes : List Node) (firsts : List ℕ) (rows : List (List Bool)) : Type 0 where
+pub record IsFull (g : Grammar) (kernels cores : List (List Item)) (moves : List (List Move)) (origins : List Origin)
+    (nodes : List Node) (firsts : List ℕ) (rows : List (List Bool)) : Type 0 where
   pub whole : IsWhole g kernels cores moves origins
   pub laid : IsLaid cores nodes firsts
   pub exact : AreLookaheads g moves nodes rows
   pub quiet : IsQuiet g
 
 -- what tables keep
-pub record IsMade (g : Grammar) (kernels cores : List (List Item)) (moves : List (List Move)) (origins : List Origin) (nodes : List Node) (firsts : List ℕ) (rows : List (List Bool)) : Type 0 where
+pub record IsMade (g : Grammar) (kernels cores : List (List Item)) (moves : List (List Move)) (origins : List Origin)
+    (nodes : List Node) (firsts : List ℕ) (rows : List (List Bool)) : Type 0 where
   pub productive : AllProductive g
   pub none : length g.entries ≡ 0 → cores ≡ []
   pub full : 0 < length g.entries → IsFull g kernels cores moves origins nodes firsts rows

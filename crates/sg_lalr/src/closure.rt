@@ -15,7 +15,8 @@ fn add_lefts(relation: &mut Relation, rules: &[Production], a: usize, left: u32)
     requires size { length relation.old ≡ length rules.now }
     requires there { a < length rules.now }
     ensures size { length relation.new ≡ length relation.old }
-    ensures gains { (x y : ℕ) → Holds relation.new x y ↔ (Holds relation.old x y ⊎ ((x ≡ a) × HasLeft rules.now left y)) }
+    ensures gains { (x y : ℕ) → Holds relation.new x y
+        ↔ (Holds relation.old x y ⊎ ((x ≡ a) × HasLeft rules.now left y)) }
 {
     for (b, rule) in rules.iter().enumerate() {
         if rule.left == left {
@@ -79,7 +80,8 @@ fn open_all(g: &Grammar, corners: &Relation, kernel: &[Item], set: &mut BitSet)
     requires exact { (x y : ℕ) → Holds corners.now x y ↔ Corner g.now.rules x y }
     requires within { All (InRange g.now) kernel.now }
     ensures width { length set.new ≡ length set.old }
-    ensures gains { (q : ℕ) → Has set.new q ↔ (Has set.old q ⊎ ((i : Item) × Contains kernel.now i × OpensAt g.now i q)) }
+    ensures gains { (q : ℕ) → Has set.new q ↔ (Has set.old q
+        ⊎ ((i : Item) × Contains kernel.now i × OpensAt g.now i q)) }
 {
     for item in kernel {
         if let Some(x) = g.symbol_at(item.production, item.dot) {
@@ -98,7 +100,8 @@ fn merge(
     requires rising { IsRising kernel.now }
     requires dots { All (λ i. i.production < rules → 0 < i.dot) kernel.now }
     ensures rising { IfOk result (λ v. IsRising v.items) }
-    ensures has { IfOk result (λ v. (i : Item) → Contains v.items i ↔ (Contains kernel.now i ⊎ IsOpened rules opened.now i)) }
+    ensures has { IfOk result (λ v. (i : Item) → Contains v.items i
+        ↔ (Contains kernel.now i ⊎ IsOpened rules opened.now i)) }
 {
     let mut items = Vec::with_capacity(alloc, kernel.len())?;
     let mut at = 0;

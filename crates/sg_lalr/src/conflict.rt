@@ -54,7 +54,8 @@ fn shifted(g: &Grammar, nodes: &[Node], from: usize, to: usize, set: &mut BitSet
     requires range { (m : ℕ) → m < length nodes.now → InRange g.now (node_at nodes.now m).item }
     requires width { length set.old ≡ g.now.terminals }
     ensures width { length set.new ≡ g.now.terminals }
-    ensures gains { (t : ℕ) → Has set.new t ↔ (Has set.old t ⊎ ((t < g.now.terminals) × ShiftsThere g.now nodes.now from to t)) }
+    ensures gains { (t : ℕ) → Has set.new t ↔ (Has set.old t
+        ⊎ ((t < g.now.terminals) × ShiftsThere g.now nodes.now from to t)) }
 {
     for m in from..to {
         if let Some(x) = terminal_of(g, nodes[m].item) {
@@ -75,7 +76,8 @@ fn lesser(best: usize, found: Option<usize>) -> usize
     }
 }
 
-/// The least terminal on which nodes between two places do different things, or the number of terminals where there is none.
+/// The least terminal on which nodes between two places do different things, or the number of terminals where there
+/// is none.
 pub(crate) fn least_clash(
     g: &Grammar,
     nodes: &[Node],
@@ -155,8 +157,10 @@ pub(crate) fn first_but(
     ensures within { IfSome result (λ r. (from ≤ r.0) × (r.0 < to)) }
     ensures some { IfSome result (λ r. Does g.now nodes.now rows.now.rows t r.0 r.1) }
     ensures other { IfSome result (λ r. Some r.1 ≢ but) }
-    ensures first { IfSome result (λ r. (k : ℕ) (a : Deed) → from ≤ k → k < r.0 → Does g.now nodes.now rows.now.rows t k a → Some a ≡ but) }
-    ensures none { IfNone result ((k : ℕ) (a : Deed) → from ≤ k → k < to → Does g.now nodes.now rows.now.rows t k a → Some a ≡ but) }
+    ensures first { IfSome result (λ r. (k : ℕ) (a : Deed) → from ≤ k → k < r.0
+        → Does g.now nodes.now rows.now.rows t k a → Some a ≡ but) }
+    ensures none { IfNone result ((k : ℕ) (a : Deed) → from ≤ k → k < to → Does g.now nodes.now rows.now.rows t k a
+        → Some a ≡ but) }
 {
     for m in from..to {
         if let Some(deed) = other_deed(g, nodes, rows, m, t, but) {

@@ -25,7 +25,8 @@ fn link_rule(
     rule: &Production,
     links: &mut Vec<(usize, usize)>,
 ) -> Result<(), AllocError>
-    ensures { OnOk result ((a b : ℕ) → Linked links.new.items a b ↔ (Linked links.old.items a b ⊎ ((b ≡ rule.now.left) × StandsBehind nullable.now rule.now.right a))) }
+    ensures { OnOk result ((a b : ℕ) → Linked links.new.items a b
+        ↔ (Linked links.old.items a b ⊎ ((b ≡ rule.now.left) × StandsBehind nullable.now rule.now.right a))) }
 {
     let right = rule.right.as_slice();
     for d in 0..right.len() {
@@ -42,7 +43,8 @@ fn link_rules(
     nullable: &BitSet,
     rules: &[Production],
 ) -> Result<Vec<(usize, usize)>, AllocError>
-    ensures { IfOk result (λ v. (a b : ℕ) → Linked v.items a b ↔ ((r : Production) × Contains rules.now r × (b ≡ r.left) × StandsBehind nullable.now r.right a)) }
+    ensures { IfOk result (λ v. (a b : ℕ) → Linked v.items a b
+        ↔ ((r : Production) × Contains rules.now r × (b ≡ r.left) × StandsBehind nullable.now r.right a)) }
 {
     let mut links = Vec::new(alloc);
     for rule in rules {
@@ -77,7 +79,8 @@ pub(crate) fn first_of(
 ) -> Result<BitSet, AllocError>
     requires { All (λ X. X < length rows.now.rows) symbols.now }
     ensures width { IfOk result (λ s. length s ≡ rows.now.width) }
-    ensures exact { IfOk result (λ s. (u : ℕ) → Has s u ↔ ((Y : ℕ) × StandsBehind nullable.now symbols.now Y × Holds rows.now.rows Y u)) }
+    ensures exact { IfOk result (λ s. (u : ℕ) → Has s u
+        ↔ ((Y : ℕ) × StandsBehind nullable.now symbols.now Y × Holds rows.now.rows Y u)) }
 {
     let mut set = BitSet::new(alloc, rows.width())?;
     for d in 0..symbols.len() {

@@ -74,8 +74,10 @@ fn link_item(
 ) -> Result<(), AllocError>
     requires order { from ≤ to }
     requires to { to ≤ length nodes.now }
-    requires rising { (m n : ℕ) → from ≤ m → m < n → n < to → Before (node_at nodes.now m).item (node_at nodes.now n).item }
-    ensures { OnOk result ((x y : ℕ) → Linked links.new.items x y ↔ (Linked links.old.items x y ⊎ ((x ≡ a) × (from ≤ y) × (y < to) × ((node_at nodes.now y).item ≡ item)))) }
+    requires rising { (m n : ℕ) → from ≤ m → m < n → n < to
+        → Before (node_at nodes.now m).item (node_at nodes.now n).item }
+    ensures { OnOk result ((x y : ℕ) → Linked links.new.items x y
+        ↔ (Linked links.old.items x y ⊎ ((x ≡ a) × (from ≤ y) × (y < to) × ((node_at nodes.now y).item ≡ item)))) }
 {
     let b = place_of(nodes, from, to, item);
     if b < to && nodes[b].item == item {
@@ -97,9 +99,12 @@ fn link_begun(
 ) -> Result<(), AllocError>
     requires order { from ≤ to }
     requires to { to ≤ length nodes.now }
-    requires rising { (m n : ℕ) → from ≤ m → m < n → n < to → Before (node_at nodes.now m).item (node_at nodes.now n).item }
+    requires rising { (m n : ℕ) → from ≤ m → m < n → n < to
+        → Before (node_at nodes.now m).item (node_at nodes.now n).item }
     requires lefts { AreLefts g.now.rules (map (λ k. k.items) lefts.now) }
-    ensures { OnOk result ((x' y : ℕ) → Linked links.new.items x' y ↔ (Linked links.old.items x' y ⊎ ((x' ≡ a) × (from ≤ y) × (y < to) × BeginsWith g.now (node_at nodes.now y).item x))) }
+    ensures { OnOk result ((x' y : ℕ) → Linked links.new.items x' y
+        ↔ (Linked links.old.items x' y ⊎ ((x' ≡ a) × (from ≤ y) × (y < to)
+        × BeginsWith g.now (node_at nodes.now y).item x))) }
 {
     let rules = of_symbol(lefts, x);
     for &q in rules {
@@ -112,11 +117,13 @@ fn link_begun(
 fn seed_item(nodes: &[Node], from: usize, to: usize, item: Item, first: &BitSet, rows: &mut Rows)
     requires order { from ≤ to }
     requires to { to ≤ length nodes.now }
-    requires rising { (m n : ℕ) → from ≤ m → m < n → n < to → Before (node_at nodes.now m).item (node_at nodes.now n).item }
+    requires rising { (m n : ℕ) → from ≤ m → m < n → n < to
+        → Before (node_at nodes.now m).item (node_at nodes.now n).item }
     requires count { length nodes.now ≡ length rows.old.rows }
     requires width { length first.now ≡ rows.old.width }
     ensures shape { SameShape rows.old rows.new }
-    ensures gains { (y u : ℕ) → Holds rows.new.rows y u ↔ (Holds rows.old.rows y u ⊎ ((from ≤ y) × (y < to) × ((node_at nodes.now y).item ≡ item) × Has first.now u)) }
+    ensures gains { (y u : ℕ) → Holds rows.new.rows y u
+        ↔ (Holds rows.old.rows y u ⊎ ((from ≤ y) × (y < to) × ((node_at nodes.now y).item ≡ item) × Has first.now u)) }
 {
     let b = place_of(nodes, from, to, item);
     if b < to && nodes[b].item == item {
@@ -137,12 +144,15 @@ fn seed_begun(
 )
     requires order { from ≤ to }
     requires to { to ≤ length nodes.now }
-    requires rising { (m n : ℕ) → from ≤ m → m < n → n < to → Before (node_at nodes.now m).item (node_at nodes.now n).item }
+    requires rising { (m n : ℕ) → from ≤ m → m < n → n < to
+        → Before (node_at nodes.now m).item (node_at nodes.now n).item }
     requires lefts { AreLefts g.now.rules (map (λ k. k.items) lefts.now) }
     requires count { length nodes.now ≡ length rows.old.rows }
     requires width { length first.now ≡ rows.old.width }
     ensures shape { SameShape rows.old rows.new }
-    ensures gains { (y u : ℕ) → Holds rows.new.rows y u ↔ (Holds rows.old.rows y u ⊎ ((from ≤ y) × (y < to) × BeginsWith g.now (node_at nodes.now y).item x × Has first.now u)) }
+    ensures gains { (y u : ℕ) → Holds rows.new.rows y u
+        ↔ (Holds rows.old.rows y u ⊎ ((from ≤ y) × (y < to) × BeginsWith g.now (node_at nodes.now y).item x
+        × Has first.now u)) }
 {
     let rules = of_symbol(lefts, x);
     for &q in rules {
@@ -192,10 +202,17 @@ fn open_node(
     requires firsts { (X u : ℕ) → Holds begins.now.firsts.rows X u ↔ ((X < g.now.symbols) × First g.now X u) }
     requires rows { length flow.old.rows.rows ≡ length layout.now.nodes.items }
     requires lefts { AreLefts g.now.rules (map (λ k. k.items) begins.now.lefts.items) }
-    requires rising { (s m n : ℕ) → suc s < length layout.now.firsts.items → slice_index layout.now.firsts.items s ≤ m → m < n → n < slice_index layout.now.firsts.items (suc s) → Before (node_at layout.now.nodes.items m).item (node_at layout.now.nodes.items n).item }
+    requires rising { (s m n : ℕ) → suc s < length layout.now.firsts.items → slice_index layout.now.firsts.items s ≤ m
+        → m < n → n < slice_index layout.now.firsts.items (suc s)
+        → Before (node_at layout.now.nodes.items m).item (node_at layout.now.nodes.items n).item }
     ensures shape { OnOk result (SameShape flow.old.rows flow.new.rows) }
-    ensures links { OnOk result ((b c : ℕ) → Linked flow.new.links.items b c ↔ (Linked flow.old.links.items b c ⊎ ((b ≡ a) × (c < length layout.now.nodes.items) × (OpensTo g.now layout.now.nodes.items a c × Grown g.now.rules 0 (rest_of g.now (node_at layout.now.nodes.items a).item))))) }
-    ensures seeds { OnOk result ((c u : ℕ) → Holds flow.new.rows.rows c u ↔ (Holds flow.old.rows.rows c u ⊎ ((c < length layout.now.nodes.items) × Gives g.now layout.now.nodes.items a c u))) }
+    ensures links { OnOk result ((b c : ℕ) → Linked flow.new.links.items b c
+        ↔ (Linked flow.old.links.items b c ⊎ ((b ≡ a) × (c < length layout.now.nodes.items)
+        × (OpensTo g.now layout.now.nodes.items a c × Grown g.now.rules 0
+        (rest_of g.now (node_at layout.now.nodes.items a).item))))) }
+    ensures seeds { OnOk result ((c u : ℕ) → Holds flow.new.rows.rows c u
+        ↔ (Holds flow.old.rows.rows c u ⊎ ((c < length layout.now.nodes.items)
+        × Gives g.now layout.now.nodes.items a c u))) }
 {
     g.sound();
     let node = layout.nodes[a];
@@ -248,7 +265,8 @@ fn link_node(
     flow: &mut Flow,
 ) -> Result<(), AllocError>
     requires there { a < length layout.now.nodes.items }
-    requires whole { IsWhole g.now (map (λ k. k.items) automaton.now.kernels.keys) automaton.now.cores.items automaton.now.moves.items automaton.now.origins.items }
+    requires whole { IsWhole g.now
+        (map (λ k. k.items) automaton.now.kernels.keys) automaton.now.cores.items automaton.now.moves.items automaton.now.origins.items }
     requires laid { IsLaid automaton.now.cores.items layout.now.nodes.items layout.now.firsts.items }
     requires nullable { IsNullable g.now begins.now.nullable }
     requires count { length begins.now.firsts.rows ≡ g.now.symbols }
@@ -257,8 +275,12 @@ fn link_node(
     requires rows { length flow.old.rows.rows ≡ length layout.now.nodes.items }
     requires lefts { AreLefts g.now.rules (map (λ k. k.items) begins.now.lefts.items) }
     ensures shape { OnOk result (SameShape flow.old.rows flow.new.rows) }
-    ensures links { OnOk result ((b c : ℕ) → Linked flow.new.links.items b c ↔ (Linked flow.old.links.items b c ⊎ ((b ≡ a) × (c < length layout.now.nodes.items) × FlowsTo g.now automaton.now.moves.items layout.now.nodes.items a c))) }
-    ensures seeds { OnOk result ((c u : ℕ) → Holds flow.new.rows.rows c u ↔ (Holds flow.old.rows.rows c u ⊎ ((c < length layout.now.nodes.items) × Gives g.now layout.now.nodes.items a c u))) }
+    ensures links { OnOk result ((b c : ℕ) → Linked flow.new.links.items b c
+        ↔ (Linked flow.old.links.items b c ⊎ ((b ≡ a) × (c < length layout.now.nodes.items)
+        × FlowsTo g.now automaton.now.moves.items layout.now.nodes.items a c))) }
+    ensures seeds { OnOk result ((c u : ℕ) → Holds flow.new.rows.rows c u
+        ↔ (Holds flow.old.rows.rows c u ⊎ ((c < length layout.now.nodes.items)
+        × Gives g.now layout.now.nodes.items a c u))) }
 {
     g.sound();
     let node = layout.nodes[a];
@@ -289,7 +311,8 @@ fn seed_starts(g: &Grammar, nodes: &[Node], rows: &mut Rows)
     requires count { length nodes.now ≡ length rows.old.rows }
     requires width { 0 < rows.old.width }
     ensures shape { SameShape rows.old rows.new }
-    ensures gains { (c u : ℕ) → Holds rows.new.rows c u ↔ (Holds rows.old.rows c u ⊎ ((c < length nodes.now) × IsStart g.now (node_at nodes.now c) × (u ≡ 0))) }
+    ensures gains { (c u : ℕ) → Holds rows.new.rows c u
+        ↔ (Holds rows.old.rows c u ⊎ ((c < length nodes.now) × IsStart g.now (node_at nodes.now c) × (u ≡ 0))) }
 {
     for (a, node) in nodes.iter().enumerate() {
         if is_start(g, *node) {
@@ -306,7 +329,8 @@ pub(crate) fn all_lookaheads(
 ) -> Result<Lookaheads, AllocError>
     requires productive { AllProductive g.now }
     requires entry { 0 < length g.now.entries }
-    requires whole { IsWhole g.now (map (λ k. k.items) automaton.now.kernels.keys) automaton.now.cores.items automaton.now.moves.items automaton.now.origins.items }
+    requires whole { IsWhole g.now
+        (map (λ k. k.items) automaton.now.kernels.keys) automaton.now.cores.items automaton.now.moves.items automaton.now.origins.items }
     ensures laid { IfOk result (λ l. IsLaid automaton.now.cores.items l.layout.nodes.items l.layout.firsts.items) }
     ensures count { IfOk result (λ l. length l.rows.rows ≡ length l.layout.nodes.items) }
     ensures width { IfOk result (λ l. l.rows.width ≡ g.now.terminals) }

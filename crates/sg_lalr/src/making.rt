@@ -8,7 +8,8 @@ use crate::table::{TableFault, Tables, with_entry, without_entry};
 use sg_grammar::Grammar;
 use std::alloc::Global;
 
-/// The tables of a grammar, or why it has none: its first unproductive symbol, then too many states, then its least conflict.
+/// The tables of a grammar, or why it has none: its first unproductive symbol, then too many states, then its least
+/// conflict.
 pub fn tables(alloc: Global, g: &Grammar) -> Result<Tables, TableFault>
     ensures ok { IfOk result (λ t. t.grammar ≡ g.now) }
     ensures fit { IfOk result (λ _. TooMany g.now → ⊥) }

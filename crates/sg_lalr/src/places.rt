@@ -19,7 +19,8 @@ fn is_before(i: Item, j: Item) -> bool
 pub(crate) fn place_of(nodes: &[Node], from: usize, to: usize, item: Item) -> usize
     requires order { from ≤ to }
     requires to { to ≤ length nodes.now }
-    requires rising { (m n : ℕ) → from ≤ m → m < n → n < to → Before (node_at nodes.now m).item (node_at nodes.now n).item }
+    requires rising { (m n : ℕ) → from ≤ m → m < n → n < to
+        → Before (node_at nodes.now m).item (node_at nodes.now n).item }
     ensures above { from ≤ result }
     ensures only { (m : ℕ) → from ≤ m → m < to → (node_at nodes.now m).item ≡ item → m ≡ result }
 {

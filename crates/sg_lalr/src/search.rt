@@ -52,13 +52,18 @@ fn describe(
 ) -> Result<Found, AllocError>
     requires productive { AllProductive g.now }
     requires entry { 0 < length g.now.entries }
-    requires whole { IsWhole g.now (map (λ k. k.items) automaton.now.kernels.keys) automaton.now.cores.items automaton.now.moves.items automaton.now.origins.items }
+    requires whole { IsWhole g.now
+        (map (λ k. k.items) automaton.now.kernels.keys) automaton.now.cores.items automaton.now.moves.items automaton.now.origins.items }
     requires laid { IsLaid automaton.now.cores.items looks.now.layout.nodes.items looks.now.layout.firsts.items }
     requires exact { AreLookaheads g.now automaton.now.moves.items looks.now.layout.nodes.items looks.now.rows.rows }
     requires state { state < length automaton.now.cores.items }
     requires clear { IsClearBelow g.now looks.now.layout.nodes.items looks.now.layout.firsts.items looks.now.rows.rows state }
-    requires clashes { Clashes g.now looks.now.layout.nodes.items looks.now.rows.rows (slice_index looks.now.layout.firsts.items state) (slice_index looks.now.layout.firsts.items (suc state)) terminal }
-    requires least { (t : ℕ) → Clashes g.now looks.now.layout.nodes.items looks.now.rows.rows (slice_index looks.now.layout.firsts.items state) (slice_index looks.now.layout.firsts.items (suc state)) t → terminal ≤ t }
+    requires clashes { Clashes g.now looks.now.layout.nodes.items looks.now.rows.rows
+        (slice_index looks.now.layout.firsts.items state)
+        (slice_index looks.now.layout.firsts.items (suc state)) terminal }
+    requires least { (t : ℕ) → Clashes g.now looks.now.layout.nodes.items looks.now.rows.rows
+        (slice_index looks.now.layout.firsts.items state) (slice_index looks.now.layout.firsts.items (suc state)) t
+        → terminal ≤ t }
     ensures { IfOk result (λ f. LeastConflict g.now (reverse f.prefix) f.terminal f.first f.second) }
 {
     g.sound();
@@ -85,13 +90,15 @@ pub(crate) fn least_conflict(
 ) -> Result<Option<Found>, AllocError>
     requires productive { AllProductive g.now }
     requires entry { 0 < length g.now.entries }
-    requires whole { IsWhole g.now (map (λ k. k.items) automaton.now.kernels.keys) automaton.now.cores.items automaton.now.moves.items automaton.now.origins.items }
+    requires whole { IsWhole g.now
+        (map (λ k. k.items) automaton.now.kernels.keys) automaton.now.cores.items automaton.now.moves.items automaton.now.origins.items }
     requires laid { IsLaid automaton.now.cores.items looks.now.layout.nodes.items looks.now.layout.firsts.items }
     requires count { length looks.now.rows.rows ≡ length looks.now.layout.nodes.items }
     requires width { looks.now.rows.width ≡ g.now.terminals }
     requires exact { AreLookaheads g.now automaton.now.moves.items looks.now.layout.nodes.items looks.now.rows.rows }
     ensures none { IfOk result (λ found. IfNone found (IsQuiet g.now)) }
-    ensures some { IfOk result (λ found. IfSome found (λ f. LeastConflict g.now (reverse f.prefix) f.terminal f.first f.second)) }
+    ensures some { IfOk result (λ found. IfSome found (λ f. LeastConflict g.now
+        (reverse f.prefix) f.terminal f.first f.second)) }
 {
     g.sound();
     let mut taken = BitSet::new(alloc, g.terminals() as usize)?;

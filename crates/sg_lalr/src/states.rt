@@ -31,8 +31,8 @@ pub struct Origin {
     pub symbol: u32,
 }
 
-/// The automaton: the kernels of its states, of the first of them the cores, of the first of these the moves, and of each
-/// state but the first its origin.
+/// The automaton: the kernels of its states, of the first of them the cores, of the first of these the moves, and of
+/// each state but the first its origin.
 #[derive(Drop)]
 pub struct Automaton {
     pub(crate) kernels: IndexSet<Vec<Item>>,
@@ -53,7 +53,8 @@ fn find(kernels: &IndexSet<Vec<Item>>, kernel: &[Item]) -> Option<usize>
 /// Puts a kernel that is not among the others behind them.
 fn add(kernels: &mut IndexSet<Vec<Item>>, kernel: Vec<Item>) -> Result<(), AllocError>
     requires { Contains (map (λ k. k.items) kernels.old.keys) kernel.items → ⊥ }
-    ensures { OnOk result (map (λ k. k.items) kernels.new.keys ≡ map (λ k. k.items) kernels.old.keys ++ kernel.items ∷ []) }
+    ensures { OnOk result (map (λ k. k.items) kernels.new.keys
+        ≡ map (λ k. k.items) kernels.old.keys ++ kernel.items ∷ []) }
 {
     kernels.insert(kernel)?;
     Ok(())
@@ -69,8 +70,11 @@ fn enter(
 ) -> Result<Option<u32>, AllocError>
     requires { length kernels.old.keys ≤ MOST_STATES }
     ensures few { OnOk result (length kernels.new.keys ≤ MOST_STATES) }
-    ensures entered { IfOk result (λ found. IfSome found (Entered (map (λ k. k.items) kernels.old.keys) (map (λ k. k.items) kernels.new.keys) origins.old.items origins.new.items kernel.now origin)) }
-    ensures full { IfOk result (λ found. IfNone found ((length kernels.old.keys ≡ MOST_STATES) × (Contains (map (λ k. k.items) kernels.old.keys) kernel.now → ⊥))) }
+    ensures entered { IfOk result (λ found. IfSome found
+        (Entered (map (λ k. k.items) kernels.old.keys)
+        (map (λ k. k.items) kernels.new.keys) origins.old.items origins.new.items kernel.now origin)) }
+    ensures full { IfOk result (λ found. IfNone found ((length kernels.old.keys ≡ MOST_STATES)
+        × (Contains (map (λ k. k.items) kernels.old.keys) kernel.now → ⊥))) }
 {
     if let Some(known) = find(kernels, kernel) {
         return Ok(Some(known as u32));
@@ -87,16 +91,21 @@ fn enter(
 impl Automaton {
     /// Finds the core and the moves of the next state, or answers false where there are too many states.
     fn expand(&mut self, alloc: Global, g: &Grammar, corners: &Relation) -> Result<bool, AllocError>
-        requires part { IsPart g.now (map (λ k. k.items) self.old.kernels.keys) self.old.cores.items self.old.moves.items self.old.origins.items }
+        requires part { IsPart g.now
+            (map (λ k. k.items) self.old.kernels.keys) self.old.cores.items self.old.moves.items self.old.origins.items }
         requires moves { length self.old.moves.items ≡ length self.old.cores.items }
         requires next { length self.old.cores.items < length self.old.kernels.keys }
         requires few { length self.old.kernels.keys ≤ MOST_STATES }
         requires size { length corners.now ≡ length g.now.rules }
         requires exact { (x y : ℕ) → Holds corners.now x y ↔ Corner g.now.rules x y }
         requires entries { 0 < length g.now.entries }
-        ensures part { IfOk result (λ whole. OnTrue whole (IsPart g.now (map (λ k. k.items) self.new.kernels.keys) self.new.cores.items self.new.moves.items self.new.origins.items)) }
-        ensures cores { IfOk result (λ whole. OnTrue whole (length self.new.cores.items ≡ suc (length self.old.cores.items))) }
-        ensures moves { IfOk result (λ whole. OnTrue whole (length self.new.moves.items ≡ length self.new.cores.items)) }
+        ensures part { IfOk result (λ whole. OnTrue whole
+            (IsPart g.now (map
+            (λ k. k.items) self.new.kernels.keys) self.new.cores.items self.new.moves.items self.new.origins.items)) }
+        ensures cores { IfOk result (λ whole. OnTrue whole (length self.new.cores.items
+            ≡ suc (length self.old.cores.items))) }
+        ensures moves { IfOk result (λ whole. OnTrue whole (length self.new.moves.items
+            ≡ length self.new.cores.items)) }
         ensures few { IfOk result (λ whole. OnTrue whole (length self.new.kernels.keys ≤ MOST_STATES)) }
         ensures full { IfOk result (λ whole. OnFalse whole (Overflows g.now)) }
     {
@@ -132,11 +141,13 @@ impl Automaton {
         corners: &Relation,
         state: usize,
     ) -> Result<Vec<Item>, AllocError>
-        requires part { IsPart g.now (map (λ k. k.items) self.now.kernels.keys) self.now.cores.items self.now.moves.items self.now.origins.items }
+        requires part { IsPart g.now
+            (map (λ k. k.items) self.now.kernels.keys) self.now.cores.items self.now.moves.items self.now.origins.items }
         requires there { state < length self.now.kernels.keys }
         requires size { length corners.now ≡ length g.now.rules }
         requires exact { (x y : ℕ) → Holds corners.now x y ↔ Corner g.now.rules x y }
-        ensures { IfOk result (λ core. IsClosure g.now (row_at (map (λ k. k.items) self.now.kernels.keys) state) core.items) }
+        ensures { IfOk result (λ core. IsClosure g.now
+            (row_at (map (λ k. k.items) self.now.kernels.keys) state) core.items) }
     {
         let kernel = self.kernels.get_index(state).unwrap();
         let core = closure(alloc, g, corners, kernel.as_slice())?;
@@ -163,7 +174,8 @@ fn starts(alloc: Global, g: &Grammar) -> Result<Vec<Item>, AllocError>
 /// The automaton of a grammar with an entry, or None where it has too many states.
 pub(crate) fn all_states(alloc: Global, g: &Grammar) -> Result<Option<Automaton>, AllocError>
     requires { 0 < length g.now.entries }
-    ensures whole { IfOk result (λ found. IfSome found (λ a. IsWhole g.now (map (λ k. k.items) a.kernels.keys) a.cores.items a.moves.items a.origins.items)) }
+    ensures whole { IfOk result (λ found. IfSome found
+        (λ a. IsWhole g.now (map (λ k. k.items) a.kernels.keys) a.cores.items a.moves.items a.origins.items)) }
     ensures none { IfOk result (λ found. IfNone found (Overflows g.now)) }
 {
     let corners = corners(alloc, g.rules())?;

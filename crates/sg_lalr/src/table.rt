@@ -68,7 +68,8 @@ impl Model for Tables {
 
     ghost view = { λ t. viewed t.grammar t.automaton.cores.items };
 
-    ghost invariant = { λ t. IsMade t.grammar (map (λ k. k.items) t.automaton.kernels.keys) t.automaton.cores.items t.automaton.moves.items t.automaton.origins.items t.looks.layout.nodes.items t.looks.layout.firsts.items t.looks.rows.rows };
+    ghost invariant = { λ t. IsMade t.grammar
+        (map (λ k. k.items) t.automaton.kernels.keys) t.automaton.cores.items t.automaton.moves.items t.automaton.origins.items t.looks.layout.nodes.items t.looks.layout.firsts.items t.looks.rows.rows };
 }
 
 /// What a state does on a terminal, by its nodes.
@@ -79,7 +80,8 @@ fn action_of(
     state: u32,
     terminal: u32,
 ) -> Action
-    requires made { IsMade g.now (map (λ k. k.items) automaton.now.kernels.keys) automaton.now.cores.items automaton.now.moves.items automaton.now.origins.items looks.now.layout.nodes.items looks.now.layout.firsts.items looks.now.rows.rows }
+    requires made { IsMade g.now
+        (map (λ k. k.items) automaton.now.kernels.keys) automaton.now.cores.items automaton.now.moves.items automaton.now.origins.items looks.now.layout.nodes.items looks.now.layout.firsts.items looks.now.rows.rows }
     requires state { state < length automaton.now.cores.items }
     ensures { IsAction (viewed g.now automaton.now.cores.items) state terminal result }
 {
@@ -115,10 +117,12 @@ fn after_of(
     state: u32,
     x: u32,
 ) -> Option<u32>
-    requires made { IsMade g.now (map (λ k. k.items) automaton.now.kernels.keys) automaton.now.cores.items automaton.now.moves.items automaton.now.origins.items looks.now.layout.nodes.items looks.now.layout.firsts.items looks.now.rows.rows }
+    requires made { IsMade g.now
+        (map (λ k. k.items) automaton.now.kernels.keys) automaton.now.cores.items automaton.now.moves.items automaton.now.origins.items looks.now.layout.nodes.items looks.now.layout.firsts.items looks.now.rows.rows }
     requires state { state < length automaton.now.cores.items }
     requires symbol { x < g.now.symbols }
-    ensures some { IfSome result (λ u. HasNext g.now (row_at automaton.now.cores.items state) x × Leads (viewed g.now automaton.now.cores.items) state x u) }
+    ensures some { IfSome result (λ u. HasNext g.now (row_at automaton.now.cores.items state) x
+        × Leads (viewed g.now automaton.now.cores.items) state x u) }
     ensures none { IfNone result (HasNext g.now (row_at automaton.now.cores.items state) x → ⊥) }
 {
     g.sound();
@@ -174,7 +178,8 @@ impl Tables {
     pub fn after(&self, state: u32, nonterminal: u32) -> Option<u32>
         requires state { state < length self.now.cores }
         requires symbol { nonterminal < self.now.grammar.symbols }
-        ensures some { IfSome result (λ u. HasNext self.now.grammar (row_at self.now.cores state) nonterminal × Leads self.now state nonterminal u) }
+        ensures some { IfSome result (λ u. HasNext self.now.grammar (row_at self.now.cores state) nonterminal
+            × Leads self.now state nonterminal u) }
         ensures none { IfNone result (HasNext self.now.grammar (row_at self.now.cores state) nonterminal → ⊥) }
     {
         after_of(

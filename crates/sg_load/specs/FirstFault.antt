@@ -1,5 +1,5 @@
--- The first static fault of declarations. The table of faults is cut into phases, each of which gives the first fault of its
--- rows.
+-- The first static fault of declarations. The table of faults is cut into phases, each of which gives the first fault
+-- of its rows.
 use Rattle.std.specs.Prelude.{◌≡◌, ◌≢◌, ◌⊎◌, List, [], ◌∷◌, ◌++◌, Option, Some, ⊤}
 use Rattle.sg_kinds.specs.declared.fault.SpecFault.{SpecFault}
 use Rattle.sg_kinds.specs.declared.spec.Spec.{Spec}
@@ -26,8 +26,8 @@ use Rattle.sg_reports.specs.Orders.{printed_order}
 use Rattle.sg_load.specs.Patterns.{IsLexemeFault}
 use Rattle.sg_load.specs.SpecOf.{IsSpecOf}
 
--- counts, names, shapes, made terms and bindings; types; equations; schemes; the patterns of lexeme phyla; entries; tables of
--- the input grammar; the order of evaluation
+-- counts, names, shapes, made terms and bindings; types; equations; schemes; the patterns of lexeme phyla; entries;
+-- tables of the input grammar; the order of evaluation
 pub data Phase : Type 0 where
   Names : Phase
   Types : Phase

@@ -24,7 +24,8 @@ contents spec plans tables lexemes = record { spec = spec; plans = plans; tables
 -- the four as pairs
 abbrev pub contents_code : Coded Spec → Coded Plans → Coded View → Coded Lexemes → Coded Contents
 contents_code a b c d =
-    code_by ((Spec × Plans) × (View × Lexemes)) (coded× (coded× a b) (coded× c d)) (λ l. ((l.spec, l.plans), (l.tables, l.lexemes))) (λ p. contents p.0.0 p.0.1 p.1.0 p.1.1) (λ _. refl)
+    code_by ((Spec × Plans) × (View × Lexemes)) (coded× (coded× a b) (coded× c d))
+    (λ l. ((l.spec, l.plans), (l.tables, l.lexemes))) (λ p. contents p.0.0 p.0.1 p.1.0 p.1.1) (λ _. refl)
 
 -- the record is sound, and the rest is of this record
 pub record BelongTogether (l : Contents) : Type 0 where

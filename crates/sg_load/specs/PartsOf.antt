@@ -4,7 +4,14 @@ use Rattle.sg_kinds.specs.declared.spec.Spec.{Spec}
 use Rattle.sg_load.specs.declared.parts.Rest.{Rest}
 
 abbrev pub rest_of : Spec → Rest
-rest_of spec = record { functions = spec.functions; transforms = spec.transforms; lexemes = spec.lexemes; productions = spec.productions; entries = spec.entries; root = spec.root }
+rest_of spec = record {
+  functions = spec.functions;
+  transforms = spec.transforms;
+  lexemes = spec.lexemes;
+  productions = spec.productions;
+  entries = spec.entries;
+  root = spec.root;
+}
 
 abbrev pub joined : Rules → Rest → Spec
 joined rules rest = record {

@@ -23,7 +23,8 @@ pub fn read_trees_are_written()
 /// The counts of the record are in their limits where none of the declarations is over its own and no definition is a
 /// second one.
 pub fn records_are_counted()
-    ensures { (ds : List Decl) (rules : List Rule) (lexemes : List Lexeme) → limit ds ≡ None → duplicate ds ≡ None → AreCounted (record_of (names_of ds) ds rules lexemes) }
+    ensures { (ds : List Decl) (rules : List Rule) (lexemes : List Lexeme) → limit ds ≡ None → duplicate ds ≡ None
+        → AreCounted (record_of (names_of ds) ds rules lexemes) }
 {}
 
 /// Where no definition is a second one, no nonterminal has the name of a phylum.
@@ -34,6 +35,7 @@ pub fn records_are_apart()
 /// Then the names of each kind are distinct, and nonterminals with one result each are told by their names and by their
 /// numbers.
 pub fn records_have_names()
-    ensures { (ds : List Decl) (rules : List Rule) (lexemes : List Lexeme) → HaveWritten ds → duplicate ds ≡ None → result_count (names_of ds) ≡ None →
+    ensures { (ds : List Decl) (rules : List Rule) (lexemes : List Lexeme) → HaveWritten ds → duplicate ds ≡ None
+        → result_count (names_of ds) ≡ None →
         HasNames (record_of (names_of ds) ds rules lexemes) }
 {}

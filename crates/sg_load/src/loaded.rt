@@ -12,9 +12,9 @@ use sg_lalr::Tables;
 use sg_patterns::Lexemes;
 use std::marker::Model;
 
-/// A specification without a static fault: its record, its plans of evaluation, the tables of its input
-/// grammar, and the lexemes by which texts are scanned. The type keeps that the record is sound, and that the rest is of
-/// this record.
+/// A specification without a static fault: its record, its plans of evaluation, the tables of its input grammar, and
+/// the lexemes by which texts are scanned. The type keeps that the record is sound, and that the rest is of this
+/// record.
 #[derive(Drop)]
 pub struct Loaded {
     pub spec: Spec,

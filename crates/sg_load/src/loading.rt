@@ -166,7 +166,8 @@ fn shown(alloc: Global, decls: &[Decl], names: &Names) -> Result<Row<Lexeme>, Sp
     ensures the { IfOk result (AreTheLexemes (trees_of decls.now)) }
     ensures some { IfOk result (λ ps. All (λ p. Matches p [] → ⊥) ps) }
     ensures none { OnOk result (HaveNoFault (trees_of decls.now) shown_phases) }
-    ensures fault { IfErr result (λ f. f ≢ SpecFault.NoMemory → IsTheFault (trees_of decls.now) (shown_phases ++ late_phases) f) }
+    ensures fault { IfErr result (λ f. f ≢ SpecFault.NoMemory
+        → IsTheFault (trees_of decls.now) (shown_phases ++ late_phases) f) }
 {
     refused(schemes_fault(alloc, decls, names)?)?;
     let lexemes = lexemes(alloc, decls)?;
@@ -188,7 +189,8 @@ fn assemble(
     ensures the { IfOk result (IsTheSpec (trees_of decls.now)) }
     ensures lexemes { IfOk result HasLexemes }
     ensures none { OnOk result (HaveNoFault (trees_of decls.now) shown_phases) }
-    ensures fault { IfErr result (λ f. f ≢ SpecFault.NoMemory → IsTheFault (trees_of decls.now) (shown_phases ++ late_phases) f) }
+    ensures fault { IfErr result (λ f. f ≢ SpecFault.NoMemory
+        → IsTheFault (trees_of decls.now) (shown_phases ++ late_phases) f) }
 {
     let lexemes = shown(alloc, decls, &names)?;
     Ok(record(alloc, decls, names, typed, rules, lexemes)?)

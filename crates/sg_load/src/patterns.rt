@@ -86,8 +86,8 @@ fn empty_fault(alloc: Global, decl: &Decl) -> SpecFault
     }
 }
 
-/// The patterns of the lexeme phyla, in the order of the text; else the fault of the first text that is no pattern, else
-/// that of the first pattern that matches the empty text.
+/// The patterns of the lexeme phyla, in the order of the text; else the fault of the first text that is no pattern,
+/// else that of the first pattern that matches the empty text.
 pub(crate) fn lexemes(alloc: Global, decls: &[Decl]) -> Result<Row<Lexeme>, SpecFault>
     ensures lexemes { IfOk result (AreLexemes (trees_of decls.now)) }
     ensures only { IfOk result (λ ps. (qs : List plain.Lexeme) → AreLexemes (trees_of decls.now) qs → qs ≡ ps) }

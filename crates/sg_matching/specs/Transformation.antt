@@ -20,7 +20,8 @@ is_of_name p name x = nat_eq x.phylum p && bytes_eq x.name name
 -- the outcome of the first whose pattern matches
 abbrev pub first_outcome : Spec → Value → List Transform → Given
 first_outcome spec v [] = NoMatch
-first_outcome spec v (x ∷ xs) = option_map_or (λ bound. Gives (outcome_of spec x.expr bound)) (bound_by spec x.pattern v) (first_outcome spec v xs)
+first_outcome spec v (x ∷ xs) = option_map_or (λ bound. Gives (outcome_of spec x.expr bound))
+    (bound_by spec x.pattern v) (first_outcome spec v xs)
 
 -- what these transformations give
 abbrev pub given_by : Spec → Value → List Transform → Given

@@ -40,7 +40,8 @@ fn op_there(ops: &Row<OpId>, k: u32) -> Option<OpId>
     ops.place(k).copied()
 }
 
-// whether there is a placeholder over completing terms whose depth is at most `room`, and its value is that under the node
+// whether there is a placeholder over completing terms whose depth is at most `room`, and its value is that under the
+// node
 fn is_placeholder(terms: &Terms, p: PhylumId, n: NodeId, room: u32) -> bool
     requires live { IsLive (nodes terms.now) n }
     requires room { room < 1024 }

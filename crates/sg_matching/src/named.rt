@@ -66,8 +66,8 @@ fn has_name(x: &Transform, p: PhylumId, name: &[u8]) -> bool
     x.phylum == p && x.name.as_slice() == name
 }
 
-/// The first transformation of a name, in source order, that stands on a node's phylum and whose pattern matches the term under
-/// the node. It takes no memory. Its cost is that of the patterns of the name.
+/// The first transformation of a name, in source order, that stands on a node's phylum and whose pattern matches the
+/// term under the node. It takes no memory. Its cost is that of the patterns of the name.
 pub fn found(terms: &Terms, name: &[u8], at: NodeId) -> Option<PatternId>
     requires { IsLive (nodes terms.now) at }
     ensures first { (p : ℕ) (t : IsTerm) → Holds terms.now at t → Fits terms.now.spec t p
@@ -84,8 +84,8 @@ pub fn found(terms: &Terms, name: &[u8], at: NodeId) -> Option<PatternId>
     None
 }
 
-/// What the transformations of a name give at a node: the outcome of the first, in source order, that stands on the node's
-/// phylum and whose pattern matches the term under the node. It is of that phylum.
+/// What the transformations of a name give at a node: the outcome of the first, in source order, that stands on the
+/// node's phylum and whose pattern matches the term under the node. It is of that phylum.
 pub fn transform(
     alloc: Global,
     terms: &Terms,

@@ -19,8 +19,8 @@ use sg_kinds::pattern::{PatternList, PatternTree};
 use sg_kinds::row::item;
 use sg_terms::Terms;
 
-/// Whether a transformation's pattern matches the term under a node. It takes no memory. Its cost is the pattern's size,
-/// with that of the made terms that the pattern names.
+/// Whether a transformation's pattern matches the term under a node. It takes no memory. Its cost is the pattern's
+/// size, with that of the made terms that the pattern names.
 pub fn matches(terms: &Terms, p: PatternId, at: NodeId) -> bool
     requires pattern { p < length terms.now.spec.transforms }
     requires live { IsLive (nodes terms.now) at }

@@ -16,7 +16,8 @@ unless_many declared parts n = if nat_eq declared parts then None else Some (fau
 
 abbrev pub arity_at : Table → Use → Option SpecFault
 arity_at t (Calls n parts) = option_and_then (λ c. unless_many (length (params_of t c)) parts n) (callable t n.text)
-arity_at t (Matches n parts) = option_and_then (λ op. unless_many (length (args_of t.ops op)) parts n) (op_named t.ops n.text)
+arity_at t (Matches n parts) = option_and_then (λ op. unless_many (length (args_of t.ops op)) parts n)
+    (op_named t.ops n.text)
 arity_at t u = None
 
 unfoldable pub arity : Table → List Decl → Option SpecFault

@@ -15,9 +15,11 @@ abbrev pub is_short : {A : Type 0} → List A → Bool
 is_short xs = nat_lt (length xs) 4294967295
 
 abbrev pub is_numbered : Table → Bool
-is_numbered t = list_all (λ (x : Phylum). is_short x.attrs) t.phyla && list_all (λ (o : Operator). is_short o.args && is_short o.locals) t.ops
+is_numbered t = list_all (λ (x : Phylum). is_short x.attrs) t.phyla
+    && list_all (λ (o : Operator). is_short o.args && is_short o.locals) t.ops
 
-pub record IsIndexed (t : Table) (by_phylum : Index ℕ) (by_nonterminal : Index ℕ) (by_callable : Index Callable) : Type 0 where
+pub record IsIndexed (t : Table) (by_phylum : Index ℕ) (by_nonterminal : Index ℕ)
+    (by_callable : Index Callable) : Type 0 where
   pub phyla : (n : Bytes) → meaning by_phylum n ≡ phylum_named t n
   pub nonterminals : (n : Bytes) → meaning by_nonterminal n ≡ nonterminal_named t n
   pub callables : (n : Bytes) → meaning by_callable n ≡ callable t n

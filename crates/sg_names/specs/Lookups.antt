@@ -55,7 +55,8 @@ function_named functions n = position (λ (f : Signature). bytes_eq n f.name) fu
 
 abbrev pub callable_in : List Operator → List Signature → Bytes → Option Callable
 callable_in ops functions n =
-    or_else (or_else (option_map callables.Operator (op_named ops n)) (option_map callables.Function (function_named functions n)))
+    or_else (or_else (option_map callables.Operator (op_named ops n))
+    (option_map callables.Function (function_named functions n)))
     (option_map callables.Builtin (builtin_named n))
 
 abbrev pub callable : Table → Bytes → Option Callable
@@ -117,7 +118,8 @@ occurrence_of o k p = chosen k (places (nat_eq p) (nat_eq p o.phylum) o.args)
 
 abbrev pub occurrence : Table → ℕ → Written → Option ℕ
 occurrence t op (Own place) = Some 0
-occurrence t op (Named q k) = option_and_then (λ p. option_and_then (λ o. occurrence_of o k p) (slice_get t.ops op)) (usable_named t q.text)
+occurrence t op (Named q k) = option_and_then (λ p. option_and_then (λ o. occurrence_of o k p) (slice_get t.ops op))
+    (usable_named t q.text)
 
 -- the phylum at an occurrence of an operator
 abbrev pub phylum_there : Table → ℕ → ℕ → Option ℕ
@@ -126,12 +128,14 @@ phylum_there t op (suc k) = slice_get (args_of t.ops op) k
 
 -- an attribute of an occurrence of an operator
 abbrev pub attribute_at : Table → ℕ → ℕ → Bytes → Option Occurrence
-attribute_at t op at a = option_and_then (λ p. option_map (λ s. record { at = at; slot = s }) (attribute t p a)) (phylum_there t op at)
+attribute_at t op at a = option_and_then (λ p. option_map (λ s. record { at = at; slot = s }) (attribute t p a))
+    (phylum_there t op at)
 
 abbrev pub reference : Table → ℕ → Reference → Option Occurrence
 reference t op r = option_and_then (λ at. attribute_at t op at r.attr.text) (occurrence t op r.of)
 
--- an occurrence of an input production: 0 for the left side, which has no name in it, k + 1 for symbol k; a literal is none
+-- an occurrence of an input production: 0 for the left side, which has no name in it, k + 1 for symbol k; a literal
+-- is none
 abbrev pub is_part : Bytes → Part → Bool
 is_part n (part.Named m) = bytes_eq n m.text
 is_part n (part.Literal s) = false
@@ -141,7 +145,8 @@ not_left at = if nat_eq at 0 then None else Some at
 
 abbrev pub symbol : Bytes → List Part → Written → Option ℕ
 symbol left parts (Own place) = None
-symbol left parts (Named q k) = option_and_then not_left (chosen k (places (is_part q.text) (bytes_eq q.text left) parts))
+symbol left parts (Named q k) = option_and_then not_left
+    (chosen k (places (is_part q.text) (bytes_eq q.text left) parts))
 
 -- the type of the first attribute of a name
 abbrev pub attr_type : List Attr → Bytes → Option ℕ
@@ -150,7 +155,8 @@ attr_type attrs n = option_map (λ (a : Attr). a.of) (find (λ (a : Attr). bytes
 -- the attributes of the nonterminal, or else of the phylum, of a name
 abbrev pub symbol_attrs : Table → Bytes → List Attr
 symbol_attrs t q = unwrap_or
-    (or_else (option_and_then (λ k. option_map (λ (x : Nonterminal). x.attrs) (slice_get t.nonterminals k)) (nonterminal_named t q))
+    (or_else (option_and_then (λ k. option_map (λ (x : Nonterminal). x.attrs) (slice_get t.nonterminals k))
+    (nonterminal_named t q))
     (option_map (attrs_of t.phyla) (phylum_named t q))) []
 
 abbrev pub symbol_type : Table → Bytes → Bytes → Option ℕ
@@ -162,4 +168,5 @@ name_of (Named q k) = q.text
 
 -- a symbol's result or text in an input production
 abbrev pub operand : Table → Bytes → List Part → Reference → Option Operand
-operand t left parts r = option_and_then (λ at. option_map (λ p. record { at = at; of = p }) (symbol_type t (name_of r.of) r.attr.text)) (symbol left parts r.of)
+operand t left parts r = option_and_then (λ at. option_map (λ p. record { at = at; of = p })
+    (symbol_type t (name_of r.of) r.attr.text)) (symbol left parts r.of)

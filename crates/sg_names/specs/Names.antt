@@ -52,7 +52,13 @@ nonterminals_in ds = fold with_head [] (flat_map nonterminal_defined ds)
 
 -- the operators in the order of the text, as yet without locals
 abbrev pub operator : List Head → Name → Alt → Operator
-operator phyla n a = record { name = a.name.text; phylum = number_in phyla n.text; args = numbers_in phyla a.args; locals = []; schemes = [] }
+operator phyla n a = record {
+  name = a.name.text;
+  phylum = number_in phyla n.text;
+  args = numbers_in phyla a.args;
+  locals = [];
+  schemes = [];
+}
 
 abbrev pub operators_at : List Head → Decl → List Operator
 operators_at phyla (Operators n alts) = map (operator phyla n) alts
@@ -76,7 +82,8 @@ abbrev pub local : List Head → ℕ → Typed → ℕ × Local
 local phyla op t = (op, record { name = t.name.text; of = number_in phyla t.of.text })
 
 abbrev pub locals_in : List Head → List Operator → Name → Name → List Typed → List (ℕ × Local)
-locals_in phyla ops n op locals = map (local phyla (unwrap_or (operator_of ops (number_in phyla n.text) op.text) (length ops))) locals
+locals_in phyla ops n op locals = map (local phyla (unwrap_or (operator_of ops (number_in phyla n.text) op.text)
+    (length ops))) locals
 
 abbrev pub locals_at : List Head → List Operator → Decl → List (ℕ × Local)
 locals_at phyla ops (Equations n op locals es) = locals_in phyla ops n op locals
@@ -102,7 +109,8 @@ attributes_in owners phyla ds = flat_map (attributes_at owners phyla) ds
 -- what the declarations of lists and optional phyla say, each with the number of its phylum
 abbrev pub listing_at : List Head → Decl → List (ℕ × Shape)
 listing_at phyla (Listed n) = (number_in phyla n.text, shape.Listed) ∷ []
-listing_at phyla (Optional listed n) = (number_in phyla n.text, if listed then shape.OptionalListed else shape.Optional) ∷ []
+listing_at phyla (Optional listed n) =
+    (number_in phyla n.text, if listed then shape.OptionalListed else shape.Optional) ∷ []
 listing_at phyla d = []
 
 -- the shape of a phylum: of the base phyla their own, of a lexeme phylum its place among these, else what the first
@@ -142,7 +150,11 @@ abbrev pub phylum : List Head → (ℕ → List Shape) → (ℕ → List ℕ) �
 phylum phyla listings ops attrs k h = phylum_as (lexemes_before phyla k) (listings k) (ops k) (attrs k) k h
 
 abbrev pub signature : List Head → Name → Name → List Typed → Signature
-signature phyla t n params = record { name = n.text; params = map (λ (p : Typed). number_in phyla p.of.text) params; result = number_in phyla t.text }
+signature phyla t n params = record {
+  name = n.text;
+  params = map (λ (p : Typed). number_in phyla p.of.text) params;
+  result = number_in phyla t.text;
+}
 
 abbrev pub function_at : List Head → Decl → List Signature
 function_at phyla (Function t n params e) = signature phyla t n params ∷ []

@@ -37,7 +37,8 @@ root_count ds = if nat_eq (length (roots ds)) 1 then None else Some (fault.RootC
 
 -- the operators of a phylum of a name
 abbrev pub ops_of : Table → Name → List ℕ
-ops_of t n = unwrap_or (option_map (λ (x : Phylum). x.ops) (option_and_then (slice_get t.phyla) (phylum_named t n.text))) []
+ops_of t n = unwrap_or (option_map (λ (x : Phylum). x.ops)
+    (option_and_then (slice_get t.phyla) (phylum_named t n.text))) []
 
 abbrev pub is_nullary : List ℕ → Bool
 is_nullary [] = true
@@ -59,7 +60,8 @@ list_names (Optional true n) = n ∷ []
 list_names d = []
 
 abbrev pub list_shape_at : Table → Name → Option SpecFault
-list_shape_at t n = if is_list t (phylum_named t n.text) (ops_of t n) then None else Some (fault.ListShape n.place n.text)
+list_shape_at t n = if is_list t (phylum_named t n.text) (ops_of t n) then None else Some
+    (fault.ListShape n.place n.text)
 
 unfoldable pub list_shape : Table → List Decl → Option SpecFault
 list_shape t ds = first (list_shape_at t) (flat_map list_names ds)

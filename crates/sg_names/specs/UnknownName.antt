@@ -21,10 +21,12 @@ unless_known known n = if known then None else Some (fault.UnknownName n.place n
 
 -- whether a name means a phylum with operators; a lexeme phylum that may be used
 abbrev pub has_operators : Table → Bytes → Bool
-has_operators t n = is_some (option_and_then (λ p. if has_shape t.phyla is_leaf_shape p then None else Some p) (phylum_named t n))
+has_operators t n = is_some (option_and_then (λ p. if has_shape t.phyla is_leaf_shape p then None else Some p)
+    (phylum_named t n))
 
 abbrev pub is_lexeme : Table → Bytes → Bool
-is_lexeme t n = is_some (option_and_then (λ p. if has_shape t.phyla is_lexical_shape p then Some p else None) (usable_named t n))
+is_lexeme t n = is_some (option_and_then (λ p. if has_shape t.phyla is_lexical_shape p then Some p else None)
+    (usable_named t n))
 
 abbrev pub is_nonterminal : Table → Bytes → Bool
 is_nonterminal t n = is_some (nonterminal_named t n)
@@ -56,9 +58,11 @@ abbrev pub unknown_at : Table → Use → Option SpecFault
 unknown_at t (UsesPhylum n) = unless_known (is_some (usable_named t n.text)) n
 unknown_at t (HasOperators n) = unless_known (has_operators t n.text) n
 unknown_at t (HasAttributes n) = unless_known (has_operators t n.text || is_nonterminal t n.text) n
-unknown_at t (UsesOperator n op) = if is_some (usable_named t n.text) then unless_known (is_some (operator_at t n op)) op else unless_known false n
+unknown_at t (UsesOperator n op) = if is_some (usable_named t n.text) then unless_known
+    (is_some (operator_at t n op)) op else unless_known false n
 unknown_at t (UsesSymbol n) = unless_known (is_lexeme t n.text || is_nonterminal t n.text) n
-unknown_at t (UsesResult n a) = if is_nonterminal t n.text then unless_known (is_some (symbol_type t n.text a.text)) a else unless_known false n
+unknown_at t (UsesResult n a) = if is_nonterminal t n.text then unless_known
+    (is_some (symbol_type t n.text a.text)) a else unless_known false n
 unknown_at t (Refers site r) = unknown_reference t site r
 unknown_at t (UsesVariable scope n) = unless_known (is_visible scope n.text) n
 unknown_at t (Calls n parts) = unless_known (is_some (callable t n.text)) n

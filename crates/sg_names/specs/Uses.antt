@@ -31,9 +31,9 @@ pub data Site : Type 0 where
   InProduction : Bytes → List Part → Site
   Elsewhere : Site
 
--- a use: of a phylum; of a phylum that has operators; of one, or of a nonterminal, that has attributes; of an operator of a
--- phylum; of a symbol of a production; of a nonterminal's result; of a reference; of a variable among those that are
--- visible; a binding where these are visible; and a call or an operator pattern over so many parts
+-- a use: of a phylum; of a phylum that has operators; of one, or of a nonterminal, that has attributes; of an
+-- operator of a phylum; of a symbol of a production; of a nonterminal's result; of a reference; of a variable among
+-- those that are visible; a binding where these are visible; and a call or an operator pattern over so many parts
 pub data Use : Type 0 where
   UsesPhylum : Name → Use
   HasOperators : Name → Use
@@ -98,8 +98,10 @@ abbrev mutual
   expr_uses site scope (e.Binary s a b) = expr_uses site scope a ++ expr_uses site scope b
   expr_uses site scope (e.Choice a b c) = expr_uses site scope a ++ (expr_uses site scope b ++ expr_uses site scope c)
   expr_uses site scope (e.Call n es) = Calls n (exprs_count es) ∷ exprs_uses site scope es
-  expr_uses site scope (e.Let n a b place) = Binds scope n ∷ expr_uses site scope a ++ expr_uses site (with_variable scope n.text) b
-  expr_uses site scope (e.With a q b cs place) = expr_uses site scope a ++ (pattern_uses scope q ++ (expr_uses site (pattern_scope scope q) b ++ cases_uses site scope cs))
+  expr_uses site scope (e.Let n a b place) = Binds scope n ∷ expr_uses site scope a
+      ++ expr_uses site (with_variable scope n.text) b
+  expr_uses site scope (e.With a q b cs place) = expr_uses site scope a
+      ++ (pattern_uses scope q ++ (expr_uses site (pattern_scope scope q) b ++ cases_uses site scope cs))
 
   pub exprs_uses : Site → List Bytes → Exprs → List Use
   exprs_uses site scope NoExpr = []
@@ -108,7 +110,8 @@ abbrev mutual
   pub cases_uses : Site → List Bytes → Cases → List Use
   cases_uses site scope NoCase = []
   cases_uses site scope (Default x) = expr_uses site scope x
-  cases_uses site scope (Case q x cs) = pattern_uses scope q ++ (expr_uses site (pattern_scope scope q) x ++ cases_uses site scope cs)
+  cases_uses site scope (Case q x cs) = pattern_uses scope q
+      ++ (expr_uses site (pattern_scope scope q) x ++ cases_uses site scope cs)
 
 -- a pattern, and an expression where its names are visible
 abbrev pub case_uses : Site → List Bytes → Pattern → Expr → List Use
@@ -161,7 +164,8 @@ abbrev pub right_uses : Bytes → Right → List Use
 right_uses left r = flat_map part_uses r.parts ++ expr_uses (InProduction left r.parts) [] r.expr
 
 abbrev pub in_equations : Table → Name → Name → List Typed → List Equation → List Use
-in_equations t n op locals es = UsesOperator n op ∷ map (λ (l : Typed). UsesPhylum l.of) locals ++ within (equations_uses t es) (operator_at t n op)
+in_equations t n op locals es = UsesOperator n op ∷ map (λ (l : Typed). UsesPhylum l.of) locals
+    ++ within (equations_uses t es) (operator_at t n op)
 
 abbrev pub in_schemes : Table → Name → Name → List SchemeDecl → List Use
 in_schemes t n op ss = UsesOperator n op ∷ within (schemes_uses t ss) (operator_at t n op)

@@ -44,7 +44,8 @@ pub(crate) fn add_functions(
     index: &mut Index<Callable>,
     functions: &[Signature],
 ) -> Result<(), NoMemory>
-    ensures { OnOk result ((n : List ℕ) → meaning index.new n ≡ or_else (meaning index.old n) (option_map callable.Function (function_named functions.now n))) }
+    ensures { OnOk result ((n : List ℕ) → meaning index.new n
+        ≡ or_else (meaning index.old n) (option_map callable.Function (function_named functions.now n))) }
 {
     for (place, function) in functions.iter().enumerate() {
         let place = number(place)?;
@@ -55,7 +56,8 @@ pub(crate) fn add_functions(
 
 /// Puts the builtins behind what is there.
 pub(crate) fn add_builtins(alloc: Global, index: &mut Index<Callable>) -> Result<(), NoMemory>
-    ensures { OnOk result ((n : List ℕ) → meaning index.new n ≡ or_else (meaning index.old n) (option_map callable.Builtin (builtin_named n))) }
+    ensures { OnOk result ((n : List ℕ) → meaning index.new n
+        ≡ or_else (meaning index.old n) (option_map callable.Builtin (builtin_named n))) }
 {
     index.put(alloc, b"STRtoINT", Callable::Builtin(Unary::TextToNumber))?;
     index.put(alloc, b"INTtoSTR", Callable::Builtin(Unary::NumberToText))?;

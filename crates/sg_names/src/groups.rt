@@ -37,7 +37,8 @@ impl<T: Drop> Groups<T> {
 
     /// Puts a thing of an owner last.
     pub fn put(&mut self, alloc: Global, owner: u32, thing: T) -> Result<(), NoMemory>
-        ensures { OnOk result ((k : ℕ) → row_at self.new k ≡ row_at self.old k ++ (if nat_eq owner k then thing ∷ [] else [])) }
+        ensures { OnOk result ((k : ℕ) → row_at self.new k
+            ≡ row_at self.old k ++ (if nat_eq owner k then thing ∷ [] else [])) }
     {
         let owner = owner as usize;
         self.reach(alloc, owner)?;

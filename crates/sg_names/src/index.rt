@@ -32,7 +32,8 @@ impl<V: Copy + Drop> Index<V> {
 
     /// Gives a name its meaning, unless it has one.
     pub fn put(&mut self, alloc: Global, name: &[u8], value: V) -> Result<(), NoMemory>
-        ensures { OnOk result ((n : List ℕ) → meaning self.new n ≡ or_else (meaning self.old n) (if bytes_eq n name.now then Some value else None)) }
+        ensures { OnOk result ((n : List ℕ) → meaning self.new n
+            ≡ or_else (meaning self.old n) (if bytes_eq n name.now then Some value else None)) }
     {
         if self.map.get(name).is_none() {
             self.map.insert(Vec::from_slice(alloc, name)?, value)?;

@@ -22,30 +22,42 @@ pub fn operators_have_places()
 /// The operators of a specification with the names of a table are those of the table.
 pub fn operators_are_kept()
     ensures args { (t : Table) (spec : Spec) → HasTable t spec → (op : ℕ) → args_of spec.ops op ≡ args_of t.ops op }
-    ensures phylum { (t : Table) (spec : Spec) → HasTable t spec → (op : ℕ) → phylum_of spec.ops op ≡ phylum_of t.ops op }
-    ensures locals { (t : Table) (spec : Spec) → HasTable t spec → (op : ℕ) → locals_of spec.ops op ≡ locals_of t.ops op }
+    ensures phylum { (t : Table) (spec : Spec) → HasTable t spec → (op : ℕ)
+        → phylum_of spec.ops op ≡ phylum_of t.ops op }
+    ensures locals { (t : Table) (spec : Spec) → HasTable t spec → (op : ℕ)
+        → locals_of spec.ops op ≡ locals_of t.ops op }
     ensures count { (t : Table) (spec : Spec) → HasTable t spec → length spec.ops ≡ length t.ops }
 {}
 
 /// Its slots have the types that the table gives, and its operators owe the same slots.
 pub fn slots_are_kept()
-    ensures slots { (t : Table) (spec : Spec) → HasTable t spec → (op k : ℕ) → slots_there spec op k ≡ slots_there (drafted t) op k }
-    ensures slot { (t : Table) (spec : Spec) → HasTable t spec → (op k slot : ℕ) → slot_type spec op k slot ≡ slot_type (drafted t) op k slot }
-    ensures types { (t : Table) (spec : Spec) → HasTable t spec → (op : ℕ) (os : List Occurrence) → types_at spec op os ≡ types_at (drafted t) op os }
-    ensures owed { (t : Table) (spec : Spec) → HasTable t spec → (op k slot : ℕ) → is_owed spec op k slot ≡ is_owed (drafted t) op k slot }
+    ensures slots { (t : Table) (spec : Spec) → HasTable t spec → (op k : ℕ)
+        → slots_there spec op k ≡ slots_there (drafted t) op k }
+    ensures slot { (t : Table) (spec : Spec) → HasTable t spec → (op k slot : ℕ)
+        → slot_type spec op k slot ≡ slot_type (drafted t) op k slot }
+    ensures types { (t : Table) (spec : Spec) → HasTable t spec → (op : ℕ) (os : List Occurrence)
+        → types_at spec op os ≡ types_at (drafted t) op os }
+    ensures owed { (t : Table) (spec : Spec) → HasTable t spec → (op k slot : ℕ)
+        → is_owed spec op k slot ≡ is_owed (drafted t) op k slot }
 {}
 
 /// Its expressions and patterns have the types that the table gives.
 pub fn types_are_kept()
-    ensures usable { (t : Table) (spec : Spec) → HasTable t spec → (p : ℕ) → is_usable spec p ≡ is_usable (drafted t) p }
-    ensures accepted { (t : Table) (spec : Spec) → HasTable t spec → (p wanted : ℕ) → is_accepted spec p wanted ≡ is_accepted (drafted t) p wanted }
-    ensures bound { (t : Table) (spec : Spec) → HasTable t spec → (x : Pattern) (p : ℕ) → bound_types spec x p ≡ bound_types (drafted t) x p }
-    ensures expr { (t : Table) (spec : Spec) → HasTable t spec → (G : List ℕ) (e : Expr) → type_of spec G e ≡ type_of (drafted t) G e }
+    ensures usable { (t : Table) (spec : Spec) → HasTable t spec → (p : ℕ)
+        → is_usable spec p ≡ is_usable (drafted t) p }
+    ensures accepted { (t : Table) (spec : Spec) → HasTable t spec → (p wanted : ℕ)
+        → is_accepted spec p wanted ≡ is_accepted (drafted t) p wanted }
+    ensures bound { (t : Table) (spec : Spec) → HasTable t spec → (x : Pattern) (p : ℕ)
+        → bound_types spec x p ≡ bound_types (drafted t) x p }
+    ensures expr { (t : Table) (spec : Spec) → HasTable t spec → (G : List ℕ) (e : Expr)
+        → type_of spec G e ≡ type_of (drafted t) G e }
 {}
 
 /// Its completing terms and placeholders are those that the table gives.
 pub fn terms_are_kept()
-    ensures completing { (t : Table) (spec : Spec) → HasTable t spec → (n p : ℕ) → completing_within spec n p ≡ completing_within (drafted t) n p }
-    ensures placeholder { (t : Table) (spec : Spec) → HasTable t spec → (n p : ℕ) → placeholder_within spec n p ≡ placeholder_within (drafted t) n p }
+    ensures completing { (t : Table) (spec : Spec) → HasTable t spec → (n p : ℕ)
+        → completing_within spec n p ≡ completing_within (drafted t) n p }
+    ensures placeholder { (t : Table) (spec : Spec) → HasTable t spec → (n p : ℕ)
+        → placeholder_within spec n p ≡ placeholder_within (drafted t) n p }
     ensures finite { (t : Table) (spec : Spec) → HasTable t spec → (p : ℕ) → IsFinite (drafted t) p → IsFinite spec p }
 {}

@@ -62,8 +62,8 @@ pub fn is_leaf(shape: Shape) -> bool
     )
 }
 
-/// A list is shorter than this, so that places among attributes, locals and occurrences are numbers of 32 bits. No list in
-/// memory is longer.
+/// A list is shorter than this, so that places among attributes, locals and occurrences are numbers of 32 bits. No
+/// list in memory is longer.
 const LONG: usize = 4294967295;
 
 fn are_short_phyla(phyla: &[Phylum]) -> bool

@@ -25,9 +25,9 @@ pub struct Nonterminal {
     pub attrs: Row<Attr>,
 }
 
-/// What the names of a specification mean. The phyla 0, 1 and 2 are BOOL, INT and STR. Other phyla and the nonterminals
-/// stand in the order of their first definitions, operators and functions in that of the text. Operators have their locals
-/// and no schemes yet.
+/// What the names of a specification mean. The phyla 0, 1 and 2 are BOOL, INT and STR. Other phyla and the
+/// nonterminals stand in the order of their first definitions, operators and functions in that of the text. Operators
+/// have their locals and no schemes yet.
 #[derive(Drop)]
 pub struct Table {
     pub phyla: Row<Phylum>,
@@ -42,7 +42,8 @@ pub struct Table {
     pub op_places: Row<Position>,
 }
 
-/// What a name before parentheses means: an operator, a function by its place, or one of `STRtoINT`, `INTtoSTR`, `STRlen`.
+/// What a name before parentheses means: an operator, a function by its place, or one of `STRtoINT`, `INTtoSTR`,
+/// `STRlen`.
 #[derive(Clone, Copy, PartialEq, Eq)]
 pub enum Callable {
     Operator(OpId),
@@ -62,7 +63,8 @@ impl Callable {
     }
 }
 
-/// A symbol of an input production that a reference names: its place counted from 1, and the phylum of its result or text.
+/// A symbol of an input production that a reference names: its place counted from 1, and the phylum of its result or
+/// text.
 #[derive(Clone, Copy, PartialEq, Eq)]
 pub struct Operand {
     pub at: usize,

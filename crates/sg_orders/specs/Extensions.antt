@@ -10,4 +10,5 @@ use Rattle.sg_orders.specs.declared.ordering.Extension.{Extension}
 pub record IsExtension (rules : Rules) (e : Extension) : Type 0 where
   pub layers : AreLayerings rules e.layers.items
   pub count : length e.operators.items ≡ length rules.ops
-  pub rows : (p : ℕ) → p < length rules.ops → AreRowsOf rules p (Extended rules (layer_in e.layers.items) p) (relation_at e.operators.items p)
+  pub rows : (p : ℕ) → p < length rules.ops → AreRowsOf rules p (Extended rules (layer_in e.layers.items) p)
+      (relation_at e.operators.items p)

@@ -29,5 +29,6 @@ pub record IsUnordered (rules : Rules) (p : ℕ) (c : List ℕ) : Type 0 where
 abbrev pub IsFault : Rules → OrderFault → Type 0
 IsFault rules (Direct p c) = IsFirst rules (depend.Direct rules) p c
 IsFault rules (Induced p c) = AreAcyclic rules (depend.Direct rules) × IsFirst rules (depend.InOperator rules) p c
-IsFault rules (Ordered p c) = AreAcyclic rules (depend.Direct rules) × AreAcyclic rules (depend.InOperator rules) × IsUnordered rules p c
+IsFault rules (Ordered p c) = AreAcyclic rules (depend.Direct rules) × AreAcyclic rules (depend.InOperator rules)
+    × IsUnordered rules p c
 IsFault rules NoMemory = ⊤

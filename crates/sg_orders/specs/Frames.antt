@@ -12,13 +12,22 @@ pub use Rattle.sg_orders.specs.declared.frame.Frame.{Frame}
 
 -- the left side of an operator, or an argument
 abbrev pub spot_of : Rules → ℕ → ℕ → Spot
-spot_of rules p k = record { phylum = unwrap_or (phylum_there rules p k) 0; first = attrs_before rules p k; attrs = attr_count rules (phylum_there rules p k) }
+spot_of rules p k = record {
+  phylum = unwrap_or (phylum_there rules p k) 0;
+  first = attrs_before rules p k;
+  attrs = attr_count rules (phylum_there rules p k);
+}
 
 unfoldable pub spots_of : Rules → ℕ → List Spot
 spots_of rules p = map (spot_of rules p) (below (suc (length (args_of rules.ops p))))
 
 abbrev pub frame_of : Rules → ℕ → Frame
-frame_of rules p = record { spots = spots_of rules p; locals = attrs_before rules p (suc (length (args_of rules.ops p))); count = vertices rules p }
+frame_of rules p = record {
+  spots = spots_of rules p;
+  locals = attrs_before rules p
+      (suc (length (args_of rules.ops p)));
+  count = vertices rules p;
+}
 
 unfoldable pub frames_of : Rules → List Frame
 frames_of rules = map (frame_of rules) (below (length rules.ops))

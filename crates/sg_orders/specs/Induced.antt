@@ -19,5 +19,6 @@ pub record AreRowsOfPhylum (rules : Rules) (X : ℕ) (rows : List (List Bool)) :
 pub record AreInduced (rules : Rules) (d : Dependencies) : Type 0 where
   pub operators : length d.operators.items ≡ length rules.ops
   pub phyla : length d.phyla.items ≡ length rules.phyla
-  pub in_operator : (p : ℕ) → p < length rules.ops → AreRowsOf rules p (InOperator rules p) (relation_at d.operators.items p)
+  pub in_operator : (p : ℕ) → p < length rules.ops → AreRowsOf rules p (InOperator rules p)
+      (relation_at d.operators.items p)
   pub in_phylum : (X : ℕ) → X < length rules.phyla → AreRowsOfPhylum rules X (relation_at d.phyla.items X)

@@ -16,7 +16,8 @@ pub record AreLayerings (rules : Rules) (layers : List (List ℕ)) : Type 0 wher
   pub count : length layers ≡ length rules.phyla
   pub sizes : (X : ℕ) → X < length rules.phyla → length (row_at layers X) ≡ length (attrs_of rules.phyla X)
   pub each : (X : ℕ) → X < length rules.phyla → IsLayering rules X (layer_in layers X)
-  pub low : (X a : ℕ) → X < length rules.phyla → a < length (attrs_of rules.phyla X) → layer_in layers X a ≤ 2 * length (attrs_of rules.phyla X)
+  pub low : (X a : ℕ) → X < length rules.phyla → a < length (attrs_of rules.phyla X)
+      → layer_in layers X a ≤ 2 * length (attrs_of rules.phyla X)
 
 -- a comes in an earlier evaluated layer than b
 pub record IsLayered (layers : List ℕ) (a b : ℕ) : Type 0 where

@@ -4,7 +4,8 @@ use Rattle.sg_kinds.specs.declared.spec.Rules.{Rules}
 use Rattle.sg_kinds.specs.declared.spec.Rule.{Rule}
 use Rattle.sg_kinds.specs.Dependencies.{is_inherited_there}
 
--- whether p's equations define it: a synthesized attribute or a local of the left side, an inherited attribute of an argument
+-- whether p's equations define it: a synthesized attribute or a local of the left side, an inherited attribute of an
+-- argument
 abbrev pub is_owed : Rules → ℕ → ℕ → ℕ → Bool
 is_owed rules p zero slot = not (is_inherited_there rules p zero slot)
 is_owed rules p (suc k) slot = is_inherited_there rules p (suc k) slot

@@ -99,13 +99,18 @@ pub record AreFitting (frames : List Frame) (operators phyla : List (List (List 
 
 -- nothing is to be added for any operator
 abbrev pub AreSettled : List Frame → List (List (List Bool)) → List (List (List Bool)) → Type 0
-AreSettled frames operators phyla = (p : ℕ) → p < length frames → IsSettled (frame_at frames p).spots (relation_at operators p) phyla
+AreSettled frames operators phyla = (p : ℕ) → p < length frames
+    → IsSettled (frame_at frames p).spots (relation_at operators p) phyla
 
 -- dependencies stay so, for whatever equations these are the frames
-abbrev pub StaySound : List Frame → List (List (List Bool)) → List (List (List Bool)) → List (List (List Bool)) → List (List (List Bool)) → Type 0
-StaySound frames operators phyla new_operators new_phyla = (rules : Rules) → AreInRange rules → frames ≡ frames_of rules → AreSound rules operators phyla → AreSound rules new_operators new_phyla
+abbrev pub StaySound : List Frame → List (List (List Bool)) → List (List (List Bool)) → List (List (List Bool))
+    → List (List (List Bool)) → Type 0
+StaySound frames operators phyla new_operators new_phyla =
+    (rules : Rules) → AreInRange rules → frames ≡ frames_of rules → AreSound rules operators phyla
+    → AreSound rules new_operators new_phyla
 
 -- each operator's relation gains what the phyla relate at its spots
 pub record AreExtended (frames : List Frame) (operators new_operators phyla : List (List (List Bool))) : Type 0 where
   pub alike : AreAlike operators new_operators
-  pub gains : (p m n : ℕ) → p < length frames → Holds (relation_at new_operators p) m n ↔ (Holds (relation_at operators p) m n ⊎ IsSpread (frame_at frames p).spots phyla m n)
+  pub gains : (p m n : ℕ) → p < length frames → Holds (relation_at new_operators p) m n
+      ↔ (Holds (relation_at operators p) m n ⊎ IsSpread (frame_at frames p).spots phyla m n)

@@ -14,7 +14,8 @@ given_by attrs visits j = filter (is_given attrs visits j) (below (length attrs)
 
 -- the least position of those attributes, or the place behind all
 abbrev pub seat_in : List Attr → List ℕ → List ℕ → ℕ → ℕ → ℕ → ℕ
-seat_in attrs visits places first behind j = unwrap_or (least (map (λ a. slice_index places (first + a)) (given_by attrs visits j))) behind
+seat_in attrs visits places first behind j = unwrap_or
+    (least (map (λ a. slice_index places (first + a)) (given_by attrs visits j))) behind
 
 -- whether one of those attributes stands at q or later
 abbrev pub gives_in : List Attr → List ℕ → List ℕ → ℕ → ℕ → Bool

@@ -42,7 +42,8 @@ pub record AreStepRows (rules : Rules) (plans : Plans) (p : ℕ) (rows : List (L
   pub each : (j : ℕ) → j < length rows → AreStepsOf rules plans p (suc j) (row_at rows j)
 
 -- a table of steps by their positions that has all steps of p of some kind
-pub record IsFilled (rules : Rules) (plans : Plans) (p : ℕ) (kind : PlanStep → Type 0) (table : List (Option PlanStep)) : Type 0 where
+pub record IsFilled (rules : Rules) (plans : Plans) (p : ℕ) (kind : PlanStep
+    → Type 0) (table : List (Option PlanStep)) : Type 0 where
   pub size : length table ≡ after_all plans p + length (args_of rules.ops p)
   pub sound : (q : ℕ) (s : PlanStep) → slice_index_or table q None ≡ Some s → IsStepAt rules plans p s q
   pub whole : (s : PlanStep) (q : ℕ) → kind s → IsStepAt rules plans p s q → slice_index_or table q None ≡ Some s

@@ -54,7 +54,8 @@ pub record Numbered (rules : Rules) (p : ℕ) (R : Occurrence → Occurrence →
   pub to_number : vertex rules p to ≡ n
 
 -- rows that relate just the numbers of what R relates
-pub record AreRowsOf (rules : Rules) (p : ℕ) (R : Occurrence → Occurrence → Type 0) (rows : List (List Bool)) : Type 0 where
+pub record AreRowsOf (rules : Rules) (p : ℕ) (R : Occurrence → Occurrence
+    → Type 0) (rows : List (List Bool)) : Type 0 where
   pub size : length rows ≡ vertices rules p
   pub sound : (m n : ℕ) → Holds rows m n → Numbered rules p R m n
   pub whole : (u v : Occurrence) → R u v → Holds rows (vertex rules p u) (vertex rules p v)

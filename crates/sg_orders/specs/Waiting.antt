@@ -14,4 +14,5 @@ AreApart spots others = All (λ (s : Spot). All (λ (t : Spot). t.phylum ≢ s.p
 
 -- nothing is to be added for an operator that does not wait
 abbrev pub AreSettledElse : List Frame → List Bool → List (List (List Bool)) → List (List (List Bool)) → Type 0
-AreSettledElse frames waiting operators phyla = (p : ℕ) → p < length frames → Waits waiting p ⊎ IsSettled (frame_at frames p).spots (relation_at operators p) phyla
+AreSettledElse frames waiting operators phyla = (p : ℕ) → p < length frames
+    → Waits waiting p ⊎ IsSettled (frame_at frames p).spots (relation_at operators p) phyla

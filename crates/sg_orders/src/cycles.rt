@@ -19,7 +19,8 @@ pub struct Found {
 
 /// The first of the relations that has a cycle.
 pub fn first_cycle(alloc: Global, relations: &[Relation]) -> Result<Option<Found>, NoMemory>
-    ensures none { IfOk result (λ found. IfNone found ((p : ℕ) → p < length relations.now → HasNoCycle (Holds (relation_at relations.now p)))) }
+    ensures none { IfOk result (λ found. IfNone found ((p : ℕ) → p < length relations.now
+        → HasNoCycle (Holds (relation_at relations.now p)))) }
     ensures some { IfOk result (λ found. IfSome found (λ x. IsFirstCycle relations.now x.place x.cycle)) }
 {
     for (place, relation) in relations.iter().enumerate() {

@@ -19,7 +19,8 @@ pub fn direct(alloc: Global, rules: &Rules, frames: &[Frame]) -> Result<Vec<Rela
     requires rules { AreInRange rules.now }
     requires frames { frames.now ≡ frames_of rules.now }
     ensures count { IfOk result (λ v. length v.items ≡ length rules.now.ops) }
-    ensures each { IfOk result (λ v. (p : ℕ) → p < length rules.now.ops → AreRowsOf rules.now p (Direct rules.now p) (relation_at v.items p)) }
+    ensures each { IfOk result (λ v. (p : ℕ) → p < length rules.now.ops
+        → AreRowsOf rules.now p (Direct rules.now p) (relation_at v.items p)) }
 {
     let mut relations = empty(alloc, frames)?;
     for rule in rules.rules.as_slice() {
@@ -51,7 +52,8 @@ fn empty(alloc: Global, frames: &[Frame]) -> Result<Vec<Relation>, NoMemory>
 fn relate(relation: &mut Relation, frame: &Frame, rule: &Rule)
     requires target { IsNumberedBelow frame.now (length relation.old) rule.now.target }
     requires args { All (IsNumberedBelow frame.now (length relation.old)) rule.now.args }
-    ensures relates { (m n : ℕ) → Holds relation.new m n ↔ (Holds relation.old m n ⊎ IsNamed frame.now rule.now (length rule.now.args) m n) }
+    ensures relates { (m n : ℕ) → Holds relation.new m n
+        ↔ (Holds relation.old m n ⊎ IsNamed frame.now rule.now (length rule.now.args) m n) }
     ensures size { length relation.new ≡ length relation.old }
 {
     let target = frame.number(rule.target);

@@ -37,16 +37,18 @@ pub fn all_layers(
     Ok(all)
 }
 
-/// Adds to each operator's relation, at each occurrence, all pairs of attributes from an earlier evaluated layer to a later
-/// one.
+/// Adds to each operator's relation, at each occurrence, all pairs of attributes from an earlier evaluated layer to a
+/// later one.
 pub fn extend(
     alloc: Global,
     frames: &[Frame],
     layers: &[Row<usize>],
     operators: &mut [Relation],
 ) -> Result<(), NoMemory>
-    requires { (later : List (List (List Bool))) → AreLater layers.now later → AreFitting frames.now operators.old later }
-    ensures { OnOk result ((later : List (List (List Bool))) × AreLater layers.now later × AreExtended frames.now operators.old operators.new later) }
+    requires { (later : List (List (List Bool))) → AreLater layers.now later
+        → AreFitting frames.now operators.old later }
+    ensures { OnOk result ((later : List (List (List Bool))) × AreLater layers.now later
+        × AreExtended frames.now operators.old operators.new later) }
 {
     let later = all_later(alloc, layers)?;
     spread_each(frames, operators, &later);

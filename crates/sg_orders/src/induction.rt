@@ -20,8 +20,8 @@ use sg_kinds::spec::Rules;
 use sg_sets::Relation;
 use std::alloc::Global;
 
-/// Returns the dependencies that the equations induce, or the first operator that has a cycle in what its equations name
-/// and define, else the first that has one in its induced dependencies.
+/// Returns the dependencies that the equations induce, or the first operator that has a cycle in what its equations
+/// name and define, else the first that has one in its induced dependencies.
 ///
 /// The dependencies are induced by the rules of Kastens, "Ordered attributed grammars" (1980), from the direct ones.
 pub fn induce(alloc: Global, rules: &Rules, frames: &[Frame]) -> Result<Dependencies, OrderFault>
@@ -62,7 +62,8 @@ fn closed(
     requires rules { AreInRange rules.now }
     requires frames { frames.now ≡ frames_of rules.now }
     requires count { length operators.items ≡ length rules.now.ops }
-    requires direct { (p : ℕ) → p < length rules.now.ops → AreRowsOf rules.now p (Direct rules.now p) (relation_at operators.items p) }
+    requires direct { (p : ℕ) → p < length rules.now.ops
+        → AreRowsOf rules.now p (Direct rules.now p) (relation_at operators.items p) }
     ensures { IfOk result (AreInduced rules.now) }
 {
     let mut phyla = attributes(alloc, rules)?;

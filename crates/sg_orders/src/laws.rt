@@ -27,8 +27,8 @@ ghost use Rattle.sg_orders.specs.Vertices.{AreInRange, IsVertex};
 ghost use Rattle.sg_orders.specs.declared.fault.OrderFault.TheVariants as fault;
 ghost use Rattle.sg_orders.specs.declared.fault.OrderFault.{OrderFault};
 
-/// What the ordering requires of equations holds where the counts, the shapes and the equations of their specification are
-/// sound.
+/// What the ordering requires of equations holds where the counts, the shapes and the equations of their
+/// specification are sound.
 #[tactic(auto, using(crate::proofs::SoundRules::sound_range, crate::proofs::SoundRules::sound_proper))]
 pub fn sound_equations()
     ensures range { (spec : Spec) → AreCounted spec → HasShapes spec → HasRules spec → AreInRange (rules_of spec) }
@@ -37,36 +37,42 @@ pub fn sound_equations()
 
 /// A phylum has at most one layering.
 pub fn unique_layers()
-    ensures { (rules : Rules) (X : ℕ) (layer other : ℕ → ℕ) → IsLayering rules X layer → IsLayering rules X other → (a : ℕ) → IsAttr rules X a → layer a ≡ other a }
+    ensures { (rules : Rules) (X : ℕ) (layer other : ℕ → ℕ) → IsLayering rules X layer → IsLayering rules X other
+        → (a : ℕ) → IsAttr rules X a → layer a ≡ other a }
 {}
 
-/// Visits rise with positions, inherited attributes come before the visits that need them, synthesized ones in their own, and
-/// what an equation names before what it defines.
+/// Visits rise with positions, inherited attributes come before the visits that need them, synthesized ones in their
+/// own, and what an equation names before what it defines.
 pub fn plan_facts()
-    ensures { (rules : Rules) (plans : Plans) → AreInRange rules → AreValid rules plans → (p : ℕ) → p < length rules.ops → HasPlanFacts rules plans p }
+    ensures { (rules : Rules) (plans : Plans) → AreInRange rules → AreValid rules plans → (p : ℕ)
+        → p < length rules.ops → HasPlanFacts rules plans p }
 {}
 
 /// Each attribute has one of the visits of its phylum, counted from 1.
 pub fn visits_are_counted()
-    ensures low { (rules : Rules) (plans : Plans) → AreValid rules plans → (X a : ℕ) → X < length rules.phyla → IsAttr rules X a → 1 ≤ slice_index (row_at plans.visits X) a }
-    ensures high { (rules : Rules) (plans : Plans) → AreValid rules plans → (X a : ℕ) → X < length rules.phyla → IsAttr rules X a → slice_index (row_at plans.visits X) a ≤ visit_count plans X }
+    ensures low { (rules : Rules) (plans : Plans) → AreValid rules plans → (X a : ℕ) → X < length rules.phyla
+        → IsAttr rules X a → 1 ≤ slice_index (row_at plans.visits X) a }
+    ensures high { (rules : Rules) (plans : Plans) → AreValid rules plans → (X a : ℕ) → X < length rules.phyla
+        → IsAttr rules X a → slice_index (row_at plans.visits X) a ≤ visit_count plans X }
 {}
 
 /// The numbers of an operator's vertices are below their count, and different.
 #[tactic(auto, using(crate::proofs::Numbers::vertex_under, crate::proofs::Numbers::same_vertex))]
 pub fn vertices_are_numbered()
     ensures low { (rules : Rules) (p : ℕ) (o : Occurrence) → IsVertex rules p o → vertex rules p o < vertices rules p }
-    ensures one_each { (rules : Rules) (p : ℕ) (u v : Occurrence) → IsVertex rules p u → IsVertex rules p v → vertex rules p u ≡ vertex rules p v → u ≡ v }
+    ensures one_each { (rules : Rules) (p : ℕ) (u v : Occurrence) → IsVertex rules p u → IsVertex rules p v
+        → vertex rules p u ≡ vertex rules p v → u ≡ v }
 {}
 
 /// No two vertices of an operator stand at one position, nor do two of its steps.
 #[tactic(auto, using(crate::proofs::ValidFacts::step_facts))]
 pub fn step_facts()
-    ensures { (rules : Rules) (plans : Plans) → AreInRange rules → AreProper rules → AreValid rules plans → (p : ℕ) → p < length rules.ops → HasStepFacts rules plans p }
+    ensures { (rules : Rules) (plans : Plans) → AreInRange rules → AreProper rules → AreValid rules plans → (p : ℕ)
+        → p < length rules.ops → HasStepFacts rules plans p }
 {}
 
-/// Keys are in a strict order: none is less than itself, what is less than a lesser one is less, and of two that differ one
-/// is less.
+/// Keys are in a strict order: none is less than itself, what is less than a lesser one is less, and of two that
+/// differ one is less.
 #[tactic(auto, using(crate::proofs::Fixpoint::less_itself, crate::proofs::Fixpoint::less_on, crate::proofs::Fixpoint::one_less))]
 pub fn keys_are_ordered()
     ensures irreflexive { (xs : List ℕ) → IsLess xs xs → ⊥ }
@@ -76,21 +82,30 @@ pub fn keys_are_ordered()
 
 /// Each argument of an equation of a term that has an equation itself has a smaller key than what names it.
 pub fn keys_fall()
-    ensures { (spec : Spec) (plans : Plans) (t : Term) (root : ℕ) → AreInRange (rules_of spec) → AreValid (rules_of spec) plans → Fits spec t root → (i : Site Place) → IsLive (rules_of spec) t i → (o : Occurrence) → Contains i.rule.args o → (j : Site Place) → site_of (rules_of spec) (net_of t) (referred (net_of t) i.node o) ≡ Some j → IsLess (key (rules_of spec) plans t j) (key (rules_of spec) plans t i) }
+    ensures { (spec : Spec) (plans : Plans) (t : Term) (root : ℕ) → AreInRange (rules_of spec)
+        → AreValid (rules_of spec) plans → Fits spec t root → (i : Site Place) → IsLive (rules_of spec) t i
+        → (o : Occurrence) → Contains i.rule.args o → (j : Site Place)
+        → site_of (rules_of spec) (net_of t) (referred (net_of t) i.node o) ≡ Some j
+        → IsLess (key (rules_of spec) plans t j) (key (rules_of spec) plans t i) }
 {}
 
-/// A from-scratch value is the outcome of its equation on the from-scratch values of its arguments: the bound on chains of
-/// equations is never reached.
+/// A from-scratch value is the outcome of its equation on the from-scratch values of its arguments: the bound on
+/// chains of equations is never reached.
 pub fn from_scratch_values()
-    ensures { (spec : Spec) (plans : Plans) (t : Term) (root : ℕ) → AreInRange (rules_of spec) → AreValid (rules_of spec) plans → Fits spec t root → (a : Reference Place) → value_in spec t a ≡ leaf_or ((net_of t).label a.node) (site_value spec (net_of t) (value_in spec t) (site_of (rules_of spec) (net_of t) a)) }
+    ensures { (spec : Spec) (plans : Plans) (t : Term) (root : ℕ) → AreInRange (rules_of spec)
+        → AreValid (rules_of spec) plans → Fits spec t root → (a : Reference Place)
+        → value_in spec t a ≡ leaf_or ((net_of t).label a.node)
+        (site_value spec (net_of t) (value_in spec t) (site_of (rules_of spec) (net_of t) a)) }
 {}
 
 /// Equations have one fault at most, besides want of memory.
 pub fn one_fault()
-    ensures { (rules : Rules) → AreInRange rules → (e f : OrderFault) → IsFault rules e → IsFault rules f → e ≢ fault.NoMemory → f ≢ fault.NoMemory → e ≡ f }
+    ensures { (rules : Rules) → AreInRange rules → (e f : OrderFault) → IsFault rules e → IsFault rules f
+        → e ≢ fault.NoMemory → f ≢ fault.NoMemory → e ≡ f }
 {}
 
 /// Ordered equations have no fault.
 pub fn no_fault()
-    ensures { (rules : Rules) → AreInRange rules → IsOrdered rules → (e : OrderFault) → IsFault rules e → e ≢ fault.NoMemory → ⊥ }
+    ensures { (rules : Rules) → AreInRange rules → IsOrdered rules → (e : OrderFault) → IsFault rules e
+        → e ≢ fault.NoMemory → ⊥ }
 {}

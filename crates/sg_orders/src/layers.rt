@@ -11,8 +11,8 @@ use sg_kinds::spec::Attr;
 use sg_sets::Relation;
 use std::alloc::Global;
 
-/// Returns the layer of each attribute under a relation that holds what follows from it: synthesized attributes have odd
-/// layers and inherited ones even layers, and each is as low as those of the attributes that depend on it allow.
+/// Returns the layer of each attribute under a relation that holds what follows from it: synthesized attributes have
+/// odd layers and inherited ones even layers, and each is as low as those of the attributes that depend on it allow.
 pub fn layers(alloc: Global, attrs: &[Attr], relation: &Relation) -> Result<Vec<usize>, NoMemory>
     requires size { length relation.now ≡ length attrs.now }
     requires few { length attrs.now < 2 ^ 32 }

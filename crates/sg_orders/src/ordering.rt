@@ -50,8 +50,8 @@ pub fn order(alloc: Global, rules: &Rules) -> Result<Plans, OrderFault>
     Ok(plans)
 }
 
-/// Returns the extended dependencies, or the first operator that has a cycle in the direct, in the induced or in the extended
-/// dependencies.
+/// Returns the extended dependencies, or the first operator that has a cycle in the direct, in the induced or in the
+/// extended dependencies.
 pub fn test(alloc: Global, rules: &Rules, frames: &[Frame]) -> Result<Extension, OrderFault>
     requires range { AreInRange rules.now }
     requires frames { frames.now ≡ frames_of rules.now }

@@ -16,8 +16,8 @@ use sg_kinds::spec::{Occurrence, Rule, Rules};
 use sg_sets::BitSet;
 use std::alloc::Global;
 
-/// Returns whether each equation defines a synthesized attribute or a local of its left side or an inherited attribute of
-/// an argument, and no two of them define the same.
+/// Returns whether each equation defines a synthesized attribute or a local of its left side or an inherited
+/// attribute of an argument, and no two of them define the same.
 pub fn is_proper(alloc: Global, rules: &Rules) -> Result<bool, NoMemory>
     requires { AreInRange rules.now }
     ensures { IfOk result (λ b. IsTrue b ↔ AreProper rules.now) }

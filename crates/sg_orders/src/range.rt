@@ -9,7 +9,8 @@ use sg_kinds::row::Row;
 use sg_kinds::spec::{Occurrence, Operator, Rule, Rules};
 
 /// Returns whether the phyla of the operators and the occurrences of the equations are there, with fewer than 2^22
-/// attributes a phylum, fewer than 2^8 arguments and 2^20 locals an operator, and fewer than 2^32 operators and equations.
+/// attributes a phylum, fewer than 2^8 arguments and 2^20 locals an operator, and fewer than 2^32 operators and
+/// equations.
 pub fn is_in_range(rules: &Rules) -> bool
     ensures { IsTrue result ↔ AreInRange rules.now }
 {

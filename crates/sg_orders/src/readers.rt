@@ -79,7 +79,9 @@ fn note(
 ) -> Result<(), NoMemory>
     requires { All (IsNumberedBelow frame.now (length readers.old)) rule.now.args }
     ensures size { OnOk result (length readers.new ≡ length readers.old) }
-    ensures notes { OnOk result ((v : ℕ) → v < length readers.old → slice_index_or readers.new v [] ≡ slice_index_or readers.old v [] ++ only_where (has_number frame.now rule.now.args v) id) }
+    ensures notes { OnOk result ((v : ℕ) → v < length readers.old
+        → slice_index_or readers.new v [] ≡ slice_index_or readers.old v []
+        ++ only_where (has_number frame.now rule.now.args v) id) }
 {
     let mut named = BitSet::new(alloc, readers.len())?;
     for &arg in rule.args.as_slice() {

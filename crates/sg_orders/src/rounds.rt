@@ -24,7 +24,8 @@ pub fn saturate(
     ensures operators { OnOk result (AreAlike operators.old operators.new) }
     ensures phyla { OnOk result (AreAlike phyla.old phyla.new) }
     ensures sound { OnOk result (StaySound frames.now operators.old phyla.old operators.new phyla.new) }
-    ensures keeps { OnOk result ((p m n : ℕ) → Holds (relation_at operators.old p) m n → Holds (relation_at operators.new p) m n) }
+    ensures keeps { OnOk result ((p m n : ℕ) → Holds (relation_at operators.old p) m n
+        → Holds (relation_at operators.new p) m n) }
     ensures settled { OnOk result (AreSettled frames.now operators.new phyla.new) }
 {
     let mut waiting = vec![in alloc; true; frames.len()]?;
@@ -45,7 +46,8 @@ fn exhaust(
     ensures operators { OnOk result (AreAlike operators.old operators.new) }
     ensures phyla { OnOk result (AreAlike phyla.old phyla.new) }
     ensures sound { OnOk result (StaySound frames.now operators.old phyla.old operators.new phyla.new) }
-    ensures keeps { OnOk result ((p m n : ℕ) → Holds (relation_at operators.old p) m n → Holds (relation_at operators.new p) m n) }
+    ensures keeps { OnOk result ((p m n : ℕ) → Holds (relation_at operators.old p) m n
+        → Holds (relation_at operators.new p) m n) }
     ensures settled { OnOk result (AreSettled frames.now operators.new phyla.new) }
 {
     while round(alloc, frames, operators, phyla, waiting)? {}
@@ -66,8 +68,10 @@ fn round(
     ensures operators { OnOk result (AreAlike operators.old operators.new) }
     ensures phyla { OnOk result (AreAlike phyla.old phyla.new) }
     ensures sound { OnOk result (StaySound frames.now operators.old phyla.old operators.new phyla.new) }
-    ensures keeps { OnOk result ((p m n : ℕ) → Holds (relation_at operators.old p) m n → Holds (relation_at operators.new p) m n) }
-    ensures fewer { IfOk result (λ gained. sum_by all_missing phyla.new + (if gained then 1 else 0) ≤ sum_by all_missing phyla.old) }
+    ensures keeps { OnOk result ((p m n : ℕ) → Holds (relation_at operators.old p) m n
+        → Holds (relation_at operators.new p) m n) }
+    ensures fewer { IfOk result (λ gained. sum_by all_missing phyla.new +
+        (if gained then 1 else 0) ≤ sum_by all_missing phyla.old) }
     ensures flags { OnOk result (length waiting.new ≡ length frames.now) }
     ensures others { OnOk result (AreSettledElse frames.now waiting.new operators.new phyla.new) }
     ensures settled { IfOk result (λ gained. OnFalse gained (AreSettled frames.now operators.new phyla.new)) }
@@ -136,7 +140,8 @@ pub fn spread_all(relation: &mut Relation, spots: &[Spot], phyla: &[Relation])
 /// Relates the attributes of an operator's phyla as its vertices are related, and returns whether some were not.
 fn gather_all(phyla: &mut [Relation], spots: &[Spot], closed: &Relation) -> bool
     requires { All (Fits (length closed.now) phyla.old) spots.now }
-    ensures gathers { (X a b : ℕ) → Holds (relation_at phyla.new X) a b ↔ (Holds (relation_at phyla.old X) a b ⊎ IsJoined spots.now (Holds closed.now) X a b) }
+    ensures gathers { (X a b : ℕ) → Holds (relation_at phyla.new X) a b
+        ↔ (Holds (relation_at phyla.old X) a b ⊎ IsJoined spots.now (Holds closed.now) X a b) }
     ensures alike { AreAlike phyla.old phyla.new }
     ensures fewer { sum_by all_missing phyla.new + (if result then 1 else 0) ≤ sum_by all_missing phyla.old }
     ensures stays { OnFalse result (phyla.new ≡ phyla.old) }
@@ -150,8 +155,8 @@ fn gather_all(phyla: &mut [Relation], spots: &[Spot], closed: &Relation) -> bool
     gained
 }
 
-/// Adds to an operator's relation what its phyla relate, and to its phyla what it joins then, and returns whether a phylum
-/// gained a pair.
+/// Adds to an operator's relation what its phyla relate, and to its phyla what it joins then, and returns whether a
+/// phylum gained a pair.
 fn settle(
     alloc: Global,
     spots: &[Spot],
@@ -159,11 +164,14 @@ fn settle(
     phyla: &mut [Relation],
 ) -> Result<bool, NoMemory>
     requires { All (Fits (length relation.old) phyla.old) spots.now }
-    ensures spreads { OnOk result ((m n : ℕ) → Holds relation.new m n ↔ (Holds relation.old m n ⊎ IsSpread spots.now phyla.old m n)) }
-    ensures joins { OnOk result ((X a b : ℕ) → Holds (relation_at phyla.new X) a b ↔ (Holds (relation_at phyla.old X) a b ⊎ IsJoined spots.now (Path (Holds relation.new)) X a b)) }
+    ensures spreads { OnOk result ((m n : ℕ) → Holds relation.new m n
+        ↔ (Holds relation.old m n ⊎ IsSpread spots.now phyla.old m n)) }
+    ensures joins { OnOk result ((X a b : ℕ) → Holds (relation_at phyla.new X) a b
+        ↔ (Holds (relation_at phyla.old X) a b ⊎ IsJoined spots.now (Path (Holds relation.new)) X a b)) }
     ensures size { OnOk result (length relation.new ≡ length relation.old) }
     ensures alike { OnOk result (AreAlike phyla.old phyla.new) }
-    ensures fewer { IfOk result (λ gained. sum_by all_missing phyla.new + (if gained then 1 else 0) ≤ sum_by all_missing phyla.old) }
+    ensures fewer { IfOk result (λ gained. sum_by all_missing phyla.new +
+        (if gained then 1 else 0) ≤ sum_by all_missing phyla.old) }
     ensures stays { IfOk result (λ gained. OnFalse gained (phyla.new ≡ phyla.old)) }
 {
     spread_all(relation, spots, phyla);

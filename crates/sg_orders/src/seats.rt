@@ -67,8 +67,8 @@ pub fn seat(
     least.unwrap_or(behind)
 }
 
-/// The visit of the left side to which a position belongs: the first of its visits that has a synthesized attribute at the
-/// position or later, else the last.
+/// The visit of the left side to which a position belongs: the first of its visits that has a synthesized attribute
+/// at the position or later, else the last.
 pub fn belongs(attrs: &[Attr], visits: &[u32], places: &[u32], count: u32, place: usize) -> u32
     requires visits { length visits.now ≡ length attrs.now }
     requires places { length attrs.now ≤ length places.now }

@@ -19,7 +19,8 @@ pub fn all_visits(alloc: Global, layers: &[Row<usize>]) -> Result<Row<Row<u32>>,
     Ok(Row::new(all))
 }
 
-/// The visit of each attribute, counted from 1: two layers are one visit, and the last evaluated comes first in the layers.
+/// The visit of each attribute, counted from 1: two layers are one visit, and the last evaluated comes first in the
+/// layers.
 fn visits(alloc: Global, layers: &[usize]) -> Result<Row<u32>, NoMemory>
     requires { All (λ l. l < 2 ^ 32) layers.now }
     ensures { IfOk result (λ v. v ≡ visits_by layers.now) }

@@ -11,7 +11,8 @@ pub fn call(frames: &[Frame], spots: &[Spot], waiting: &mut [bool])
     requires { length waiting.old ≡ length frames.now }
     ensures size { length waiting.new ≡ length waiting.old }
     ensures stays { (q : ℕ) → Waits waiting.old q → Waits waiting.new q }
-    ensures calls { (q : ℕ) → q < length frames.now → Waits waiting.new q ⊎ AreApart (frame_at frames.now q).spots spots.now }
+    ensures calls { (q : ℕ) → q < length frames.now → Waits waiting.new q
+        ⊎ AreApart (frame_at frames.now q).spots spots.now }
 {
     for (q, frame) in frames.iter().enumerate() {
         if !are_apart(frame.spots.as_slice(), spots) {

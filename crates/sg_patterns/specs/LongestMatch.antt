@@ -18,8 +18,8 @@ TerminalFrom (Pattern p) text i j = MatchesFrom p text i j
 abbrev pub MatchesAt : List Terminal → Bytes → ℕ → ℕ → ℕ → Type 0
 MatchesAt all text at number len = MatchOption (slice_get all number) ⊥ (λ t. TerminalFrom t text at (at + len))
 
--- the number and the length of the longest match at a place: a match of some bytes, no other is longer, and no terminal before it
--- matches as many
+-- the number and the length of the longest match at a place: a match of some bytes, no other is longer, and no
+-- terminal before it matches as many
 pub record IsLongest (all : List Terminal) (text : Bytes) (at number len : ℕ) : Type 0 where
   pub some : 0 < len
   pub found : MatchesAt all text at number len

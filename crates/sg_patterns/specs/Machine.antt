@@ -13,8 +13,9 @@ pub record Frame : Type 0 where
   pub alternatives : Option Lexeme
   pub sequence : Option Lexeme
 
--- where the reading stands, with the parentheses that are open, the innermost first, and what stands in the innermost: before a
--- base; behind a base, which a sign may follow; behind a backslash; in brackets, with the ranges so far
+-- where the reading stands, with the parentheses that are open, the innermost first, and what stands in the
+-- innermost: before a base; behind a base, which a sign may follow; behind a backslash; in brackets, with the ranges
+-- so far
 pub data State : Type 0 where
   Ready : List Frame → Frame → State
   Held : List Frame → Frame → Lexeme → State
@@ -89,7 +90,8 @@ greatest_special = 124
 
 -- a byte that may end a range from a low byte on
 abbrev pub feed_end : List Frame → Frame → Bool → List (ℕ × ℕ) → ℕ → ℕ → Bool → Option State
-feed_end outer f negated rs low b good = if good && nat_le low b then Some (Bracket outer f negated (rs ++ (low, b) ∷ []) Done) else None
+feed_end outer f negated rs low b good = if good && nat_le low b then Some
+    (Bracket outer f negated (rs ++ (low, b) ∷ []) Done) else None
 
 abbrev pub feed_inside : List Frame → Frame → Bool → List (ℕ × ℕ) → Inside → ℕ → Kind → Option State
 feed_inside outer f negated rs Open b kind.Caret = Some (Bracket outer f true rs Start)
@@ -101,7 +103,8 @@ feed_inside outer f negated rs Done b k = feed_next outer f negated rs b k
 feed_inside outer f negated rs (Dash low) b kind.Backslash =
     if nat_le low greatest_special then Some (Bracket outer f negated rs (EndEscape low)) else None
 feed_inside outer f negated rs (Dash low) b k = feed_end outer f negated rs low b (is_plain_inside k)
-feed_inside outer f negated rs StartEscape b k = if is_special k then Some (Bracket outer f negated rs (Low b)) else None
+feed_inside outer f negated rs StartEscape b k = if is_special k then Some
+    (Bracket outer f negated rs (Low b)) else None
 feed_inside outer f negated rs (EndEscape low) b k = feed_end outer f negated rs low b (is_special k)
 
 abbrev pub feed_kind : State → ℕ → Kind → Option State

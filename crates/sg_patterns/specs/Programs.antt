@@ -23,7 +23,8 @@ AreLaidOut nodes above empties t = IsLaidOut (slice_get nodes) (slice_get above)
 abbrev pub StandBelow : List Node → List Above → List Bool → ℕ → List Tree → Type 0
 StandBelow nodes above empties n [] = Unit {0}
 StandBelow nodes above empties n (t ∷ ts) =
-    (root_of t < n) × (slice_get above (root_of t) ≡ Some Top) × AreLaidOut nodes above empties t × StandBelow nodes above empties (root_of t) ts
+    (root_of t < n) × (slice_get above (root_of t) ≡ Some Top) × AreLaidOut nodes above empties t
+    × StandBelow nodes above empties (root_of t) ts
 
 -- the roots of trees, that of the first tree last
 abbrev pub roots_of : List Tree → List ℕ
@@ -52,7 +53,8 @@ abbrev pub EachBeforeNode : List Above → Type 0
 EachBeforeNode above = (k : ℕ) (a : Above) → slice_get above k ≡ Some a → NodeAfter k a
 
 -- the lists hold trees of these patterns, the last made first
-pub record HoldsIn (nodes : List Node) (above : List Above) (empties : List Bool) (roots : List ℕ) (ps : List plain.Lexeme) : Type 0 where
+pub record HoldsIn (nodes : List Node) (above : List Above) (empties : List Bool) (roots : List ℕ)
+    (ps : List plain.Lexeme) : Type 0 where
   pub trees : List Tree
   pub patterns : map pattern_of trees ≡ ps
   pub at_roots : roots ≡ roots_of trees
@@ -100,7 +102,8 @@ pub record IsProgram (p : Program) (pattern : plain.Lexeme) : Type 0 where
 -- the programs of these patterns
 pub record ArePrograms (programs : List Program) (patterns : List plain.Lexeme) : Type 0 where
   pub same : length programs ≡ length patterns
-  pub each : (k : ℕ) (p : Program) (q : plain.Lexeme) → slice_get programs k ≡ Some p → slice_get patterns k ≡ Some q → IsProgram p q
+  pub each : (k : ℕ) (p : Program) (q : plain.Lexeme) → slice_get programs k ≡ Some p → slice_get patterns k ≡ Some q
+      → IsProgram p q
 
 abbrev pub AreOrdered : List Program → Type 0
 AreOrdered programs = (k : ℕ) (p : Program) → slice_get programs k ≡ Some p → IsOrdered p

@@ -43,7 +43,8 @@ pub record ReadsIn (r : Reader) (m : Mode) (outer : List Frame) (f : Frame) (ps 
   pub made : made_by r.steps.items ≡ ps ++ frame_parts f (outer_parts outer)
 
 -- the reader stands in brackets so, whatever its mode
-pub record InBrackets (r : Reader) (m : Mode) (outer : List Frame) (f : Frame) (negated : Bool) (rs : List (ℕ × ℕ)) : Type 0 where
+pub record InBrackets (r : Reader) (m : Mode) (outer : List Frame) (f : Frame) (negated : Bool)
+    (rs : List (ℕ × ℕ)) : Type 0 where
   pub reads : ReadsIn r m outer f []
   pub way : r.negated ≡ negated
   pub so_far : r.ranges.items ≡ rs

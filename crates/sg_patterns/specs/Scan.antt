@@ -13,13 +13,16 @@ terminals_of l = map Literal l.literals ++ map Pattern l.patterns
 abbrev pub token_of : Lexemes → (at number len : ℕ) → InToken
 token_of l at number len = record { terminal = l.first + number; from = at; to = at + len }
 
--- the tokens of a text up to a place: the longest match at each place, one after the other, without those that are skipped
+-- the tokens of a text up to a place: the longest match at each place, one after the other, without those that are
+-- skipped
 pub data Scanned (l : Lexemes) (text : Bytes) : ℕ → List InToken → Type 0 where
   start : Scanned l text 0 []
-  skipped : (at number len : ℕ) (ts : List InToken) → Scanned l text at ts → IsLongest (terminals_of l) text at number len
+  skipped : (at number len : ℕ) (ts : List InToken) → Scanned l text at ts
+      → IsLongest (terminals_of l) text at number len
       → is_blank l.blank (length l.literals) number ≡ true → Scanned l text (at + len) ts
   taken : (at number len : ℕ) (ts : List InToken) → Scanned l text at ts → IsLongest (terminals_of l) text at number len
-      → is_blank l.blank (length l.literals) number ≡ false → Scanned l text (at + len) (ts ++ token_of l at number len ∷ [])
+      → is_blank l.blank (length l.literals) number ≡ false
+      → Scanned l text (at + len) (ts ++ token_of l at number len ∷ [])
 
 -- the text has tokens up to a place before its end, and nothing matches there
 pub record StopsAt (l : Lexemes) (text : Bytes) (at : ℕ) : Type 0 where

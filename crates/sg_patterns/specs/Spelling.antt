@@ -12,18 +12,22 @@ pub data IsRangeByte : ℕ → Bytes → Type 0 where
 -- a byte, or two joined by a dash of which the first is not greater
 pub data IsRange : ℕ × ℕ → Bytes → Type 0 where
   one : (b : ℕ) (s : Bytes) → IsRangeByte b s → IsRange (b, b) s
-  from_to : (b c : ℕ) (s t all : Bytes) → IsRangeByte b s → IsRangeByte c t → b ≤ c → all ≡ s ++ dash ∷ t → IsRange (b, c) all
+  from_to : (b c : ℕ) (s t all : Bytes) → IsRangeByte b s → IsRangeByte c t → b ≤ c → all ≡ s ++ dash ∷ t
+      → IsRange (b, c) all
 
 -- one range or more
 pub data AreRanges : List (ℕ × ℕ) → Bytes → Type 0 where
   first : (r : ℕ × ℕ) (s : Bytes) → IsRange r s → AreRanges (r ∷ []) s
-  more : (rs all_rs : List (ℕ × ℕ)) (r : ℕ × ℕ) (s t all : Bytes) → AreRanges rs s → IsRange r t → all_rs ≡ rs ++ r ∷ [] → all ≡ s ++ t → AreRanges all_rs all
+  more : (rs all_rs : List (ℕ × ℕ)) (r : ℕ × ℕ) (s t all : Bytes) → AreRanges rs s → IsRange r t
+      → all_rs ≡ rs ++ r ∷ [] → all ≡ s ++ t → AreRanges all_rs all
 
--- the text is the pattern, in which so many parentheses may be open at a time; sequences and alternatives group to the left
+-- the text is the pattern, in which so many parentheses may be open at a time; sequences and alternatives group to
+-- the left
 mutual
   pub data IsPattern : ℕ → Lexeme → Bytes → Type 0 where
     only : (n : ℕ) (p : Lexeme) (s : Bytes) → IsSequence n p s → IsPattern n p s
-    or : (n : ℕ) (p q : Lexeme) (s t all : Bytes) → IsPattern n p s → IsSequence n q t → all ≡ s ++ bar ∷ t → IsPattern n (Either p q) all
+    or : (n : ℕ) (p q : Lexeme) (s t all : Bytes) → IsPattern n p s → IsSequence n q t → all ≡ s ++ bar ∷ t
+        → IsPattern n (Either p q) all
 
   pub data IsSequence : ℕ → Lexeme → Bytes → Type 0 where
     empty : (n : ℕ) → IsSequence n Nothing []
@@ -31,7 +35,8 @@ mutual
 
   pub data IsRun : ℕ → Lexeme → Bytes → Type 0 where
     alone : (n : ℕ) (p : Lexeme) (s : Bytes) → IsPiece n p s → IsRun n p s
-    and_then : (n : ℕ) (p q : Lexeme) (s t all : Bytes) → IsRun n p s → IsPiece n q t → all ≡ s ++ t → IsRun n (Then p q) all
+    and_then : (n : ℕ) (p q : Lexeme) (s t all : Bytes) → IsRun n p s → IsPiece n q t → all ≡ s ++ t
+        → IsRun n (Then p q) all
 
   pub data IsPiece : ℕ → Lexeme → Bytes → Type 0 where
     once : (n : ℕ) (p : Lexeme) (s : Bytes) → IsBase n p s → IsPiece n p s
@@ -43,9 +48,12 @@ mutual
     byte : (n b : ℕ) → is_plain (kind_of b) ≡ true → IsBase n (Byte b) (b ∷ [])
     quoted : (n b : ℕ) → is_special (kind_of b) ≡ true → IsBase n (Byte b) (backslash ∷ b ∷ [])
     dot : (n : ℕ) → IsBase n Dot (full_stop ∷ [])
-    class : (n : ℕ) (rs : List (ℕ × ℕ)) (s all : Bytes) → AreRanges rs s → all ≡ (left_bracket ∷ s) ++ right_bracket ∷ [] → IsBase n (Class false rs) all
-    none_of : (n : ℕ) (rs : List (ℕ × ℕ)) (s all : Bytes) → AreRanges rs s → all ≡ (left_bracket ∷ caret ∷ s) ++ right_bracket ∷ [] → IsBase n (Class true rs) all
-    group : (n : ℕ) (p : Lexeme) (s all : Bytes) → IsPattern n p s → all ≡ (left_parenthesis ∷ s) ++ right_parenthesis ∷ [] → IsBase (suc n) p all
+    class : (n : ℕ) (rs : List (ℕ × ℕ)) (s all : Bytes) → AreRanges rs s
+        → all ≡ (left_bracket ∷ s) ++ right_bracket ∷ [] → IsBase n (Class false rs) all
+    none_of : (n : ℕ) (rs : List (ℕ × ℕ)) (s all : Bytes) → AreRanges rs s
+        → all ≡ (left_bracket ∷ caret ∷ s) ++ right_bracket ∷ [] → IsBase n (Class true rs) all
+    group : (n : ℕ) (p : Lexeme) (s all : Bytes) → IsPattern n p s
+        → all ≡ (left_parenthesis ∷ s) ++ right_parenthesis ∷ [] → IsBase (suc n) p all
 
 -- parentheses are at most so deep
 abbrev pub deepest : ℕ

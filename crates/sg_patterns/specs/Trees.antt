@@ -55,20 +55,25 @@ IsLaidOut ns up em (Nothing k) = (ns k ≡ Some node.Nothing) × (em k ≡ true)
 IsLaidOut ns up em (OneByte k l) = (ns k ≡ Some (node.Leaf l)) × (em k ≡ false)
 IsLaidOut ns up em (Then k t u) =
     (ns k ≡ Some (node.Then (root_of t) (root_of u))) × (em k ≡ (em (root_of t) && em (root_of u)))
-    × (up (root_of t) ≡ Some (Same k)) × (up (root_of u) ≡ Some (After k (root_of t))) × IsLaidOut ns up em t × IsLaidOut ns up em u
+    × (up (root_of t) ≡ Some (Same k)) × (up (root_of u) ≡ Some (After k (root_of t))) × IsLaidOut ns up em t
+    × IsLaidOut ns up em u
 IsLaidOut ns up em (Either k t u) =
     (ns k ≡ Some (node.Either (root_of t) (root_of u))) × (em k ≡ (em (root_of t) || em (root_of u)))
     × (up (root_of t) ≡ Some (Same k)) × (up (root_of u) ≡ Some (Same k)) × IsLaidOut ns up em t × IsLaidOut ns up em u
-IsLaidOut ns up em (Many k t) = (ns k ≡ Some (node.Over (root_of t))) × (em k ≡ true) × (up (root_of t) ≡ Some (Again k)) × IsLaidOut ns up em t
+IsLaidOut ns up em (Many k t) = (ns k ≡ Some (node.Over (root_of t))) × (em k ≡ true)
+    × (up (root_of t) ≡ Some (Again k)) × IsLaidOut ns up em t
 IsLaidOut ns up em (Several k t) =
-    (ns k ≡ Some (node.Over (root_of t))) × (em k ≡ em (root_of t)) × (up (root_of t) ≡ Some (Again k)) × IsLaidOut ns up em t
-IsLaidOut ns up em (Maybe k t) = (ns k ≡ Some (node.Over (root_of t))) × (em k ≡ true) × (up (root_of t) ≡ Some (Same k)) × IsLaidOut ns up em t
+    (ns k ≡ Some (node.Over (root_of t))) × (em k ≡ em (root_of t)) × (up (root_of t) ≡ Some (Again k))
+    × IsLaidOut ns up em t
+IsLaidOut ns up em (Maybe k t) = (ns k ≡ Some (node.Over (root_of t))) × (em k ≡ true)
+    × (up (root_of t) ≡ Some (Same k)) × IsLaidOut ns up em t
 
 -- each root of a part is final as its marks say; leaves are final where they are marked
 abbrev pub HasFinals : (ℕ → Bool) → Tree → Type 0
 HasFinals f (Nothing k) = f k ≡ false
 HasFinals f (OneByte k l) = Unit {0}
-HasFinals f (Then k t u) = (f k ≡ ((f (root_of t) && empty_of (pattern_of u)) || f (root_of u))) × HasFinals f t × HasFinals f u
+HasFinals f (Then k t u) = (f k ≡ ((f (root_of t) && empty_of (pattern_of u)) || f (root_of u))) × HasFinals f t
+    × HasFinals f u
 HasFinals f (Either k t u) = (f k ≡ (f (root_of t) || f (root_of u))) × HasFinals f t × HasFinals f u
 HasFinals f (Many k t) = (f k ≡ f (root_of t)) × HasFinals f t
 HasFinals f (Several k t) = (f k ≡ f (root_of t)) × HasFinals f t
@@ -79,7 +84,8 @@ abbrev pub Steps : (finals begins after : ℕ → Bool) → ℕ → Tree → Typ
 Steps f g h b (Nothing k) = Unit {0}
 Steps f g h b (OneByte k l) = h k ≡ (g k && passes l b)
 Steps f g h b (Then k t u) =
-    (g (root_of t) ≡ g k) × (g (root_of u) ≡ ((g k && empty_of (pattern_of t)) || f (root_of t))) × Steps f g h b t × Steps f g h b u
+    (g (root_of t) ≡ g k) × (g (root_of u) ≡ ((g k && empty_of (pattern_of t)) || f (root_of t))) × Steps f g h b t
+    × Steps f g h b u
 Steps f g h b (Either k t u) = (g (root_of t) ≡ g k) × (g (root_of u) ≡ g k) × Steps f g h b t × Steps f g h b u
 Steps f g h b (Many k t) = (g (root_of t) ≡ (g k || f (root_of t))) × Steps f g h b t
 Steps f g h b (Several k t) = (g (root_of t) ≡ (g k || f (root_of t))) × Steps f g h b t

@@ -19,7 +19,8 @@ pub fn matching_is_decided()
 
 /// A pattern matches a part of a text where it matches that part alone.
 pub fn matches_in_place()
-    ensures { (p : plain.Lexeme) (text : Bytes) (i j : ℕ) → i ≤ j → j ≤ length text → MatchesFrom p text i j ↔ Matches p (take (j - i) (drop i text)) }
+    ensures { (p : plain.Lexeme) (text : Bytes) (i j : ℕ) → i ≤ j → j ≤ length text
+        → MatchesFrom p text i j ↔ Matches p (take (j - i) (drop i text)) }
 {}
 
 /// Whether a term fits a phylum is decided.
@@ -29,15 +30,20 @@ pub fn fitting_is_decided()
 
 /// Each text has its tokens, or a first place where nothing matches.
 pub fn each_text_is_scanned()
-    ensures { (l : Lexemes) (text : Bytes) → ((ts : List InToken) × Scanned l text (length text) ts) ⊎ ((k : ℕ) × StopsAt l text k) }
+    ensures { (l : Lexemes) (text : Bytes) → ((ts : List InToken) × Scanned l text (length text) ts)
+        ⊎ ((k : ℕ) × StopsAt l text k) }
 {}
 
 /// A text has its tokens once, or one first place where nothing matches, and not both; so it is with all lexemes of one
 /// specification.
 pub fn scans_are_unique()
-    ensures tokens { (l : Lexemes) (text : Bytes) (ts us : List InToken) → Scanned l text (length text) ts → Scanned l text (length text) us → ts ≡ us }
-    ensures either { (l : Lexemes) (text : Bytes) (ts : List InToken) (k : ℕ) → Scanned l text (length text) ts → StopsAt l text k → ⊥ }
+    ensures tokens { (l : Lexemes) (text : Bytes) (ts us : List InToken) → Scanned l text (length text) ts
+        → Scanned l text (length text) us → ts ≡ us }
+    ensures either { (l : Lexemes) (text : Bytes) (ts : List InToken) (k : ℕ) → Scanned l text (length text) ts
+        → StopsAt l text k → ⊥ }
     ensures place { (l : Lexemes) (text : Bytes) (k n : ℕ) → StopsAt l text k → StopsAt l text n → k ≡ n }
-    ensures same { (spec : Spec) (l m : Lexemes) → AreLexemesOf spec l → AreLexemesOf spec m → (text : Bytes) (at : ℕ) (ts : List InToken) → Scanned l text at ts → Scanned m text at ts }
-    ensures same_stop { (spec : Spec) (l m : Lexemes) → AreLexemesOf spec l → AreLexemesOf spec m → (text : Bytes) (k : ℕ) → StopsAt l text k → StopsAt m text k }
+    ensures same { (spec : Spec) (l m : Lexemes) → AreLexemesOf spec l → AreLexemesOf spec m
+        → (text : Bytes) (at : ℕ) (ts : List InToken) → Scanned l text at ts → Scanned m text at ts }
+    ensures same_stop { (spec : Spec) (l m : Lexemes) → AreLexemesOf spec l → AreLexemesOf spec m
+        → (text : Bytes) (k : ℕ) → StopsAt l text k → StopsAt m text k }
 {}

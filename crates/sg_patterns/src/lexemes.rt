@@ -20,8 +20,9 @@ use sg_kinds::spec::{Phylum, Production, Symbol};
 use sg_kinds::text::Text;
 use std::alloc::Global;
 
-/// What the tokens of a text may be. The terminals before the literals are the end and one marker for each entry; then come
-/// the literals by their first occurrence in the productions, and the lexeme phyla in the order of their declarations.
+/// What the tokens of a text may be. The terminals before the literals are the end and one marker for each entry;
+/// then come the literals by their first occurrence in the productions, and the lexeme phyla in the order of their
+/// declarations.
 #[derive(Drop)]
 pub struct Lexemes {
     /// the number of the first literal
@@ -121,7 +122,8 @@ fn empty_rows(alloc: Global) -> Result<Vec<Vec<usize>>, NoMemory>
 fn put_place(rows: &mut Vec<Vec<usize>>, place: usize, text: &[u8]) -> Result<(), NoMemory>
     requires { length rows.old.items ≡ 256 }
     ensures count { length rows.new.items ≡ 256 }
-    ensures put { (ts : List Bytes) → length ts ≡ place → IsTable ts (map (λ v. v.items) rows.old.items) → OnOk result (IsTable (ts ++ text.now ∷ []) (map (λ v. v.items) rows.new.items)) }
+    ensures put { (ts : List Bytes) → length ts ≡ place → IsTable ts (map (λ v. v.items) rows.old.items)
+        → OnOk result (IsTable (ts ++ text.now ∷ []) (map (λ v. v.items) rows.new.items)) }
 {
     match text {
         [] => Ok(()),

@@ -65,7 +65,8 @@ pub fn longest_among(
     requires begins_room { HaveRoom programs.now (length begins.old) }
     requires finals_room { HaveRoom programs.now (length finals.old) }
     requires few { number + length programs.now < 2 ^ 64 }
-    ensures { (ts : List Terminal) (ps : List plain.Lexeme) → length ts ≡ number → ArePrograms programs.now ps → IsAnswer ts text.now at before → IsAnswer (ts ++ map Pattern ps) text.now at result }
+    ensures { (ts : List Terminal) (ps : List plain.Lexeme) → length ts ≡ number → ArePrograms programs.now ps
+        → IsAnswer ts text.now at before → IsAnswer (ts ++ map Pattern ps) text.now at result }
 {
     let mut best = before;
     for (k, program) in programs.iter().enumerate() {
@@ -77,8 +78,9 @@ pub fn longest_among(
     best
 }
 
-/// The number of the pattern with the longest match at a place, the first of several, and the length of that match; None
-/// exactly where no pattern matches a byte. It costs at most the size of the patterns times the rest of the text.
+/// The number of the pattern with the longest match at a place, the first of several, and the length of that match;
+/// None exactly where no pattern matches a byte. It costs at most the size of the patterns times the rest of the
+/// text.
 pub fn longest(
     alloc: Global,
     all: &[Lexeme],

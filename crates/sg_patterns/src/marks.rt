@@ -96,7 +96,8 @@ fn barred_by(
     requires ordered { IsOrdered program.now }
     requires begins_room { vec_len program.now.nodes ≤ length begins.old }
     requires finals_room { vec_len program.now.nodes ≤ length finals.old }
-    ensures { IfOk result (λ v. (p : plain.Lexeme) → IsProgram program.now p → (b : ℕ) → flag_at v.items b ≡ true → IsBarred p b) }
+    ensures { IfOk result (λ v. (p : plain.Lexeme) → IsProgram program.now p → (b : ℕ) → flag_at v.items b ≡ true
+        → IsBarred p b) }
 {
     clear(program.nodes.len(), finals);
     mark_begins(program, true, finals, begins);

@@ -75,7 +75,8 @@ fn matches_at(
     requires ordered { (ps : List plain.Lexeme) × ArePrograms programs.now ps }
     requires begins_room { HaveRoom programs.now (length begins.old) }
     requires finals_room { HaveRoom programs.now (length finals.old) }
-    ensures { (ps : List plain.Lexeme) (p : plain.Lexeme) → ArePrograms programs.now ps → slice_get ps k ≡ Some p → IsTrue result ↔ Matches p text.now }
+    ensures { (ps : List plain.Lexeme) (p : plain.Lexeme) → ArePrograms programs.now ps → slice_get ps k ≡ Some p
+        → IsTrue result ↔ Matches p text.now }
 {
     matches_whole(&programs[k], text, begins, finals)
 }

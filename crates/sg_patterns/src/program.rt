@@ -177,7 +177,8 @@ impl Building {
     /// Puts a node over the last tree, which is taken again and again, but once at least.
     fn several(&mut self) -> Result<(), NoMemory>
         requires { HoldsSome self.old }
-        ensures { (ps : List plain.Lexeme) → Holds self.old ps → OnOk result (Holds self.new (of_one plain.Several ps)) }
+        ensures { (ps : List plain.Lexeme) → Holds self.old ps
+            → OnOk result (Holds self.new (of_one plain.Several ps)) }
     {
         let place = self.nodes.len();
         match self.roots.pop() {
@@ -210,7 +211,8 @@ impl Building {
     /// Puts the pattern of the empty text behind the others.
     fn nothing(&mut self) -> Result<(), NoMemory>
         ensures rooted { OnOk result (0 < vec_len self.new.roots) }
-        ensures holds { (ps : List plain.Lexeme) → Holds self.old ps → OnOk result (Holds self.new (plain.Nothing ∷ ps)) }
+        ensures holds { (ps : List plain.Lexeme) → Holds self.old ps
+            → OnOk result (Holds self.new (plain.Nothing ∷ ps)) }
     {
         self.push(Node::Nothing, true)
     }
@@ -225,7 +227,8 @@ impl Building {
     /// Does what the step says.
     fn add(&mut self, alloc: Global, step: &LexemeStep) -> Result<(), NoMemory>
         requires { HoldsSome self.old }
-        ensures { (ps : List plain.Lexeme) → Holds self.old ps → OnOk result (Holds self.new (act (instruction_of step.now) ps)) }
+        ensures { (ps : List plain.Lexeme) → Holds self.old ps
+            → OnOk result (Holds self.new (act (instruction_of step.now) ps)) }
     {
         match step {
             LexemeStep::Nothing => self.nothing(),

@@ -85,7 +85,8 @@ impl Reader {
 
     /// Puts a step behind the others.
     fn emit(&mut self, step: LexemeStep) -> Result<(), NoMemory>
-        ensures made { OnOk result (made_by self.new.steps.items ≡ act (instruction_of step) (made_by self.old.steps.items)) }
+        ensures made { OnOk result (made_by self.new.steps.items
+            ≡ act (instruction_of step) (made_by self.old.steps.items)) }
         ensures rest { self.new ≡ record self.old { steps = self.new.steps } }
     {
         self.steps.push(step)?;
@@ -94,8 +95,13 @@ impl Reader {
 
     /// Joins the piece made last to those before it.
     fn join_piece(&mut self) -> Result<(), NoMemory>
-        ensures made { (f : machine.Frame) (p : plain.Lexeme) (rest : List plain.Lexeme) → self.old.frame ≡ flags_of f → made_by self.old.steps.items ≡ p ∷ frame_parts f rest → OnOk result (made_by self.new.steps.items ≡ frame_parts (with_piece f p) rest) }
-        ensures rest { OnOk result (self.new ≡ record self.old { steps = self.new.steps; frame = record self.old.frame { sequence = true } }) }
+        ensures made { (f : machine.Frame) (p : plain.Lexeme) (rest : List plain.Lexeme) → self.old.frame ≡ flags_of f
+            → made_by self.old.steps.items ≡ p ∷ frame_parts f rest
+            → OnOk result (made_by self.new.steps.items ≡ frame_parts (with_piece f p) rest) }
+        ensures rest { OnOk result (self.new ≡ record self.old {
+          steps = self.new.steps;
+          frame = record self.old.frame { sequence = true };
+        }) }
     {
         if self.frame.sequence {
             self.emit(LexemeStep::Then)?;
@@ -106,7 +112,10 @@ impl Reader {
 
     /// Puts the pattern of the empty text where no piece stands behind the last bar.
     fn fill(&mut self) -> Result<(), NoMemory>
-        ensures made { (f : machine.Frame) (rest : List plain.Lexeme) → self.old.frame ≡ flags_of f → made_by self.old.steps.items ≡ frame_parts f rest → OnOk result (made_by self.new.steps.items ≡ unwrap_or f.sequence plain.Nothing ∷ put_part f.alternatives rest) }
+        ensures made { (f : machine.Frame) (rest : List plain.Lexeme) → self.old.frame ≡ flags_of f
+            → made_by self.old.steps.items ≡ frame_parts f rest
+            → OnOk result (made_by self.new.steps.items
+            ≡ unwrap_or f.sequence plain.Nothing ∷ put_part f.alternatives rest) }
         ensures rest { self.new ≡ record self.old { steps = self.new.steps } }
     {
         if self.frame.sequence {
@@ -117,7 +126,9 @@ impl Reader {
 
     /// Joins the alternative behind the last bar to those before it.
     fn join_alternative(&mut self) -> Result<(), NoMemory>
-        ensures made { (f : machine.Frame) (q : plain.Lexeme) (rest : List plain.Lexeme) → self.old.frame ≡ flags_of f → made_by self.old.steps.items ≡ q ∷ put_part f.alternatives rest → OnOk result (made_by self.new.steps.items ≡ joined f.alternatives q ∷ rest) }
+        ensures made { (f : machine.Frame) (q : plain.Lexeme) (rest : List plain.Lexeme) → self.old.frame ≡ flags_of f
+            → made_by self.old.steps.items ≡ q ∷ put_part f.alternatives rest
+            → OnOk result (made_by self.new.steps.items ≡ joined f.alternatives q ∷ rest) }
         ensures rest { self.new ≡ record self.old { steps = self.new.steps } }
     {
         if !self.frame.alternatives {
@@ -128,7 +139,9 @@ impl Reader {
 
     /// Makes one pattern of what stands in the parenthesis.
     fn close(&mut self) -> Result<(), NoMemory>
-        ensures made { (f : machine.Frame) (rest : List plain.Lexeme) → self.old.frame ≡ flags_of f → made_by self.old.steps.items ≡ frame_parts f rest → OnOk result (made_by self.new.steps.items ≡ whole f ∷ rest) }
+        ensures made { (f : machine.Frame) (rest : List plain.Lexeme) → self.old.frame ≡ flags_of f
+            → made_by self.old.steps.items ≡ frame_parts f rest
+            → OnOk result (made_by self.new.steps.items ≡ whole f ∷ rest) }
         ensures rest { self.new ≡ record self.old { steps = self.new.steps } }
     {
         self.fill()?;
@@ -137,7 +150,8 @@ impl Reader {
 
     /// Ends an alternative.
     fn bar(&mut self) -> Result<bool, NoMemory>
-        ensures { (m : IsMode) (outer : List machine.Frame) (f : machine.Frame) → ReadsIn self.old m outer f [] → IfOk result (λ more. Fed (Some (machine.Ready outer (barred f))) more self.new) }
+        ensures { (m : IsMode) (outer : List machine.Frame) (f : machine.Frame) → ReadsIn self.old m outer f []
+            → IfOk result (λ more. Fed (Some (machine.Ready outer (barred f))) more self.new) }
     {
         self.close()?;
         self.frame = Frame {
@@ -150,7 +164,8 @@ impl Reader {
 
     /// Opens a parenthesis, unless as many are open as may be.
     fn open(&mut self) -> Result<bool, NoMemory>
-        ensures { (m : IsMode) (outer : List machine.Frame) (f : machine.Frame) → ReadsIn self.old m outer f [] → IfOk result (λ more. Fed (opened outer f) more self.new) }
+        ensures { (m : IsMode) (outer : List machine.Frame) (f : machine.Frame) → ReadsIn self.old m outer f []
+            → IfOk result (λ more. Fed (opened outer f) more self.new) }
     {
         if self.outer.len() >= DEEPEST {
             return Ok(false);
@@ -163,7 +178,8 @@ impl Reader {
 
     /// Closes the innermost parenthesis, if one is open.
     fn close_parenthesis(&mut self) -> Result<bool, NoMemory>
-        ensures { (m : IsMode) (outer : List machine.Frame) (f : machine.Frame) → ReadsIn self.old m outer f [] → IfOk result (λ more. Fed (closed outer f) more self.new) }
+        ensures { (m : IsMode) (outer : List machine.Frame) (f : machine.Frame) → ReadsIn self.old m outer f []
+            → IfOk result (λ more. Fed (closed outer f) more self.new) }
     {
         let Some(around) = self.outer.pop() else {
             return Ok(false);
@@ -176,7 +192,9 @@ impl Reader {
 
     /// Takes a base of one step.
     fn hold(&mut self, step: LexemeStep) -> Result<bool, NoMemory>
-        ensures { (m : IsMode) (outer : List machine.Frame) (f : machine.Frame) (p : plain.Lexeme) → ReadsIn self.old m outer f [] → ((ps : List plain.Lexeme) → act (instruction_of step) ps ≡ p ∷ ps) → IfOk result (λ more. Fed (Some (machine.Held outer f p)) more self.new) }
+        ensures { (m : IsMode) (outer : List machine.Frame) (f : machine.Frame) (p : plain.Lexeme)
+            → ReadsIn self.old m outer f [] → ((ps : List plain.Lexeme) → act (instruction_of step) ps ≡ p ∷ ps)
+            → IfOk result (λ more. Fed (Some (machine.Held outer f p)) more self.new) }
     {
         self.emit(step)?;
         self.mode = Mode::Held;
@@ -185,7 +203,10 @@ impl Reader {
 
     /// Takes a sign behind a base.
     fn sign(&mut self, step: LexemeStep) -> Result<bool, NoMemory>
-        ensures { (m : IsMode) (outer : List machine.Frame) (f : machine.Frame) (p q : plain.Lexeme) → ReadsIn self.old m outer f (p ∷ []) → ((ps : List plain.Lexeme) → act (instruction_of step) (p ∷ ps) ≡ q ∷ ps) → IfOk result (λ more. Fed (Some (machine.Ready outer (with_piece f q))) more self.new) }
+        ensures { (m : IsMode) (outer : List machine.Frame) (f : machine.Frame) (p q : plain.Lexeme)
+            → ReadsIn self.old m outer f (p ∷ []) → ((ps : List plain.Lexeme)
+            → act (instruction_of step) (p ∷ ps) ≡ q ∷ ps)
+            → IfOk result (λ more. Fed (Some (machine.Ready outer (with_piece f q))) more self.new) }
     {
         self.emit(step)?;
         self.join_piece()?;
@@ -195,7 +216,8 @@ impl Reader {
 
     /// Takes a byte before a base.
     fn feed_ready(&mut self, byte: u8, kind: Kind) -> Result<bool, NoMemory>
-        ensures { (m : IsMode) (outer : List machine.Frame) (f : machine.Frame) → ReadsIn self.old m outer f [] → IfOk result (λ more. Fed (machine.feed_ready outer f byte kind) more self.new) }
+        ensures { (m : IsMode) (outer : List machine.Frame) (f : machine.Frame) → ReadsIn self.old m outer f []
+            → IfOk result (λ more. Fed (machine.feed_ready outer f byte kind) more self.new) }
     {
         match kind {
             Kind::Bar => self.bar(),
@@ -219,7 +241,9 @@ impl Reader {
 
     /// Takes a byte behind a base.
     fn feed_held(&mut self, byte: u8, kind: Kind) -> Result<bool, NoMemory>
-        ensures { (m : IsMode) (outer : List machine.Frame) (f : machine.Frame) (p : plain.Lexeme) → ReadsIn self.old m outer f (p ∷ []) → IfOk result (λ more. Fed (machine.feed_held outer f p byte kind) more self.new) }
+        ensures { (m : IsMode) (outer : List machine.Frame) (f : machine.Frame) (p : plain.Lexeme)
+            → ReadsIn self.old m outer f (p ∷ []) → IfOk result
+            (λ more. Fed (machine.feed_held outer f p byte kind) more self.new) }
     {
         match kind {
             Kind::Star => self.sign(LexemeStep::Many),
@@ -234,7 +258,9 @@ impl Reader {
 
     /// Takes the first byte of a range.
     fn feed_start(&mut self, byte: u8, kind: Kind) -> bool
-        ensures { (m : IsMode) (outer : List machine.Frame) (f : machine.Frame) (negated : Bool) (rs : List (ℕ × ℕ)) → InBrackets self.old m outer f negated rs → Fed (machine.feed_start outer f negated rs byte kind) result self.new }
+        ensures { (m : IsMode) (outer : List machine.Frame) (f : machine.Frame) (negated : Bool) (rs : List (ℕ × ℕ))
+            → InBrackets self.old m outer f negated rs
+            → Fed (machine.feed_start outer f negated rs byte kind) result self.new }
     {
         match kind {
             Kind::Backslash => {
@@ -251,7 +277,9 @@ impl Reader {
 
     /// Takes a byte behind a range.
     fn feed_next(&mut self, byte: u8, kind: Kind) -> Result<bool, NoMemory>
-        ensures { (m : IsMode) (outer : List machine.Frame) (f : machine.Frame) (negated : Bool) (rs : List (ℕ × ℕ)) → InBrackets self.old m outer f negated rs → IfOk result (λ more. Fed (machine.feed_next outer f negated rs byte kind) more self.new) }
+        ensures { (m : IsMode) (outer : List machine.Frame) (f : machine.Frame) (negated : Bool) (rs : List (ℕ × ℕ))
+            → InBrackets self.old m outer f negated rs
+            → IfOk result (λ more. Fed (machine.feed_next outer f negated rs byte kind) more self.new) }
     {
         match kind {
             Kind::RightBracket => {
@@ -264,7 +292,9 @@ impl Reader {
 
     /// Takes the last byte of a range, if it may stand there and is not less than the first.
     fn feed_end(&mut self, low: u8, byte: u8, good: bool) -> Result<bool, NoMemory>
-        ensures { (m : IsMode) (outer : List machine.Frame) (f : machine.Frame) (negated : Bool) (rs : List (ℕ × ℕ)) → InBrackets self.old m outer f negated rs → IfOk result (λ more. Fed (machine.feed_end outer f negated rs low byte good) more self.new) }
+        ensures { (m : IsMode) (outer : List machine.Frame) (f : machine.Frame) (negated : Bool) (rs : List (ℕ × ℕ))
+            → InBrackets self.old m outer f negated rs
+            → IfOk result (λ more. Fed (machine.feed_end outer f negated rs low byte good) more self.new) }
     {
         if !(good && low <= byte) {
             return Ok(false);
@@ -276,7 +306,10 @@ impl Reader {
 
     /// Takes a byte behind the low byte of a range.
     fn feed_low(&mut self, low: u8, byte: u8, kind: Kind) -> Result<bool, NoMemory>
-        ensures { (m : IsMode) (outer : List machine.Frame) (f : machine.Frame) (negated : Bool) (rs : List (ℕ × ℕ)) → InBrackets self.old m outer f negated rs → IfOk result (λ more. Fed (machine.feed_inside outer f negated rs (inside.Low low) byte kind) more self.new) }
+        ensures { (m : IsMode) (outer : List machine.Frame) (f : machine.Frame) (negated : Bool) (rs : List (ℕ × ℕ))
+            → InBrackets self.old m outer f negated rs
+            → IfOk result (λ more. Fed (machine.feed_inside outer f negated rs
+            (inside.Low low) byte kind) more self.new) }
     {
         match kind {
             Kind::Dash => {
@@ -292,7 +325,10 @@ impl Reader {
 
     /// Takes a byte behind the dash of a range.
     fn feed_dash(&mut self, low: u8, byte: u8, kind: Kind) -> Result<bool, NoMemory>
-        ensures { (m : IsMode) (outer : List machine.Frame) (f : machine.Frame) (negated : Bool) (rs : List (ℕ × ℕ)) → InBrackets self.old m outer f negated rs → IfOk result (λ more. Fed (machine.feed_inside outer f negated rs (inside.Dash low) byte kind) more self.new) }
+        ensures { (m : IsMode) (outer : List machine.Frame) (f : machine.Frame) (negated : Bool) (rs : List (ℕ × ℕ))
+            → InBrackets self.old m outer f negated rs
+            → IfOk result (λ more. Fed (machine.feed_inside outer f negated rs
+            (inside.Dash low) byte kind) more self.new) }
     {
         match kind {
             Kind::Backslash => {
@@ -308,7 +344,9 @@ impl Reader {
 
     /// Takes a byte behind the first bracket.
     fn feed_open(&mut self, byte: u8, kind: Kind) -> bool
-        ensures { (m : IsMode) (outer : List machine.Frame) (f : machine.Frame) (negated : Bool) (rs : List (ℕ × ℕ)) → InBrackets self.old m outer f negated rs → Fed (machine.feed_inside outer f negated rs inside.Open byte kind) result self.new }
+        ensures { (m : IsMode) (outer : List machine.Frame) (f : machine.Frame) (negated : Bool) (rs : List (ℕ × ℕ))
+            → InBrackets self.old m outer f negated rs
+            → Fed (machine.feed_inside outer f negated rs inside.Open byte kind) result self.new }
     {
         match kind {
             Kind::Caret => {
@@ -322,7 +360,9 @@ impl Reader {
 
     /// Takes a byte behind a backslash before the low byte of a range.
     fn feed_escape(&mut self, byte: u8, kind: Kind) -> bool
-        ensures { (m : IsMode) (outer : List machine.Frame) (f : machine.Frame) (negated : Bool) (rs : List (ℕ × ℕ)) → InBrackets self.old m outer f negated rs → Fed (machine.feed_inside outer f negated rs inside.StartEscape byte kind) result self.new }
+        ensures { (m : IsMode) (outer : List machine.Frame) (f : machine.Frame) (negated : Bool) (rs : List (ℕ × ℕ))
+            → InBrackets self.old m outer f negated rs
+            → Fed (machine.feed_inside outer f negated rs inside.StartEscape byte kind) result self.new }
     {
         if !is_special(kind) {
             return false;
@@ -333,7 +373,9 @@ impl Reader {
 
     /// Takes a byte in brackets.
     fn feed_inside(&mut self, inside: Inside, byte: u8, kind: Kind) -> Result<bool, NoMemory>
-        ensures { (m : IsMode) (outer : List machine.Frame) (f : machine.Frame) (negated : Bool) (rs : List (ℕ × ℕ)) → InBrackets self.old m outer f negated rs → IfOk result (λ more. Fed (machine.feed_inside outer f negated rs inside byte kind) more self.new) }
+        ensures { (m : IsMode) (outer : List machine.Frame) (f : machine.Frame) (negated : Bool) (rs : List (ℕ × ℕ))
+            → InBrackets self.old m outer f negated rs
+            → IfOk result (λ more. Fed (machine.feed_inside outer f negated rs inside byte kind) more self.new) }
     {
         match inside {
             Inside::Open => Ok(self.feed_open(byte, kind)),
@@ -348,7 +390,8 @@ impl Reader {
 
     /// Takes a byte behind a backslash outside brackets.
     fn feed_quoted(&mut self, byte: u8, kind: Kind) -> Result<bool, NoMemory>
-        ensures { (m : IsMode) (outer : List machine.Frame) (f : machine.Frame) → ReadsIn self.old m outer f [] → IfOk result (λ more. Fed (machine.feed_kind (machine.Escape outer f) byte kind) more self.new) }
+        ensures { (m : IsMode) (outer : List machine.Frame) (f : machine.Frame) → ReadsIn self.old m outer f []
+            → IfOk result (λ more. Fed (machine.feed_kind (machine.Escape outer f) byte kind) more self.new) }
     {
         if !is_special(kind) {
             return Ok(false);

@@ -29,8 +29,8 @@ impl From<NoMemory> for PatternFault {
 }
 
 /// The pattern that a text is. In it `|` parts alternatives, `*`, `+` and `?` follow what is repeated or left out,
-/// parentheses group, at most 64 deep, `.` is any byte but the newline, and brackets hold ranges of bytes, behind `^` those
-/// that are not meant. A backslash before one of these signs or the dash takes its meaning away.
+/// parentheses group, at most 64 deep, `.` is any byte but the newline, and brackets hold ranges of bytes, behind `^`
+/// those that are not meant. A backslash before one of these signs or the dash takes its meaning away.
 pub fn read(alloc: Global, bytes: &[u8]) -> Result<Lexeme, PatternFault>
     ensures pattern { IfOk result (λ l. IsPattern deepest l bytes.now) }
     ensures only { IfOk result (λ l. (p : plain.Lexeme) → IsPattern deepest p bytes.now → p ≡ l) }

@@ -46,8 +46,8 @@ impl<T: Drop> From<AllocFailed<T>> for ScanFault {
     }
 }
 
-/// The tokens of a text: the longest matches one after the other, of several of one length the literal or else the first
-/// lexeme, without those of WHITESPACE; or the first place where none matches a byte.
+/// The tokens of a text: the longest matches one after the other, of several of one length the literal or else the
+/// first lexeme, without those of WHITESPACE; or the first place where none matches a byte.
 ///
 /// It is linear in the text where matches do not look far past their ends, and costs at most the size of the patterns
 /// times the rest of the text for each token. Nothing is allocated for a match.

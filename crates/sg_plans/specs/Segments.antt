@@ -27,7 +27,8 @@ pub record HasVisit (rules : Rules) (plans : Plans) (t : Term) (u : Place) (j : 
 -- the position of the node at u at which position q of the node w steps below it is reached, read upward as keys are
 abbrev pub position_at : Rules → Plans → Term → List ℕ → Place → ℕ → ℕ
 position_at rules plans t [] u q = q
-position_at rules plans t (k ∷ w) u q = position_at rules plans t w u (seat rules plans (operator_in t (w ++ u)) k (belongs rules plans (operator_in t (k ∷ w ++ u)) q))
+position_at rules plans t (k ∷ w) u q = position_at rules plans t w u
+    (seat rules plans (operator_in t (w ++ u)) k (belongs rules plans (operator_in t (k ∷ w ++ u)) q))
 
 -- the visit of the node at u in which it is reached
 abbrev pub visit_at : Rules → Plans → Term → List ℕ → Place → ℕ → ℕ

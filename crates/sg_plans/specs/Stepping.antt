@@ -22,7 +22,8 @@ IsOfStep rules plans t u (Eval r) i = (i.node ≡ u) × (slice_get rules.rules r
 IsOfStep rules plans t u (Visit k j) i = IsOfVisit rules plans t (k ∷ u) j i
 
 -- what one of the first m steps of visit j of the node at u gives
-pub record IsGivenBefore (rules : Rules) (plans : Plans) (t : Term) (u : Place) (j m : ℕ) (a : Reference Place) : Type 0 where
+pub record IsGivenBefore (rules : Rules) (plans : Plans) (t : Term) (u : Place) (j m : ℕ)
+    (a : Reference Place) : Type 0 where
   pub place : ℕ
   pub low : place < m
   pub step : PlanStep
@@ -31,8 +32,8 @@ pub record IsGivenBefore (rules : Rules) (plans : Plans) (t : Term) (u : Place) 
   pub found : site_of rules (net_of t) a ≡ Some site
   pub of_step : IsOfStep rules plans t u step site
 
--- what is there as step m of visit j of the node at u begins: leaves' slots, what the visit takes, and what earlier visits
--- or steps gave
+-- what is there as step m of visit j of the node at u begins: leaves' slots, what the visit takes, and what earlier
+-- visits or steps gave
 pub data IsReady (rules : Rules) (plans : Plans) (t : Term) (u : Place) (j m : ℕ) (a : Reference Place) : Type 0 where
   leaf : IsLeafSlot t a → IsReady rules plans t u j m a
   taken : IsTaken rules plans t u j a → IsReady rules plans t u j m a

@@ -92,7 +92,8 @@ impl Pool {
     #[tactic(auto, using(crate::proofs::Pooled::place_is))]
     pub fn sound(&self)
         ensures different { AreDifferent self.now }
-        ensures one_number { (a b : ℕ) → a < length self.now → b < length self.now → value_at self.now a ≡ value_at self.now b → a ≡ b }
+        ensures one_number { (a b : ℕ) → a < length self.now → b < length self.now
+            → value_at self.now a ≡ value_at self.now b → a ≡ b }
     {
         let _ = &self.entries;
     }
@@ -237,8 +238,8 @@ impl Pool {
         self.enter(Entry::Fault(kind), LEAF)
     }
 
-    /// A number whose value is the tree of an operator over the values of these numbers; `Size` exactly where that tree is
-    /// over a limit of values.
+    /// A number whose value is the tree of an operator over the values of these numbers; `Size` exactly where that
+    /// tree is over a limit of values.
     #[tactic(auto, using(crate::proofs::Pooled::below_all))]
     pub fn node(&mut self, op: OpId, kids: &[ValueId]) -> Result<ValueId, PoolFault>
         requires { All (λ k. k < length self.old) kids.now }
@@ -258,7 +259,9 @@ impl Pool {
     // the measure of a tree over the values of these numbers, none where it is over a limit
     fn measure_over(&self, kids: &[ValueId]) -> Option<Measure>
         requires { All (λ k. k < length self.now) kids.now }
-        ensures { MatchOption result (is_within (tree_over self.now 0 kids.now) ≡ false) (λ m. (m ≡ measure_of (tree_over self.now 0 kids.now)) × (is_within (tree_over self.now 0 kids.now) ≡ true)) }
+        ensures { MatchOption result (is_within (tree_over self.now 0 kids.now)
+            ≡ false) (λ m. (m ≡ measure_of (tree_over self.now 0 kids.now))
+            × (is_within (tree_over self.now 0 kids.now) ≡ true)) }
     {
         let mut size: u64 = 1;
         let mut depth: u32 = 1;

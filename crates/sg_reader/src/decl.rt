@@ -40,7 +40,8 @@ fn equations_behind(
     mut found: Vec<Equation>,
 ) -> Result<Vec<Equation>, Refusal>
     ensures { Reads (λ v. map equation_of v.items)
-        (many (spec.sees_other (is_sign sign.RightBrace)) spec.equation (map equation_of found.items) (left_of tokens.old))
+        (many (spec.sees_other (is_sign sign.RightBrace)) spec.equation (map equation_of found.items)
+        (left_of tokens.old))
         result (left_of tokens.new) }
 {
     for _turn in 0..tokens.len() {

@@ -57,9 +57,11 @@ pub fn read(alloc: Global, bytes: &[u8], tokens: &[Token]) -> Result<Vec<DeclTre
     // Each tree is spelled by its declaration, and its places are those of the tokens.
     ensures found { IfOk result (λ ds. EachSpells (declarations bytes.now tokens.now) (trees_of ds.items)) }
     // Where trees spell all declarations, they are read, and no others.
-    ensures only { (ds : List Decl) → EachSpells (declarations bytes.now tokens.now) ds → IsOf (λ trees. trees_of trees.items) ds result }
+    ensures only { (ds : List Decl) → EachSpells (declarations bytes.now tokens.now) ds
+        → IsOf (λ trees. trees_of trees.items) ds result }
     // A fault names the first declaration that no tree spells.
-    ensures first { (number line : ℕ) → result ≡ Err (ReadFault.Syntax number line) → IsFirstUnread (declarations bytes.now tokens.now) number line }
+    ensures first { (number line : ℕ) → result ≡ Err (ReadFault.Syntax number line)
+        → IsFirstUnread (declarations bytes.now tokens.now) number line }
 {
     each(alloc, bytes, tokens)
 }

@@ -1,5 +1,5 @@
--- The faults of entries: a second one of a phylum; one whose attribute has a type that is not accepted where its phylum is
--- wanted.
+-- The faults of entries: a second one of a phylum; one whose attribute has a type that is not accepted where its
+-- phylum is wanted.
 use Rattle.std.specs.Prelude.{ℕ, if◌then◌else◌, nat_eq, List, [], ◌∷◌, map, flat_map, Option, Some, None, slice_get, option_map, option_and_then}
 use Rattle.sg_kinds.specs.declared.fault.SpecFault.{SpecFault}
 use Rattle.sg_kinds.specs.declared.fault.SpecFault.TheVariants as fault
@@ -21,14 +21,16 @@ entered ds = flat_map entered_at ds
 
 -- the first phylum that has an entry before
 abbrev pub twice_at : List Name → Option ℕ → Option SpecFault
-twice_at names place = option_map (λ (n : Name). fault.EntryTwice n.place n.text) (option_and_then (slice_get names) place)
+twice_at names place = option_map (λ (n : Name). fault.EntryTwice n.place n.text)
+    (option_and_then (slice_get names) place)
 
 abbrev pub entry_twice : Table → List Decl → Option SpecFault
 entry_twice t ds = twice_at (entered ds) (first_repeat nat_eq (map (λ (n : Name). phylum_in t n.text) (entered ds)))
 
 -- the first attribute whose type is not accepted
 abbrev pub type_fault : Table → Decl → Option SpecFault
-type_fault t (Entry n m a) = if fits_where t (usable_named t n.text) (symbol_type t m.text a.text) then None else Some (fault.EntryType n.place n.text)
+type_fault t (Entry n m a) = if fits_where t (usable_named t n.text) (symbol_type t m.text a.text) then None else Some
+    (fault.EntryType n.place n.text)
 type_fault t d = None
 
 abbrev pub entry_type : Table → List Decl → Option SpecFault

@@ -1,6 +1,6 @@
 -- The record of a specification: what its names mean, what is kept of its expressions, its rules and its lexemes, and
--- from its declarations the schemes, the bodies of functions, the transformations, the productions and the entries. A name
--- that means nothing has the number 0; where no name is unknown, there is none.
+-- from its declarations the schemes, the bodies of functions, the transformations, the productions and the entries. A
+-- name that means nothing has the number 0; where no name is unknown, there is none.
 use Rattle.std.specs.Prelude.{ℕ, ◌+◌, List, [], ◌∷◌, ◌++◌, map, flat_map, Option, Some, None, unwrap_or}
 use Rattle.sg_kinds.specs.Values.{Bytes}
 use Rattle.sg_kinds.specs.Lexemes.{Lexeme}
@@ -109,7 +109,12 @@ abbrev pub phylum_in : Table → Bytes → ℕ
 phylum_in t n = unwrap_or (usable_named t n) 0
 
 abbrev pub transforms_at : Table → ℕ → Decl → List Transform
-transforms_at t k (decl.Transform n title q e) = record { name = title.text; phylum = phylum_in t n.text; pattern = recorded t q; expr = k } ∷ []
+transforms_at t k (decl.Transform n title q e) = record {
+  name = title.text;
+  phylum = phylum_in t n.text;
+  pattern = recorded t q;
+  expr = k;
+} ∷ []
 transforms_at t k d = []
 
 abbrev pub transforms_in : Table → ℕ → List Decl → List Transform

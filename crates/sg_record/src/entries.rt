@@ -36,7 +36,8 @@ pub(crate) fn entries(alloc: Global, decls: &[Decl], names: &Names) -> Result<Ve
 
 /// The numbers of the phyla that have entries.
 fn numbers(alloc: Global, decls: &[Decl], names: &Names) -> Result<Vec<u32>, NoMemory>
-    ensures { IfOk result (λ v. v.items ≡ map (λ (n : Name). spec.phylum_in names.now n.text) (fault.entered (trees_of decls.now))) }
+    ensures { IfOk result (λ v. v.items ≡ map (λ (n : Name). spec.phylum_in names.now n.text)
+        (fault.entered (trees_of decls.now))) }
 {
     let mut numbers = Vec::new(alloc);
     for decl in decls {
@@ -49,7 +50,8 @@ fn numbers(alloc: Global, decls: &[Decl], names: &Names) -> Result<Vec<u32>, NoM
 
 /// The place of the first entry whose phylum has one before.
 fn second(alloc: Global, decls: &[Decl], names: &Names) -> Result<Option<usize>, NoMemory>
-    ensures { IfOk result (λ o. o ≡ first_repeat nat_eq (map (λ (n : Name). spec.phylum_in names.now n.text) (fault.entered (trees_of decls.now)))) }
+    ensures { IfOk result (λ o. o ≡ first_repeat nat_eq
+        (map (λ (n : Name). spec.phylum_in names.now n.text) (fault.entered (trees_of decls.now)))) }
 {
     let numbers = numbers(alloc, decls, names)?;
     let place = first_repeat(alloc, &numbers)?;

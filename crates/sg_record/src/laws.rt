@@ -19,7 +19,8 @@ ghost use Rattle.sg_typing.specs.Checked.{first_fault};
 
 /// The record has the names of its table, whose operators have no schemes.
 pub fn names_are_kept()
-    ensures table { (t : Table) (ds : List Decl) (rules : List Rule) (lexemes : List Lexeme) → HasNoSchemes t → HasTable t (record_of t ds rules lexemes) }
+    ensures table { (t : Table) (ds : List Decl) (rules : List Rule) (lexemes : List Lexeme) → HasNoSchemes t
+        → HasTable t (record_of t ds rules lexemes) }
     ensures bare { (ds : List Decl) → HasNoSchemes (names_of ds) }
 {}
 
@@ -41,14 +42,16 @@ pub fn records_have_schemes()
 pub fn records_have_entries()
     ensures { (ds : List Decl) (rules : List Rule) (lexemes : List Lexeme) → HaveWritten ds →
         unknown_name (names_of ds) ds ≡ None → result_count (names_of ds) ≡ None →
-        entry_twice (names_of ds) ds ≡ None → entry_type (names_of ds) ds ≡ None → HasEntries (record_of (names_of ds) ds rules lexemes) }
+        entry_twice (names_of ds) ds ≡ None → entry_type (names_of ds) ds ≡ None
+        → HasEntries (record_of (names_of ds) ds rules lexemes) }
 {}
 
 /// Nonterminals are told by their names and by their numbers, which are those of their first productions.
 pub fn records_have_nonterminals()
     ensures named { (ds : List Decl) (rules : List Rule) (lexemes : List Lexeme) → HaveWritten ds →
         AreApart (names_of ds) → result_count (names_of ds) ≡ None →
-        All (IsNamed (record_of (names_of ds) ds rules lexemes)) (record_of (names_of ds) ds rules lexemes).productions }
+        All (IsNamed (record_of (names_of ds) ds rules lexemes))
+        (record_of (names_of ds) ds rules lexemes).productions }
     ensures numbered { (ds : List Decl) (rules : List Rule) (lexemes : List Lexeme) → HaveWritten ds →
         IsNumbered (record_of (names_of ds) ds rules lexemes).productions }
 {}

@@ -182,7 +182,8 @@ impl Writing {
     }
 }
 
-/// The pieces of a string, or None exactly where a `%` stands before another byte than `n`, `t`, `b`, `%`, or at its end.
+/// The pieces of a string, or None exactly where a `%` stands before another byte than `n`, `t`, `b`, `%`, or at its
+/// end.
 #[tactic(auto, using(crate::proofs::PiecesMade::goes_on, crate::proofs::PiecesMade::fails, crate::proofs::PiecesMade::ends))]
 pub fn pieces(alloc: Global, bytes: &[u8]) -> Result<Option<Vec<Piece>>, NoMemory>
     ensures { IfOk result (λ o. option_map (λ v. v.items) o ≡ pieces_of bytes.now) }

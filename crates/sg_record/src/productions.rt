@@ -90,7 +90,8 @@ fn add_productions(
     rights: &[Right],
     productions: &mut Vec<Production>,
 ) -> Result<(), NoMemory>
-    ensures { OnOk result (productions.new.items ≡ productions.old.items ++ map_from (spec.production names.now left.now) first (map right_of rights.now)) }
+    ensures { OnOk result (productions.new.items ≡ productions.old.items
+        ++ map_from (spec.production names.now left.now) first (map right_of rights.now)) }
 {
     let mut k = first;
     for right in rights {
@@ -107,7 +108,8 @@ fn add_productions_at(
     decl: &Decl,
     productions: &mut Vec<Production>,
 ) -> Result<(), NoMemory>
-    ensures { OnOk result (productions.new.items ≡ productions.old.items ++ spec.productions_at names.now k (tree_of decl.now)) }
+    ensures { OnOk result (productions.new.items ≡ productions.old.items
+        ++ spec.productions_at names.now k (tree_of decl.now)) }
 {
     match decl {
         Decl::Productions(left, rights) => {

@@ -68,7 +68,9 @@ fn assembled(
     rules: Row<Rule>,
     lexemes: Row<Lexeme>,
 ) -> Result<Spec, NoMemory>
-    ensures { (ds : List Tree) → ArePartsOf table ds parts → exprs.items ≡ map (λ (x : TypedExpr). x.expr) (exprs_in table ds) → IfOk result (λ spec. spec ≡ record_of table ds rules lexemes) }
+    ensures { (ds : List Tree) → ArePartsOf table ds parts
+        → exprs.items ≡ map (λ (x : TypedExpr). x.expr) (exprs_in table ds)
+        → IfOk result (λ spec. spec ≡ record_of table ds rules lexemes) }
 {
     let functions = with_bodies(alloc, table.functions.into_vec(), &parts.bodies)?;
     let ops = with_schemes(alloc, table.ops.into_vec(), parts.schemes);

@@ -120,7 +120,8 @@ fn add_schemes(
     op: OpId,
     schemes: &[SchemeDecl],
 ) -> Result<(), NoMemory>
-    ensures { OnOk result ((k : ℕ) → row_at found.new k ≡ row_at found.old k ++ owned (map (λ s. (op, spec.scheme_of names.now op s)) schemes.now) k) }
+    ensures { OnOk result ((k : ℕ) → row_at found.new k
+        ≡ row_at found.old k ++ owned (map (λ s. (op, spec.scheme_of names.now op s)) schemes.now) k) }
 {
     let owner = op.number;
     for each in schemes {
@@ -136,7 +137,8 @@ fn add_schemes_at(
     found: &mut Groups<Scheme>,
     decl: &Decl,
 ) -> Result<(), NoMemory>
-    ensures { OnOk result ((k : ℕ) → row_at found.new k ≡ row_at found.old k ++ owned (spec.schemes_at names.now (tree_of decl.now)) k) }
+    ensures { OnOk result ((k : ℕ) → row_at found.new k
+        ≡ row_at found.old k ++ owned (spec.schemes_at names.now (tree_of decl.now)) k) }
 {
     if let Decl::Schemes(phylum, op, None, schemes) = decl
         && let Some(op) = names.operator_at(phylum, op)

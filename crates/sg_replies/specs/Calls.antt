@@ -38,7 +38,8 @@ pub record Served (old : ShelfState) (requests : List Request) (replies : List R
   pub calls : new.calls ≡ tallied (length replies) old.calls
 
 -- the same, but that the shelf may have been called for a last request without a reply too
-pub record ServedOrOneMore (old : ShelfState) (requests : List Request) (replies : List Reply) (new : ShelfState) : Type 0 where
+pub record ServedOrOneMore (old : ShelfState) (requests : List Request) (replies : List Reply)
+    (new : ShelfState) : Type 0 where
   pub files : Serves old.files requests replies new.files
   pub faults : raised_by (failures replies) old.faults ≤ new.faults
   pub later : old.faults ≤ new.faults

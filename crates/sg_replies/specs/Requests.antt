@@ -30,13 +30,16 @@ abbrev pub files_after : Option Files → Request → Reply → Option Files
 files_after files (Keep name bytes) Kept = kept files name bytes
 files_after files request reply = files
 
--- these replies serve these requests in turn, each of its request's kind, and take the files from old to new; a last request may be without a reply
+-- these replies serve these requests in turn, each of its request's kind, and take the files from old to new; a last
+-- request may be without a reply
 abbrev pub Serves : Option Files → List Request → List Reply → Option Files → Type 0
 Serves old [] [] new = new ≡ old
 Serves old (request ∷ []) [] new = new ≡ old
 Serves old (request ∷ next ∷ requests) [] new = ⊥
 Serves old [] (reply ∷ replies) new = ⊥
-Serves old (request ∷ requests) (reply ∷ replies) new = IsTrue (fits request reply) × Answers old request reply × Serves (files_after old request reply) requests replies new
+Serves old (request ∷ requests) (reply ∷ replies) new =
+    IsTrue (fits request reply) × Answers old request reply
+    × Serves (files_after old request reply) requests replies new
 
 -- whether the reply is a failure, as a number
 abbrev pub failure : Reply → ℕ

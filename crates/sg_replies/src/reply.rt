@@ -30,7 +30,8 @@ pub fn fetched<S: Shelf>(
     name: &str,
     most: usize,
 ) -> Result<Reply, NoMemory>
-    ensures ok { IfOk result (λ reply. Replied (Fetch name.now most) reply (shelf_state (S.files shelf.old) (S.faults shelf.old) (S.calls shelf.old))
+    ensures ok { IfOk result (λ reply. Replied (Fetch name.now most) reply
+        (shelf_state (S.files shelf.old) (S.faults shelf.old) (S.calls shelf.old))
         (shelf_state (S.files shelf.new) (S.faults shelf.new) (S.calls shelf.new))) }
     ensures err { OnErr result (Unanswered (shelf_state (S.files shelf.old) (S.faults shelf.old) (S.calls shelf.old))
         (shelf_state (S.files shelf.new) (S.faults shelf.new) (S.calls shelf.new))) }
@@ -45,7 +46,8 @@ pub fn fetched<S: Shelf>(
 
 /// Keeps these bytes under that name by one call of the shelf. An error says that the shelf had no memory.
 pub fn kept<S: Shelf>(shelf: &mut S, name: &str, bytes: &[u8]) -> Result<Reply, NoMemory>
-    ensures ok { IfOk result (λ reply. Replied (Keep name.now bytes.now) reply (shelf_state (S.files shelf.old) (S.faults shelf.old) (S.calls shelf.old))
+    ensures ok { IfOk result (λ reply. Replied (Keep name.now bytes.now) reply
+        (shelf_state (S.files shelf.old) (S.faults shelf.old) (S.calls shelf.old))
         (shelf_state (S.files shelf.new) (S.faults shelf.new) (S.calls shelf.new))) }
     ensures err { OnErr result (Unanswered (shelf_state (S.files shelf.old) (S.faults shelf.old) (S.calls shelf.old))
         (shelf_state (S.files shelf.new) (S.faults shelf.new) (S.calls shelf.new))) }

@@ -11,7 +11,10 @@ use Rattle.sg_reports.specs.Vertices.{printed_cycle, operator_name}
 
 -- an operator with a cycle is named at its declaration
 unfoldable pub printed_order : Spec → List Decl → OrderFault → SpecFault
-printed_order spec ds (Direct op cycle) = fault.Direct (place_in (operator_places ds) op) (operator_name spec op) (printed_cycle spec op cycle)
-printed_order spec ds (Induced op cycle) = fault.Induced (place_in (operator_places ds) op) (operator_name spec op) (printed_cycle spec op cycle)
-printed_order spec ds (Ordered op cycle) = fault.Ordered (place_in (operator_places ds) op) (operator_name spec op) (printed_cycle spec op cycle)
+printed_order spec ds (Direct op cycle) = fault.Direct (place_in (operator_places ds) op) (operator_name spec op)
+    (printed_cycle spec op cycle)
+printed_order spec ds (Induced op cycle) = fault.Induced (place_in (operator_places ds) op) (operator_name spec op)
+    (printed_cycle spec op cycle)
+printed_order spec ds (Ordered op cycle) = fault.Ordered (place_in (operator_places ds) op) (operator_name spec op)
+    (printed_cycle spec op cycle)
 printed_order spec ds NoMemory = fault.NoMemory

@@ -20,5 +20,6 @@ symbol_name spec X = name_of (symbol_in (printed_symbols spec) X)
 unfoldable pub printed_table : Spec → List Decl → TableFault → SpecFault
 printed_table spec ds (Unproductive X) = fault.Unproductive (head_place (symbol_name spec X) ds) (symbol_name spec X)
 printed_table spec ds States = fault.States
-printed_table spec ds (Conflict w t i j) = fault.Conflict (place_in (production_places ds) i.production) (printed_conflict spec w t i j)
+printed_table spec ds (Conflict w t i j) = fault.Conflict (place_in (production_places ds) i.production)
+    (printed_conflict spec w t i j)
 printed_table spec ds NoMemory = fault.NoMemory

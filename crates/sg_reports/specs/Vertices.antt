@@ -18,9 +18,11 @@ occurrence_vertices phyla q k = map (λ (a : Attr). Argument (phylum_name phyla 
 -- the attributes of arguments behind these occurrences: those of one phylum are counted from 1
 abbrev pub argument_vertices : List Phylum → List ℕ → List ℕ → List PrintedVertex
 argument_vertices phyla before [] = []
-argument_vertices phyla before (q ∷ qs) = occurrence_vertices phyla q (suc (count_by (nat_eq q) before)) ++ argument_vertices phyla (before ++ q ∷ []) qs
+argument_vertices phyla before (q ∷ qs) = occurrence_vertices phyla q (suc (count_by (nat_eq q) before))
+    ++ argument_vertices phyla (before ++ q ∷ []) qs
 
--- the vertices of an operator in the order of their numbers: the attributes of the left side and of the arguments, the locals
+-- the vertices of an operator in the order of their numbers: the attributes of the left side and of the arguments,
+-- the locals
 abbrev pub vertices_of : List Phylum → Operator → List PrintedVertex
 vertices_of phyla o =
     map (λ (a : Attr). Own a.name) (attrs_of phyla o.phylum)

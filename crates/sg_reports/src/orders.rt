@@ -71,7 +71,8 @@ fn printed_order(
     }
 }
 
-/// A fault of the ordering of a specification's equations as it is printed: the operator at its declaration, and the cycle.
+/// A fault of the ordering of a specification's equations as it is printed: the operator at its declaration, and the
+/// cycle.
 pub fn order_fault(alloc: Global, decls: &[Decl], spec: &Spec, fault: OrderFault) -> SpecFault
     ensures { result ≢ SpecFault.NoMemory → result ≡ printed_order spec.now (trees_of decls.now) fault }
 {

@@ -37,7 +37,8 @@ fn push_operators(places: &mut Vec<Position>, alts: &[Alt]) -> Result<(), NoMemo
 
 /// Puts the places of productions behind the others.
 fn push_rights(places: &mut Vec<Position>, rights: &[Right]) -> Result<(), NoMemory>
-    ensures { OnOk result (places.new.items ≡ places.old.items ++ map (λ (r : RightTree). r.place) (map right_of rights.now)) }
+    ensures { OnOk result (places.new.items ≡ places.old.items
+        ++ map (λ (r : RightTree). r.place) (map right_of rights.now)) }
 {
     for right in rights {
         places.push(right.place)?;

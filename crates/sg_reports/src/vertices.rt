@@ -30,7 +30,8 @@ fn push_own(
     vertices: &mut Vec<PrintedVertex>,
     attrs: &[Attr],
 ) -> Result<(), NoMemory>
-    ensures { OnOk result (vertices.new.items ≡ vertices.old.items ++ map (λ (a : AttrOf). PrintedVertex.Own a.name) attrs.now) }
+    ensures { OnOk result (vertices.new.items ≡ vertices.old.items
+        ++ map (λ (a : AttrOf). PrintedVertex.Own a.name) attrs.now) }
 {
     for attr in attrs {
         let name = attr.name.copy(alloc)?;
@@ -45,7 +46,8 @@ fn push_locals(
     vertices: &mut Vec<PrintedVertex>,
     locals: &[Local],
 ) -> Result<(), NoMemory>
-    ensures { OnOk result (vertices.new.items ≡ vertices.old.items ++ map (λ (l : LocalOf). PrintedVertex.Local l.name) locals.now) }
+    ensures { OnOk result (vertices.new.items ≡ vertices.old.items
+        ++ map (λ (l : LocalOf). PrintedVertex.Local l.name) locals.now) }
 {
     for local in locals {
         let name = local.name.copy(alloc)?;
@@ -92,7 +94,8 @@ fn push_arguments(
     left: PhylumId,
     args: &[PhylumId],
 ) -> Result<(), NoMemory>
-    ensures { OnOk result (vertices.new.items ≡ vertices.old.items ++ argument_vertices phyla.now (left ∷ []) args.now) }
+    ensures { OnOk result (vertices.new.items ≡ vertices.old.items
+        ++ argument_vertices phyla.now (left ∷ []) args.now) }
 {
     let mut before = Vec::new(alloc);
     before.push(left)?;

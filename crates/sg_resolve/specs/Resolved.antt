@@ -14,15 +14,16 @@ use Rattle.sg_shapes.specs.Resolved.{shape_rows, binding_rows}
 
 -- the fault of a phylum, at its first definition
 abbrev pub no_completion_at : Table → ℕ → Option SpecFault
-no_completion_at t p = option_and_then (λ place. option_map (λ (x : Phylum). fault.NoCompletion place x.name) (slice_get t.phyla p)) (slice_get t.phylum_places p)
+no_completion_at t p = option_and_then (λ place. option_map (λ (x : Phylum). fault.NoCompletion place x.name)
+    (slice_get t.phyla p)) (slice_get t.phylum_places p)
 
 -- the first phylum whose completing term or placeholder is not finite, or too large or too deep
 abbrev pub no_completion : Table → Option SpecFault
 no_completion t = option_and_then (no_completion_at t) (unfinished t)
 
--- the rows in their order: from completing terms on, which are followed by the root's attributes, variables bound twice and
--- numbers of parts; from unknown names on, which are followed by results, the root's number, lists and optional phyla; and
--- before them counts over their limits and second definitions
+-- the rows in their order: from completing terms on, which are followed by the root's attributes, variables bound
+-- twice and numbers of parts; from unknown names on, which are followed by results, the root's number, lists and
+-- optional phyla; and before them counts over their limits and second definitions
 abbrev pub completion_rows : Table → List Decl → List (Option SpecFault)
 completion_rows t ds = no_completion t ∷ binding_rows t ds ∷ []
 

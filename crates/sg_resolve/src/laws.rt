@@ -17,13 +17,18 @@ pub fn counts_are_limited()
     ensures { (ds : List Decl) → limit ds ≡ None → IsLimited ds }
 {}
 
-/// Then a specification with these names is counted as soundness asks, if its transformations, schemes and productions are.
+/// Then a specification with these names is counted as soundness asks, if its transformations, schemes and
+/// productions are.
 pub fn names_are_counted()
-    ensures { (ds : List Decl) (spec : Spec) → limit ds ≡ None → HasTable (names_of ds) spec → length spec.transforms ≤ 1024 → All (λ (o : Operator). length o.schemes ≤ 16) spec.ops → length spec.productions ≤ 1024 → All (λ (r : Production). length r.right ≤ 16) spec.productions → AreCounted spec }
+    ensures { (ds : List Decl) (spec : Spec) → limit ds ≡ None → HasTable (names_of ds) spec
+        → length spec.transforms ≤ 1024 → All (λ (o : Operator). length o.schemes ≤ 16) spec.ops
+        → length spec.productions ≤ 1024 → All (λ (r : Production). length r.right ≤ 16) spec.productions
+        → AreCounted spec }
 {}
 
 /// Where no definition is a second one, a specification with these names has the names that soundness asks for, if its
 /// nonterminals have.
 pub fn names_are_distinct()
-    ensures { (ds : List Decl) (spec : Spec) → duplicate ds ≡ None → HasTable (names_of ds) spec → All (IsNamed spec) spec.productions → IsNumbered spec.productions → HasNames spec }
+    ensures { (ds : List Decl) (spec : Spec) → duplicate ds ≡ None → HasTable (names_of ds) spec
+        → All (IsNamed spec) spec.productions → IsNumbered spec.productions → HasNames spec }
 {}

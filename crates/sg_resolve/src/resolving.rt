@@ -103,7 +103,8 @@ fn duplicate_rows(
     names: &Names,
     decls: &[Decl],
 ) -> Result<Option<SpecFault>, NoMemory>
-    ensures { IfOk result (λ f. f ≡ first_of (duplicates.duplicate (trees_of decls.now) ∷ spec.name_rows names.now (trees_of decls.now))) }
+    ensures { IfOk result (λ f. f ≡ first_of (duplicates.duplicate (trees_of decls.now)
+        ∷ spec.name_rows names.now (trees_of decls.now))) }
 {
     match duplicate(alloc, decls)? {
         Some(fault) => Ok(Some(fault)),

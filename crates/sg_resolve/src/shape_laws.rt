@@ -11,5 +11,6 @@ ghost use Rattle.sg_resolve.specs.ShapeLexemes.{lexeme_count};
 /// Where names and shapes have no fault, a specification with these names, and as many patterns as lexeme phyla are
 /// declared, has sound shapes.
 pub fn shapes_are_sound()
-    ensures { (ds : List Decl) (spec : Spec) → resolve_fault ds ≡ None → HasTable (names_of ds) spec → length spec.lexemes ≡ lexeme_count ds → HasShapes spec }
+    ensures { (ds : List Decl) (spec : Spec) → resolve_fault ds ≡ None → HasTable (names_of ds) spec
+        → length spec.lexemes ≡ lexeme_count ds → HasShapes spec }
 {}

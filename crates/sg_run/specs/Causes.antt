@@ -20,7 +20,8 @@ abbrev pub IsRight : List Reply → Verdict → Type 0
 IsRight replies v = (bytes : List ℕ) (rest : List Reply) → replies ≡ Fetched bytes ∷ rest → IsVerdict bytes v
 
 -- memory was wanting before there was a verdict: the specification was fetched, and nothing was written or evaluated
-pub record Unjudged (asked : Option Job) (old : World) (replies : List Reply) (status : Status) (new : World) : Type 0 where
+pub record Unjudged (asked : Option Job) (old : World) (replies : List Reply) (status : Status)
+    (new : World) : Type 0 where
   pub memory : status ≡ Memory
   pub job : Job
   pub is_asked : asked ≡ Some job

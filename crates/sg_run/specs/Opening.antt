@@ -39,8 +39,10 @@ IsKnown bytes status old new n m = ((v : Verdict) × IsVerdict bytes v) ⊎ Sile
 
 -- the same of what the reply brought
 abbrev pub IsKnownOf : Reply → Status → SinkState → SinkState → ℕ → ℕ → Type 0
-IsKnownOf reply status old new n m = ((v : Verdict) × IsRightOf reply v) ⊎ ((bytes : List ℕ) × (reply ≡ Fetched bytes) × Silent status old new n m)
+IsKnownOf reply status old new n m = ((v : Verdict) × IsRightOf reply v)
+    ⊎ ((bytes : List ℕ) × (reply ≡ Fetched bytes) × Silent status old new n m)
 
 -- memory was wanting where the fault says so, else the fault was told
 abbrev pub IsEnding : ℕ → SpecFault → Status → SinkState → SinkState → Type 0
-IsEnding n f status old new = Silent status old new n n ⊎ ((f ≢ NoMemory) × ((shelf : ShelfState) → Ends (world shelf old n) (fault_told f) [] status (world shelf new n)))
+IsEnding n f status old new = Silent status old new n n
+    ⊎ ((f ≢ NoMemory) × ((shelf : ShelfState) → Ends (world shelf old n) (fault_told f) [] status (world shelf new n)))

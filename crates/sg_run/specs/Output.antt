@@ -35,7 +35,13 @@ pub record Told : Type 0 where
 
 -- the one and then the other
 abbrev pub before : Told → Told → Told
-before t u = record { blocks = t.blocks ++ u.blocks; evs = t.evs ++ u.evs; status = u.status; requests = t.requests ++ u.requests; taken = t.taken + u.taken }
+before t u = record {
+  blocks = t.blocks ++ u.blocks;
+  evs = t.evs ++ u.evs;
+  status = u.status;
+  requests = t.requests ++ u.requests;
+  taken = t.taken + u.taken;
+}
 
 -- the bytes of the blocks, one after another
 abbrev pub joined : List (List ℕ) → List ℕ
@@ -61,7 +67,8 @@ taking request = record { blocks = []; evs = []; status = None; requests = reque
 -- a request, and what follows the reply to it
 abbrev pub asked : Request → (Reply → List Reply → Told) → List Reply → Told
 asked request next [] = unfinished request
-asked request next (reply ∷ replies) = if fits request reply then before (taking request) (next reply replies) else unfinished request
+asked request next (reply ∷ replies) = if fits request reply then before (taking request)
+    (next reply replies) else unfinished request
 
 -- the block of a command
 abbrev pub telling : List ℕ → ℕ → Told
@@ -129,6 +136,7 @@ job_told None v replies = text Usage usage_text
 job_told (Some (Show name)) v replies = with_spec shown name v replies
 job_told (Some (Check name)) v replies = with_spec checked name v replies
 
--- what a run of these words tells where the shelf gives these replies, and this is the verdict on the specification among them
+-- what a run of these words tells where the shelf gives these replies, and this is the verdict on the specification
+-- among them
 abbrev pub told : List (List ℕ) → Verdict → List Reply → Told
 told words = job_told (job words)

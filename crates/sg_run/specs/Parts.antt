@@ -49,7 +49,8 @@ pub record Played (f : List Reply → Told) (before after : List Reply) (status 
   pub ends : Ends old (f got) got status new
 
 -- a text that ends the run with this status was put, once, and so the run ended
-pub record Finished (status : Status) (bytes : List ℕ) (old : SinkState) (ended : Status) (new : SinkState) : Type 0 where
+pub record Finished (status : Status) (bytes : List ℕ) (old : SinkState) (ended : Status)
+    (new : SinkState) : Type 0 where
   pub status_is : IsEnd ended → ended ≡ status
   pub output : IsEnd ended → new.written ≡ appended old.written bytes
   pub memory : ended ≡ Memory → new.written ≡ old.written

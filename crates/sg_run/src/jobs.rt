@@ -38,9 +38,12 @@ fn show_bytes<K: Sink>(
     journal: &mut Journal,
 ) -> Result<(), Status>
     requires room { counted journal.old < 2 ^ 60 }
-    ensures known { IsKnown bytes.now (ended result) (sink_state (K.written sink.old) (K.faults sink.old) (K.puts sink.old)) (sink_state (K.written sink.new) (K.faults sink.new) (K.puts sink.new)) (counted journal.old) (counted journal.new) }
+    ensures known { IsKnown bytes.now (ended result) (sink_state (K.written sink.old) (K.faults sink.old)
+        (K.puts sink.old)) (sink_state (K.written sink.new) (K.faults sink.new) (K.puts sink.new))
+        (counted journal.old) (counted journal.new) }
     ensures ended { (v : Verdict) → IsVerdict bytes.now v → (shelf : ShelfState)
-        → Ends (world shelf (sink_state (K.written sink.old) (K.faults sink.old) (K.puts sink.old)) (counted journal.old)) (judged v (λ spec. shown bytes.now spec [])) [] (ended result)
+        → Ends (world shelf (sink_state (K.written sink.old) (K.faults sink.old) (K.puts sink.old))
+        (counted journal.old)) (judged v (λ spec. shown bytes.now spec [])) [] (ended result)
         (world shelf (sink_state (K.written sink.new) (K.faults sink.new) (K.puts sink.new)) (counted journal.new)) }
 {
     judge(alloc, bytes, sink)?;
@@ -49,9 +52,12 @@ fn show_bytes<K: Sink>(
 }
 
 fn check_bytes<K: Sink>(alloc: Global, bytes: &[u8], sink: &mut K) -> Result<(), Status>
-    ensures known { (n : ℕ) → IsKnown bytes.now (ended result) (sink_state (K.written sink.old) (K.faults sink.old) (K.puts sink.old)) (sink_state (K.written sink.new) (K.faults sink.new) (K.puts sink.new)) n n }
+    ensures known { (n : ℕ) → IsKnown bytes.now (ended result)
+        (sink_state (K.written sink.old) (K.faults sink.old) (K.puts sink.old))
+        (sink_state (K.written sink.new) (K.faults sink.new) (K.puts sink.new)) n n }
     ensures ended { (v : Verdict) → IsVerdict bytes.now v → (shelf : ShelfState) (n : ℕ)
-        → Ends (world shelf (sink_state (K.written sink.old) (K.faults sink.old) (K.puts sink.old)) n) (judged v (λ spec. checked bytes.now spec [])) [] (ended result)
+        → Ends (world shelf (sink_state (K.written sink.old) (K.faults sink.old) (K.puts sink.old)) n)
+        (judged v (λ spec. checked bytes.now spec [])) [] (ended result)
         (world shelf (sink_state (K.written sink.new) (K.faults sink.new) (K.puts sink.new)) n) }
 {
     judge(alloc, bytes, sink)?;
@@ -66,9 +72,13 @@ pub fn show<K: Sink>(
     journal: &mut Journal,
 ) -> Result<(), Status>
     requires room { counted journal.old < 2 ^ 60 }
-    ensures known { IsKnownOf reply.now (ended result) (sink_state (K.written sink.old) (K.faults sink.old) (K.puts sink.old)) (sink_state (K.written sink.new) (K.faults sink.new) (K.puts sink.new)) (counted journal.old) (counted journal.new) }
+    ensures known { IsKnownOf reply.now (ended result)
+        (sink_state (K.written sink.old) (K.faults sink.old) (K.puts sink.old))
+        (sink_state (K.written sink.new) (K.faults sink.new) (K.puts sink.new)) (counted journal.old)
+        (counted journal.new) }
     ensures ended { (v : Verdict) → IsRightOf reply.now v → (shelf : ShelfState)
-        → Ends (world shelf (sink_state (K.written sink.old) (K.faults sink.old) (K.puts sink.old)) (counted journal.old)) (opened shown v reply.now []) [] (ended result)
+        → Ends (world shelf (sink_state (K.written sink.old) (K.faults sink.old) (K.puts sink.old))
+        (counted journal.old)) (opened shown v reply.now []) [] (ended result)
         (world shelf (sink_state (K.written sink.new) (K.faults sink.new) (K.puts sink.new)) (counted journal.new)) }
 {
     match reply {
@@ -79,9 +89,12 @@ pub fn show<K: Sink>(
 
 /// Tells whether the specification that was fetched has a fault.
 pub fn check<K: Sink>(alloc: Global, reply: &Reply, sink: &mut K) -> Result<(), Status>
-    ensures known { (n : ℕ) → IsKnownOf reply.now (ended result) (sink_state (K.written sink.old) (K.faults sink.old) (K.puts sink.old)) (sink_state (K.written sink.new) (K.faults sink.new) (K.puts sink.new)) n n }
+    ensures known { (n : ℕ) → IsKnownOf reply.now (ended result)
+        (sink_state (K.written sink.old) (K.faults sink.old) (K.puts sink.old))
+        (sink_state (K.written sink.new) (K.faults sink.new) (K.puts sink.new)) n n }
     ensures ended { (v : Verdict) → IsRightOf reply.now v → (shelf : ShelfState) (n : ℕ)
-        → Ends (world shelf (sink_state (K.written sink.old) (K.faults sink.old) (K.puts sink.old)) n) (opened checked v reply.now []) [] (ended result)
+        → Ends (world shelf (sink_state (K.written sink.old) (K.faults sink.old) (K.puts sink.old)) n)
+        (opened checked v reply.now []) [] (ended result)
         (world shelf (sink_state (K.written sink.new) (K.faults sink.new) (K.puts sink.new)) n) }
 {
     match reply {

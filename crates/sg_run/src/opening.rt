@@ -38,12 +38,14 @@ pub fn fetch_spec<S: Shelf>(
     replies: &mut Vec<Reply>,
 ) -> Result<(), Status>
     requires none { replies.old.items ≡ [] }
-    ensures fetched { OnOk result (IsFetched name.now replies.new.items (shelf_state (S.files shelf.old) (S.faults shelf.old) (S.calls shelf.old))
+    ensures fetched { OnOk result (IsFetched name.now replies.new.items
+        (shelf_state (S.files shelf.old) (S.faults shelf.old) (S.calls shelf.old))
         (shelf_state (S.files shelf.new) (S.faults shelf.new) (S.calls shelf.new))) }
     ensures faults { raised_by (failures replies.new.items) (S.faults shelf.old) ≤ S.faults shelf.new }
     ensures memory { IfErr result (λ status. status ≡ Status.Memory) }
     ensures none { IfErr result (λ _. replies.new.items ≡ []) }
-    ensures ended { IfErr result (λ status. (next : Reply → List Reply → Told) (sink : SinkState) (n : ℕ) → Played (asked (specification name.now) next) [] replies.new.items status
+    ensures ended { IfErr result (λ status. (next : Reply → List Reply → Told) (sink : SinkState) (n : ℕ)
+        → Played (asked (specification name.now) next) [] replies.new.items status
         (world (shelf_state (S.files shelf.old) (S.faults shelf.old) (S.calls shelf.old)) sink n)
         (world (shelf_state (S.files shelf.new) (S.faults shelf.new) (S.calls shelf.new)) sink n)) }
 {
@@ -62,7 +64,8 @@ fn is_memory(fault: &SpecFault) -> bool
 
 /// Ends the run by the line of a static fault.
 fn refuse<K: Sink>(alloc: Global, fault: &SpecFault, sink: &mut K) -> Status
-    ensures { (shelf : ShelfState) (n : ℕ) → Ends (world shelf (sink_state (K.written sink.old) (K.faults sink.old) (K.puts sink.old)) n) (fault_told fault.now) [] result
+    ensures { (shelf : ShelfState) (n : ℕ) → Ends (world shelf
+        (sink_state (K.written sink.old) (K.faults sink.old) (K.puts sink.old)) n) (fault_told fault.now) [] result
         (world shelf (sink_state (K.written sink.new) (K.faults sink.new) (K.puts sink.new)) n) }
 {
     match fault_line(alloc, fault) {
@@ -73,7 +76,8 @@ fn refuse<K: Sink>(alloc: Global, fault: &SpecFault, sink: &mut K) -> Status
 
 /// Ends the run by what there is in place of a specification: want of memory, or a static fault.
 fn end_by<K: Sink>(alloc: Global, fault: &SpecFault, sink: &mut K) -> Status
-    ensures { (n : ℕ) → IsEnding n fault.now result (sink_state (K.written sink.old) (K.faults sink.old) (K.puts sink.old)) (sink_state (K.written sink.new) (K.faults sink.new) (K.puts sink.new)) }
+    ensures { (n : ℕ) → IsEnding n fault.now result (sink_state (K.written sink.old) (K.faults sink.old)
+        (K.puts sink.old)) (sink_state (K.written sink.new) (K.faults sink.new) (K.puts sink.new)) }
 {
     if is_memory(fault) {
         return Status::Memory;
@@ -84,10 +88,15 @@ fn end_by<K: Sink>(alloc: Global, fault: &SpecFault, sink: &mut K) -> Status
 /// Loads the specification of these bytes. An error says with which status the run is over.
 pub fn judge<K: Sink>(alloc: Global, bytes: &[u8], sink: &mut K) -> Result<Loaded, Status>
     ensures accepted { IfOk result (λ loaded. IsTheVerdict bytes.now (Accepted loaded.spec)) }
-    ensures quiet { IfOk result (λ _. sink_state (K.written sink.new) (K.faults sink.new) (K.puts sink.new) ≡ sink_state (K.written sink.old) (K.faults sink.old) (K.puts sink.old)) }
-    ensures known { IfErr result (λ status. (n : ℕ) → IsKnown bytes.now status (sink_state (K.written sink.old) (K.faults sink.old) (K.puts sink.old)) (sink_state (K.written sink.new) (K.faults sink.new) (K.puts sink.new)) n n) }
-    ensures refused { IfErr result (λ status. (v : Verdict) → IsVerdict bytes.now v → (next : Spec → Told) → ((spec : Spec) → IsQuiet (next spec)) → (shelf : ShelfState) (n : ℕ)
-        → Ends (world shelf (sink_state (K.written sink.old) (K.faults sink.old) (K.puts sink.old)) n) (judged v next) [] status
+    ensures quiet { IfOk result (λ _. sink_state (K.written sink.new) (K.faults sink.new) (K.puts sink.new)
+        ≡ sink_state (K.written sink.old) (K.faults sink.old) (K.puts sink.old)) }
+    ensures known { IfErr result (λ status. (n : ℕ) → IsKnown bytes.now status
+        (sink_state (K.written sink.old) (K.faults sink.old) (K.puts sink.old))
+        (sink_state (K.written sink.new) (K.faults sink.new) (K.puts sink.new)) n n) }
+    ensures refused { IfErr result (λ status. (v : Verdict) → IsVerdict bytes.now v → (next : Spec → Told)
+        → ((spec : Spec) → IsQuiet (next spec)) → (shelf : ShelfState) (n : ℕ)
+        → Ends (world shelf (sink_state (K.written sink.old) (K.faults sink.old) (K.puts sink.old)) n)
+        (judged v next) [] status
         (world shelf (sink_state (K.written sink.new) (K.faults sink.new) (K.puts sink.new)) n)) }
 {
     match load(alloc, bytes) {
@@ -101,9 +110,11 @@ pub fn screen<K: Sink>(alloc: Global, bytes: &[u8], sink: &mut K) -> Result<Spec
     ensures built { IfOk result (λ _. first_fault bytes.now ≡ None) }
     ensures record_of { IfOk result (λ spec. spec ≡ spec_of bytes.now) }
     ensures showable { IfOk result (λ spec. IsShowable spec) }
-    ensures quiet { IfOk result (λ _. sink_state (K.written sink.new) (K.faults sink.new) (K.puts sink.new) ≡ sink_state (K.written sink.old) (K.faults sink.old) (K.puts sink.old)) }
+    ensures quiet { IfOk result (λ _. sink_state (K.written sink.new) (K.faults sink.new) (K.puts sink.new)
+        ≡ sink_state (K.written sink.old) (K.faults sink.old) (K.puts sink.old)) }
     ensures refused { IfErr result (λ status. (next : Told) → IsQuiet next → (shelf : ShelfState) (n : ℕ)
-        → Ends (world shelf (sink_state (K.written sink.old) (K.faults sink.old) (K.puts sink.old)) n) (screened (first_fault bytes.now) next) [] status
+        → Ends (world shelf (sink_state (K.written sink.old) (K.faults sink.old) (K.puts sink.old)) n)
+        (screened (first_fault bytes.now) next) [] status
         (world shelf (sink_state (K.written sink.new) (K.faults sink.new) (K.puts sink.new)) n)) }
 {
     match load_small(alloc, bytes) {

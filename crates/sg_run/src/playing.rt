@@ -24,7 +24,9 @@ pub fn play<K: Sink>(
 ) -> Result<(), Status>
     requires room { counted journal.old < 2 ^ 60 }
     requires showable { IsShowable spec.now }
-    ensures { (shelf : ShelfState) → Ends (world shelf (sink_state (K.written sink.old) (K.faults sink.old) (K.puts sink.old)) (counted journal.old)) (session spec.now []) [] (ended result)
+    ensures { (shelf : ShelfState) → Ends (world shelf
+        (sink_state (K.written sink.old) (K.faults sink.old) (K.puts sink.old)) (counted journal.old))
+        (session spec.now []) [] (ended result)
         (world shelf (sink_state (K.written sink.new) (K.faults sink.new) (K.puts sink.new)) (counted journal.new)) }
 {
     let block = show(alloc, spec, journal)?;

@@ -1,5 +1,5 @@
--- The first operator of a shown phylum that has no scheme in the ordinary view. A shown phylum is the root, or an argument
--- phylum of an operator of a shown phylum.
+-- The first operator of a shown phylum that has no scheme in the ordinary view. A shown phylum is the root, or an
+-- argument phylum of an operator of a shown phylum.
 use Rattle.std.specs.Prelude.{◌≡◌, ℕ, ◌<◌, Bool, false, nat_eq, List, Option, Some, None, slice_get, option_map, unwrap_or}
 use Rattle.std.specs.List.{list_any}
 use Rattle.sg_kinds.specs.Sound.{IsShown}
@@ -25,4 +25,5 @@ pub record LacksScheme (t : Table) (ds : List Decl) (k : ℕ) (o : Operator) : T
 -- the fault of the first such operator, or none
 pub data IsNoScheme (t : Table) (ds : List Decl) (f : Option SpecFault) : Type 0 where
   all_have : ((k : ℕ) (o : Operator) → LacksScheme t ds k o → ⊥) → f ≡ None → IsNoScheme t ds f
-  first_lacks : (k : ℕ) (o : Operator) → LacksScheme t ds k o → ((j : ℕ) (x : Operator) → j < k → LacksScheme t ds j x → ⊥) → f ≡ fault_at t k o → IsNoScheme t ds f
+  first_lacks : (k : ℕ) (o : Operator) → LacksScheme t ds k o
+      → ((j : ℕ) (x : Operator) → j < k → LacksScheme t ds j x → ⊥) → f ≡ fault_at t k o → IsNoScheme t ds f

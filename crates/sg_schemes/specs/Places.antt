@@ -24,7 +24,8 @@ separators_stand may places (Child how ∷ items) = separators_stand may (suc pl
 separators_stand may places (Separates s ∷ items) = may && (nat_eq places 1 && separators_stand false places items)
 separators_stand may places (item ∷ items) = separators_stand may places items
 
--- the scheme has a place for each argument, and at most one separator, in a list's binary operator between its two places
+-- the scheme has a place for each argument, and at most one separator, in a list's binary operator between its two
+-- places
 abbrev pub is_fitting : Bool → ℕ → SchemeDecl → Bool
 is_fitting pair arity s = nat_eq (count_by is_child s.items) arity && separators_stand pair 0 s.items
 

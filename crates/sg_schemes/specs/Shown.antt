@@ -1,5 +1,5 @@
--- The first operator of a shown phylum that has no scheme, as it is computed: passes over the operators put up the flags of the
--- shown phyla, and declarations those of the operators that have schemes.
+-- The first operator of a shown phylum that has no scheme, as it is computed: passes over the operators put up the
+-- flags of the shown phyla, and declarations those of the operators that have schemes.
 use Rattle.std.specs.Prelude.{ℕ, zero, suc, max, Bool, true, false, not, ◌&&◌, if◌then◌else◌, List, [], ◌∷◌, length, replicate, slice_set, slice_index_or, Option, Some, None, slice_get, option_map}
 use Rattle.sg_kinds.specs.declared.spec.Operator.{Operator}
 use Rattle.sg_kinds.specs.declared.fault.SpecFault.{SpecFault}

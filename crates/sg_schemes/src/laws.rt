@@ -17,5 +17,6 @@ pub fn flags_are_of_shown_phyla()
 /// There is one answer to which operator of a shown phylum is the first without a scheme, and it is the computed one.
 pub fn missing_schemes_have_one_answer()
     ensures holds { (t : Table) (ds : List Decl) → IsNoScheme t ds (no_scheme t ds) }
-    ensures one { (t : Table) (ds : List Decl) (a b : Option SpecFault) → IsNoScheme t ds a → IsNoScheme t ds b → a ≡ b }
+    ensures one { (t : Table) (ds : List Decl) (a b : Option SpecFault) → IsNoScheme t ds a → IsNoScheme t ds b
+        → a ≡ b }
 {}

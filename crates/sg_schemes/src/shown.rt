@@ -165,7 +165,8 @@ fn fault_at(
     k: usize,
     operator: &Operator,
 ) -> Result<Option<SpecFault>, NoMemory>
-    ensures { IfOk result (λ f. f ≡ option_map (λ place. SpecFault.NoScheme place operator.now.name) (slice_get places.now k)) }
+    ensures { IfOk result (λ f. f ≡ option_map (λ place. SpecFault.NoScheme place operator.now.name)
+        (slice_get places.now k)) }
 {
     match places.get(k) {
         Some(place) => Ok(Some(SpecFault::NoScheme(*place, operator.name.copy(alloc)?))),
@@ -206,8 +207,8 @@ fn computed(alloc: Global, names: &Names, decls: &[Decl]) -> Result<Option<SpecF
     missing(alloc, names.table(), &shown, &given)
 }
 
-/// The fault of the first operator of a shown phylum that has no scheme in the ordinary view. The root is shown, and so are
-/// the arguments of the operators of shown phyla.
+/// The fault of the first operator of a shown phylum that has no scheme in the ordinary view. The root is shown, and
+/// so are the arguments of the operators of shown phyla.
 #[tactic(auto, using(crate::proofs::FirstMissing::answers))]
 pub fn no_scheme(
     alloc: Global,

@@ -114,7 +114,8 @@ fn string_at(text: &[u8]) -> Option<Cut<'_>>
 
 // the next string, behind one or more spaces
 fn next_string(text: &[u8]) -> Option<Cut<'_>>
-    ensures { MatchOption result (next_string text.now ≡ None) (λ c. next_string text.now ≡ Some (c.word.now, c.rest.now)) }
+    ensures { MatchOption result (next_string text.now ≡ None) (λ c. next_string text.now
+        ≡ Some (c.word.now, c.rest.now)) }
 {
     match behind_spaces(text) {
         Some(bytes) => string_at(bytes),

@@ -30,7 +30,8 @@ over ops count (Some op) = total count 1 (args_of ops op)
 
 -- a list with one element
 abbrev pub one_element : List Operator → (ℕ → Option ℕ) → List ℕ → Option ℕ
-one_element ops count (nil ∷ pair ∷ rest) = option_map (λ n. capped (2 + n)) (option_and_then count (slice_get (args_of ops pair) 0))
+one_element ops count (nil ∷ pair ∷ rest) = option_map (λ n. capped (2 + n))
+    (option_and_then count (slice_get (args_of ops pair) 0))
 one_element ops count os = None
 
 -- a completing term and a placeholder, by the phylum's shape and operators
@@ -69,4 +70,5 @@ fits (Some n) = nat_le n 65536
 
 -- the completing term and the placeholder of a phylum, over terms of these counts, are in the limit
 abbrev pub both_fit : List Operator → List (Option ℕ) → Phylum → Bool
-both_fit ops counts x = fits (completed ops (look counts) x.ops x.shape) && fits (placeheld ops (look counts) x.ops x.shape)
+both_fit ops counts x = fits (completed ops (look counts) x.ops x.shape)
+    && fits (placeheld ops (look counts) x.ops x.shape)

@@ -11,7 +11,8 @@ use Rattle.sg_names.specs.Shapes.{result_count, root_count, list_shape, optional
 
 -- the rows before that of completions
 abbrev pub shape_rows : Table → List Decl → Option SpecFault
-shape_rows t ds = or_else (unknown_name t ds) (or_else (result_count t) (or_else (root_count ds) (or_else (list_shape t ds) (optional_shape t ds))))
+shape_rows t ds = or_else (unknown_name t ds) (or_else (result_count t)
+    (or_else (root_count ds) (or_else (list_shape t ds) (optional_shape t ds))))
 
 -- the rows after it
 abbrev pub binding_rows : Table → List Decl → Option SpecFault

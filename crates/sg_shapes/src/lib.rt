@@ -1,5 +1,5 @@
-//! The faults of shapes: of nonterminals' results, of the root, of lists and of optional phyla, and whether the completing
-//! term and the placeholder of each phylum are finite and small.
+//! The faults of shapes: of nonterminals' results, of the root, of lists and of optional phyla, and whether the
+//! completing term and the placeholder of each phylum are finite and small.
 #![tactic(auto)]
 
 mod counts;

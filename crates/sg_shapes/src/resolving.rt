@@ -17,7 +17,8 @@ use std::alloc::Global;
 
 /// The first fault of lists and optional phyla.
 fn list_rows(alloc: Global, names: &Names, decls: &[Decl]) -> Result<Option<SpecFault>, NoMemory>
-    ensures { IfOk result (λ f. f ≡ or_else (shapes.list_shape names.now (trees_of decls.now)) (shapes.optional_shape names.now (trees_of decls.now))) }
+    ensures { IfOk result (λ f. f ≡ or_else (shapes.list_shape names.now (trees_of decls.now))
+        (shapes.optional_shape names.now (trees_of decls.now))) }
 {
     match list_shape(alloc, names, decls)? {
         Some(fault) => Ok(Some(fault)),
@@ -27,7 +28,9 @@ fn list_rows(alloc: Global, names: &Names, decls: &[Decl]) -> Result<Option<Spec
 
 /// The first fault of the root's number, lists and optional phyla.
 fn root_rows(alloc: Global, names: &Names, decls: &[Decl]) -> Result<Option<SpecFault>, NoMemory>
-    ensures { IfOk result (λ f. f ≡ or_else (shapes.root_count (trees_of decls.now)) (or_else (shapes.list_shape names.now (trees_of decls.now)) (shapes.optional_shape names.now (trees_of decls.now)))) }
+    ensures { IfOk result (λ f. f ≡ or_else (shapes.root_count (trees_of decls.now))
+        (or_else (shapes.list_shape names.now (trees_of decls.now))
+        (shapes.optional_shape names.now (trees_of decls.now)))) }
 {
     match root_count(decls) {
         Some(fault) => Ok(Some(fault)),
@@ -37,7 +40,10 @@ fn root_rows(alloc: Global, names: &Names, decls: &[Decl]) -> Result<Option<Spec
 
 /// The first fault of nonterminals' results and of what `root_rows` speaks of.
 fn result_rows(alloc: Global, names: &Names, decls: &[Decl]) -> Result<Option<SpecFault>, NoMemory>
-    ensures { IfOk result (λ f. f ≡ or_else (shapes.result_count names.now) (or_else (shapes.root_count (trees_of decls.now)) (or_else (shapes.list_shape names.now (trees_of decls.now)) (shapes.optional_shape names.now (trees_of decls.now))))) }
+    ensures { IfOk result (λ f. f ≡ or_else (shapes.result_count names.now)
+        (or_else (shapes.root_count (trees_of decls.now))
+        (or_else (shapes.list_shape names.now (trees_of decls.now))
+        (shapes.optional_shape names.now (trees_of decls.now))))) }
 {
     match result_count(alloc, names)? {
         Some(fault) => Ok(Some(fault)),

@@ -192,7 +192,8 @@ impl Rule<Decl, SpecFault> for Optionals<'_> {
     }
 }
 
-/// The first declaration of an optional phylum, no list, that has fewer than two operators or whose first is not nullary.
+/// The first declaration of an optional phylum, no list, that has fewer than two operators or whose first is not
+/// nullary.
 pub fn optional_shape(
     alloc: Global,
     names: &Names,

@@ -28,7 +28,8 @@ fn add_attributes(
     owner: u32,
     attrs: &[AttrDecl],
 ) -> Result<(), NoMemory>
-    ensures { OnOk result ((k : ℕ) → row_at found.new k ≡ row_at found.old k ++ spec.owned (map (spec.attribute phyla.now owner) attrs.now) k) }
+    ensures { OnOk result ((k : ℕ) → row_at found.new k
+        ≡ row_at found.old k ++ spec.owned (map (spec.attribute phyla.now owner) attrs.now) k) }
 {
     for decl in attrs {
         let attr = Attr {
@@ -50,7 +51,8 @@ fn add_attributes_at(
     found: &mut Groups<Attr>,
     decl: &Decl,
 ) -> Result<(), NoMemory>
-    ensures { OnOk result ((k : ℕ) → row_at found.new k ≡ row_at found.old k ++ spec.owned (spec.attributes_at owners.now phyla.now (tree_of decl.now)) k) }
+    ensures { OnOk result ((k : ℕ) → row_at found.new k
+        ≡ row_at found.old k ++ spec.owned (spec.attributes_at owners.now phyla.now (tree_of decl.now)) k) }
 {
     match decl {
         Decl::Attributes(name, attrs) => {
@@ -83,7 +85,8 @@ fn add_listing_at(
     found: &mut Groups<Shape>,
     decl: &Decl,
 ) -> Result<(), NoMemory>
-    ensures { OnOk result ((k : ℕ) → row_at found.new k ≡ row_at found.old k ++ spec.owned (spec.listing_at phyla.now (tree_of decl.now)) k) }
+    ensures { OnOk result ((k : ℕ) → row_at found.new k
+        ≡ row_at found.old k ++ spec.owned (spec.listing_at phyla.now (tree_of decl.now)) k) }
 {
     match decl {
         Decl::Listed(name) => found.put(alloc, phyla.number(&name.text), Shape::Listed),
@@ -149,7 +152,8 @@ fn op_number(
     name: &Name,
 ) -> Result<u32, NoMemory>
     requires { (n : List ℕ) → meaning callables.now n ≡ option_map callable.Operator (spec.op_named ops.now n) }
-    ensures { IfOk result (λ op. op ≡ unwrap_or (spec.operator_of ops.now (head.number_in phyla.now phylum.now.text) name.now.text) (length ops.now)) }
+    ensures { IfOk result (λ op. op ≡ unwrap_or (spec.operator_of ops.now
+        (head.number_in phyla.now phylum.now.text) name.now.text) (length ops.now)) }
 {
     match op_of(callables, ops, phyla.number(&phylum.text), &name.text) {
         Some(op) => Ok(op.number),
@@ -164,7 +168,8 @@ fn add_locals(
     op: u32,
     locals: &[Typed],
 ) -> Result<(), NoMemory>
-    ensures { OnOk result ((k : ℕ) → row_at found.new k ≡ row_at found.old k ++ spec.owned (map (spec.local phyla.now op) locals.now) k) }
+    ensures { OnOk result ((k : ℕ) → row_at found.new k
+        ≡ row_at found.old k ++ spec.owned (map (spec.local phyla.now op) locals.now) k) }
 {
     for typed in locals {
         let local = Local {
@@ -189,7 +194,8 @@ fn add_locals_of(
     locals: &[Typed],
 ) -> Result<(), NoMemory>
     requires { (n : List ℕ) → meaning callables.now n ≡ option_map callable.Operator (spec.op_named ops.now n) }
-    ensures { OnOk result ((k : ℕ) → row_at found.new k ≡ row_at found.old k ++ spec.owned (spec.locals_in phyla.now ops.now phylum.now name.now locals.now) k) }
+    ensures { OnOk result ((k : ℕ) → row_at found.new k
+        ≡ row_at found.old k ++ spec.owned (spec.locals_in phyla.now ops.now phylum.now name.now locals.now) k) }
 {
     let op = op_number(phyla, callables, ops, phylum, name)?;
     add_locals(alloc, phyla, found, op, locals)?;
@@ -205,7 +211,8 @@ fn add_locals_at(
     decl: &Decl,
 ) -> Result<(), NoMemory>
     requires { (n : List ℕ) → meaning callables.now n ≡ option_map callable.Operator (spec.op_named ops.now n) }
-    ensures { OnOk result ((k : ℕ) → row_at found.new k ≡ row_at found.old k ++ spec.owned (spec.locals_at phyla.now ops.now (tree_of decl.now)) k) }
+    ensures { OnOk result ((k : ℕ) → row_at found.new k
+        ≡ row_at found.old k ++ spec.owned (spec.locals_at phyla.now ops.now (tree_of decl.now)) k) }
 {
     match decl {
         Decl::Equations(phylum, name, locals, _) => {

@@ -96,7 +96,8 @@ fn phyla(
     mut ops: Groups<OpId>,
     mut attrs: Groups<Attr>,
 ) -> Result<Vec<Phylum>, NoMemory>
-    ensures { IfOk result (λ v. v.items ≡ spec.map_from (spec.phylum heads.now (row_at listings) (row_at ops) (row_at attrs)) 0 heads.now) }
+    ensures { IfOk result (λ v. v.items ≡ spec.map_from
+        (spec.phylum heads.now (row_at listings) (row_at ops) (row_at attrs)) 0 heads.now) }
 {
     let mut phyla = Vec::new(alloc);
     let mut lexemes = 0;
@@ -168,7 +169,9 @@ fn all_phyla(
     ops: &[Operator],
     decls: &[Decl],
 ) -> Result<Row<Phylum>, NoMemory>
-    ensures { IfOk result (λ r. r ≡ spec.map_from (spec.phylum heads.now (spec.listings_of heads.now (trees_of decls.now)) (spec.owned (spec.owners ops.now)) (spec.attributes_of heads.now heads.now (trees_of decls.now))) 0 heads.now) }
+    ensures { IfOk result (λ r. r ≡ spec.map_from (spec.phylum heads.now
+        (spec.listings_of heads.now (trees_of decls.now)) (spec.owned (spec.owners ops.now))
+        (spec.attributes_of heads.now heads.now (trees_of decls.now))) 0 heads.now) }
 {
     let listings = owners::listings(alloc, heads, decls)?;
     let own = owners::operators(alloc, ops)?;
@@ -185,7 +188,8 @@ fn all_nonterminals(
     heads: &Heads,
     decls: &[Decl],
 ) -> Result<Row<Nonterminal>, NoMemory>
-    ensures { IfOk result (λ r. r ≡ spec.map_from (spec.nonterminal (spec.attributes_of others.now heads.now (trees_of decls.now))) 0 others.now) }
+    ensures { IfOk result (λ r. r ≡ spec.map_from (spec.nonterminal
+        (spec.attributes_of others.now heads.now (trees_of decls.now))) 0 others.now) }
 {
     let attrs = owners::attributes(alloc, others, heads, decls)?;
     let made = nonterminals(alloc, others.as_slice(), attrs)?;
@@ -200,7 +204,8 @@ fn all_ops(
     ops: Vec<Operator>,
     decls: &[Decl],
 ) -> Result<Row<Operator>, NoMemory>
-    ensures { IfOk result (λ r. r ≡ spec.with_locals (spec.locals_of heads.now ops.items (trees_of decls.now)) ops.items) }
+    ensures { IfOk result (λ r. r ≡ spec.with_locals (spec.locals_of heads.now ops.items
+        (trees_of decls.now)) ops.items) }
 {
     let index = by_operator(alloc, &ops)?;
     let locals = owners::locals(alloc, heads, &index, &ops, decls)?;
@@ -210,7 +215,8 @@ fn all_ops(
 
 /// The table without its indexes.
 fn table(alloc: Global, heads: &Heads, others: &Heads, decls: &[Decl]) -> Result<Table, NoMemory>
-    ensures { IfOk result (λ t. t ≡ spec.table_from heads.now others.now (spec.operators_in heads.now (trees_of decls.now)) (trees_of decls.now)) }
+    ensures { IfOk result (λ t. t ≡ spec.table_from heads.now others.now
+        (spec.operators_in heads.now (trees_of decls.now)) (trees_of decls.now)) }
 {
     let bare = definitions::operators(alloc, heads, decls)?;
     let functions = definitions::functions(alloc, heads, decls)?;

@@ -25,7 +25,8 @@ AreEntries g root t (a ∷ refs) (e ∷ es) = IsEntry g root t a e × AreEntries
 AreEntries g root t refs es = ⊥
 
 -- a journal's list gained the entries of instances, of which none stands twice and each is among some
-pub record Gained (g : Grove) (root : NodeId) (t : Term) (IsAmong : Reference Place → Type 0) (old new : List Instance) : Type 0 where
+pub record Gained (g : Grove) (root : NodeId) (t : Term) (IsAmong : Reference Place
+    → Type 0) (old new : List Instance) : Type 0 where
   pub refs : List (Reference Place)
   pub entries : List Instance
   pub are : AreEntries g root t refs entries
@@ -34,6 +35,7 @@ pub record Gained (g : Grove) (root : NodeId) (t : Term) (IsAmong : Reference Pl
   pub among : All IsAmong refs
 
 -- and of all of these
-pub record GainedAll (g : Grove) (root : NodeId) (t : Term) (IsAmong : Reference Place → Type 0) (old new : List Instance) : Type 0 where
+pub record GainedAll (g : Grove) (root : NodeId) (t : Term) (IsAmong : Reference Place
+    → Type 0) (old new : List Instance) : Type 0 where
   pub gained : Gained g root t IsAmong old new
   pub every : (a : Reference Place) → IsAmong a → Contains gained.refs a

@@ -18,7 +18,8 @@ AllHold g ids ts = ⊥
 
 -- each node is a root, of the phylum for its place
 abbrev pub AreRootsOf : Grove → List ℕ → List NodeId → Type 0
-AreRootsOf g phyla ids = (k : ℕ) (id : NodeId) → slice_get ids k ≡ Some id → (root : IsRoot (nodes g) id) × (slice_get phyla k ≡ Some root.node.label.phylum)
+AreRootsOf g phyla ids = (k : ℕ) (id : NodeId) → slice_get ids k ≡ Some id
+    → (root : IsRoot (nodes g) id) × (slice_get phyla k ≡ Some root.node.label.phylum)
 
 module _ (old new : Grove) where
   -- nodes were added over roots at most: each node is and keeps what it did, and has the same below it
@@ -46,8 +47,10 @@ module _ (old new : Grove) where
 
   -- each term that the node is in is changed at that place
   abbrev pub ChangesTerms : NodeId → (Term → Term) → Type 0
-  ChangesTerms n f = (u : Place) (m : NodeId) (t s : Term) → Climbs (nodes old) u n m → Holds old m t → sub t u ≡ Some s → Holds new m (put t u (f s))
+  ChangesTerms n f = (u : Place) (m : NodeId) (t s : Term) → Climbs (nodes old) u n m → Holds old m t
+      → sub t u ≡ Some s → Holds new m (put t u (f s))
 
   -- each term that the node is below the top of has the other node's term in that place
   abbrev pub ReplacesTerms : NodeId → NodeId → Type 0
-  ReplacesTerms n d = (k : ℕ) (u : Place) (m : NodeId) (t s : Term) → Climbs (nodes old) (k ∷ u) n m → Holds old m t → Holds old d s → Holds new m (put t (k ∷ u) s)
+  ReplacesTerms n d = (k : ℕ) (u : Place) (m : NodeId) (t s : Term) → Climbs (nodes old) (k ∷ u) n m → Holds old m t
+      → Holds old d s → Holds new m (put t (k ∷ u) s)

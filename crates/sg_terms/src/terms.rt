@@ -52,8 +52,8 @@ pub struct Renewed {
     pub after: ValueId,
 }
 
-/// Terms of a specification, in trees, whose nodes keep their values as numbers of one pool. Each child is of the phylum that
-/// its place wants, and each stored value of its slot's type.
+/// Terms of a specification, in trees, whose nodes keep their values as numbers of one pool. Each child is of the
+/// phylum that its place wants, and each stored value of its slot's type.
 #[derive(Drop)]
 pub struct Terms {
     alloc: Global,
@@ -84,7 +84,8 @@ impl Model for Terms {
 
     ghost coded = { code_by
         (Spec × (Trees Kind Part × List IsValue))
-        (coded× the_spec.the_row.coded (coded× (trees_code the_kind.the_row.coded the_part.the_row.coded) (coded_list value_code)))
+        (coded× the_spec.the_row.coded (coded× (trees_code the_kind.the_row.coded the_part.the_row.coded)
+        (coded_list value_code)))
         (λ g. (g.spec, (g.trees, g.pool)))
         (λ p. record { spec = p.0; trees = p.1.0; pool = p.1.1 })
         (λ _. refl) };
@@ -213,7 +214,8 @@ impl Terms {
         self.trees.part(n).elided
     }
 
-    /// The number that a node keeps in a slot: that of an attribute or, past these, of a local. A leaf has slot 0, its value.
+    /// The number that a node keeps in a slot: that of an attribute or, past these, of a local. A leaf has slot 0,
+    /// its value.
     pub fn stored(&self, n: NodeId, slot: u32) -> ValueId
         requires { IsSome (number_at self.now n slot) }
         ensures number { number_at self.now n slot ≡ Some result }
@@ -249,8 +251,8 @@ impl Terms {
         grow_leaf(self.alloc, &mut self.trees, p, id)
     }
 
-    /// Makes a node of an operator over roots, as a root. No value of its slots is known: each has number 0. It is refused for
-    /// want of memory alone, and then hands the children back.
+    /// Makes a node of an operator over roots, as a root. No value of its slots is known: each has number 0. It is
+    /// refused for want of memory alone, and then hands the children back.
     pub fn node(
         &mut self,
         op: OpId,
@@ -335,8 +337,8 @@ impl Terms {
         put_elided(self.alloc, &mut self.trees, n, on);
     }
 
-    /// The tree under `at` and that of the root `detached` change places. Where `at` is a root nothing changes. It takes no
-    /// memory.
+    /// The tree under `at` and that of the root `detached` change places. Where `at` is a root nothing changes. It
+    /// takes no memory.
     pub fn swap(&mut self, at: NodeId, detached: NodeId)
         requires live { IsLive (nodes self.old) at }
         requires root { IsRoot (nodes self.old) detached }
@@ -405,8 +407,8 @@ impl Terms {
         ev.run(rule, args, who, &mut self.pool, &mut self.made, journal)
     }
 
-    /// Evaluates an equation of a node's operator on the values that are stored for its arguments, after an entry of it in the
-    /// journal, and stores the outcome for what the equation defines there.
+    /// Evaluates an equation of a node's operator on the values that are stored for its arguments, after an entry of
+    /// it in the journal, and stores the outcome for what the equation defines there.
     pub fn evaluate_at(
         &mut self,
         ev: &Evaluator,

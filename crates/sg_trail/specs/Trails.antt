@@ -33,7 +33,8 @@ pub record IsCovered (es : List Entry) (n : NodeId) (slot : ℕ) : Type 0 where
 
 -- each slot of each node of an operator in a tree has one
 abbrev pub AreCovered : Grove → NodeId → List Entry → Type 0
-AreCovered g root es = (n : NodeId) (op slot id : ℕ) → IsInside (nodes g) n root → op_at g n ≡ Some op → number_at g n slot ≡ Some id → IsCovered es n slot
+AreCovered g root es = (n : NodeId) (op slot id : ℕ) → IsInside (nodes g) n root → op_at g n ≡ Some op
+    → number_at g n slot ≡ Some id → IsCovered es n slot
 
 -- each entry may be stored
 abbrev pub AreStorable : Grove → List Entry → Type 0
@@ -63,7 +64,8 @@ pub record IsExchanged (before after : Grove) (at detached : NodeId) : Type 0 wh
   pub root : IsRoot (nodes before) detached
   pub apart : IsInside (nodes before) at detached → ⊥
   pub phyla : SameSort (λ k. k.phylum) (nodes before) at detached
-  pub swapped : (p : NodeId) (k : ℕ) → IsChild (nodes before) at p k → IsSwapped (nodes before) (nodes after) at detached p k
+  pub swapped : (p : NodeId) (k : ℕ) → IsChild (nodes before) at p k
+      → IsSwapped (nodes before) (nodes after) at detached p k
   pub unchanged : IsRoot (nodes before) at → (n : NodeId) → nodes after n ≡ nodes before n
   pub numbers : (n : NodeId) (slot : ℕ) → number_at after n slot ≡ number_at before n slot
 

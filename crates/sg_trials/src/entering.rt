@@ -9,8 +9,9 @@ use sg_patterns::{InToken, Lexemes, ScanFault, scan};
 use std::fmt::Write;
 use std::process::Abort;
 
-/// Formulas, terms of them and names in them. The terminals are the end 0, the markers 1 and 2, the literals `or` 3, `and` 4,
-/// `not` 5, `(` 6, `)` 7 and `=` 8, and the lexemes NAME 9, WHITESPACE 10 and NUMBER 11. The productions are 0 to 8.
+/// Formulas, terms of them and names in them. The terminals are the end 0, the markers 1 and 2, the literals `or` 3,
+/// `and` 4, `not` 5, `(` 6, `)` 7 and `=` 8, and the lexemes NAME 9, WHITESPACE 10 and NUMBER 11. The productions are
+/// 0 to 8.
 fn formulas() -> &'static [u8] {
     br#"root page;
 page : Page(f);
@@ -31,15 +32,16 @@ Not_ { synthesized f t; };
 Name_ { synthesized NAME t; };
 Or_ ::= (Or_ 'or' And_) { Or(Or_$2.t, And_.t) } | (And_) { And_.t };
 And_ ::= (And_ 'and' Not_) { And(And_$2.t, Not_.t) } | (Not_) { Not_.t };
-Not_ ::= ('not' Not_) { Not(Not_$2.t) } | (NAME) { Is(NAME.value) } | ('(' Or_ ')') { Or_.t } | (NAME '=' Not_) { Let(NAME.value, Not_$2.t) };
+Not_ ::= ('not' Not_) { Not(Not_$2.t) } | (NAME) { Is(NAME.value) } | ('(' Or_ ')') { Or_.t } |
+    (NAME '=' Not_) { Let(NAME.value, Not_$2.t) };
 Name_ ::= (NAME) { NAME.value };
 f ~ Or_.t;
 NAME ~ Name_.t;
 "#
 }
 
-/// Which entry a text is typed in at, the text, its tokens with their terminals and places or the place without one, and what
-/// is done with each: `s` takes it, a number reduces by that production, `a` accepts, and `x` stops.
+/// Which entry a text is typed in at, the text, its tokens with their terminals and places or the place without one,
+/// and what is done with each: `s` takes it, a number reduces by that production, `a` accepts, and `x` stops.
 const ROWS: [(u32, &[u8], &str, &str); 9] = [
     (0, b"a", "9 0 1,", "s s 5 3 1 a"),
     (

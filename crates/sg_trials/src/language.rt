@@ -1,7 +1,7 @@
 //! A small language with something of each kind.
 
-/// Its numbers: of the phyla after the three that are always there, `r` is 3, `p` 4, `xs` 5, `ID` 6 and `WHITESPACE` 7; of the
-/// operators R is 0, P 1, Nil 2 and Pair 3; the equations are numbered as they stand.
+/// Its numbers: of the phyla after the three that are always there, `r` is 3, `p` 4, `xs` 5, `ID` 6 and `WHITESPACE`
+/// 7; of the operators R is 0, P 1, Nil 2 and Pair 3; the equations are numbered as they stand.
 pub fn language() -> &'static [u8] {
     br#"root r;
 r : R(p xs ID);

@@ -1,5 +1,5 @@
-//! Trials over accepted specifications: what their records hold, their plans and tables, typed-in texts, terms, and calls
-//! that may answer want of memory where memory is ample.
+//! Trials over accepted specifications: what their records hold, their plans and tables, typed-in texts, terms, and
+//! calls that may answer want of memory where memory is ample.
 #![tactic(auto)]
 
 #[cfg(test)]

@@ -1,5 +1,5 @@
-//! Plans of evaluation: the visit of each attribute, what each visit of an operator does, and which equations name each of
-//! its vertices.
+//! Plans of evaluation: the visit of each attribute, what each visit of an operator does, and which equations name
+//! each of its vertices.
 use crate::language::language;
 use crate::loading::loaded;
 use sg_kinds::plans::{PlanStep, Plans};

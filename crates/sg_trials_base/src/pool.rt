@@ -20,7 +20,8 @@ fn pair(rt: &(impl Abort + AllocGlobal), number: i64) -> Value {
     Value::tree(OpId { number: 1 }, kids)
 }
 
-/// Different values: two numbers, two truth values, two texts, two faults, two trees, a leaf and a tree that look alike.
+/// Different values: two numbers, two truth values, two texts, two faults, two trees, a leaf and a tree that look
+/// alike.
 fn values(rt: &(impl Abort + AllocGlobal)) -> [Value; 10] {
     [
         Value::number(0),

@@ -2,8 +2,8 @@
 use sg_sets::{BitSet, Relation, Rows};
 use std::process::Abort;
 
-/// How many vertices, the edges, how many pairs are in the closure, and the cycle that is reported, empty where there is
-/// none.
+/// How many vertices, the edges, how many pairs are in the closure, and the cycle that is reported, empty where there
+/// is none.
 type Graph = (usize, &'static [(usize, usize)], usize, &'static [usize]);
 
 const GRAPHS: [Graph; 9] = [
@@ -111,7 +111,8 @@ fn a_ring_of_a_thousand(rt: HostRuntime) {
     }
 }
 
-/// The numbers of each row after they flowed: row 0 feeds 1 and 3, a ring of 1, 2 and 3 feeds 4, and row 5 stands alone.
+/// The numbers of each row after they flowed: row 0 feeds 1 and 3, a ring of 1, 2 and 3 feeds 4, and row 5 stands
+/// alone.
 const FLOWED: [&[usize]; 6] = [&[99], &[0, 99], &[0, 99], &[0, 99], &[0, 99], &[64]];
 
 #[test]

@@ -1,7 +1,7 @@
 //! The language whose expressions the trials of outcomes evaluate, in parts that stand one behind the other.
 
-/// The parts of the language. Each transformation has the outcome of its expression as its name: a number, a truth value, the bytes of a text, the
-/// word of a fault, or `tree`.
+/// The parts of the language. Each transformation has the outcome of its expression as its name: a number, a truth
+/// value, the bytes of a text, the word of a fault, or `tree`.
 pub fn parts() -> [&'static [u8]; 8] {
     [
         part_1(),

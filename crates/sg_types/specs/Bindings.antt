@@ -17,8 +17,8 @@ use Rattle.sg_types.specs.declared.scope.Variable.{Variable}
 use Rattle.sg_names.specs.Drafted.{drafted}
 use Rattle.sg_types.specs.Scopes.{found}
 
--- where an expression stands: in an equation of an operator, whose arguments are these occurrences; in an input production;
--- elsewhere, where no reference means anything
+-- where an expression stands: in an equation of an operator, whose arguments are these occurrences; in an input
+-- production; elsewhere, where no reference means anything
 pub data Owner : Type 0 where
   OfEquation : ℕ → List Occurrence → Owner
   OfProduction : Bytes → List Part → Owner
@@ -57,7 +57,8 @@ abbrev pub symbol_there : List Part → Operand → ℕ × Option ℕ
 symbol_there parts o = (count_by is_bound (take (o.at - 1) parts), Some o.of)
 
 abbrev pub reference_at : Table → Owner → Reference → Option (ℕ × Option ℕ)
-reference_at t (OfEquation op args) r = option_and_then (λ (o : Occurrence). argument t op args o.at o.slot) (reference t op r)
+reference_at t (OfEquation op args) r = option_and_then (λ (o : Occurrence). argument t op args o.at o.slot)
+    (reference t op r)
 reference_at t (OfProduction left parts) r = option_map (symbol_there parts) (operand t left parts r)
 reference_at t OfNothing r = None
 

@@ -71,7 +71,8 @@ abbrev pub params_in : Table → Option Callable → List ℕ
 params_in t None = []
 params_in t (Some c) = look.params_of t c
 
--- the first mismatch of an expression where a type is wanted, from its own type, its place and the first mismatch inside
+-- the first mismatch of an expression where a type is wanted, from its own type, its place and the first mismatch
+-- inside
 abbrev pub where_wanted : Table → Option ℕ → Option ℕ → Position → Option Position → Option Position
 where_wanted t wanted found place inside = or_else (unless (fits_where t wanted found) place) inside
 
@@ -79,22 +80,27 @@ where_wanted t wanted found place inside = or_else (unless (fits_where t wanted 
 abbrev pub at_equal : Table → Option ℕ → Option ℕ → Position → Option Position → Option Position → Option Position
 at_equal t left right place first second = or_else first (or_else (unless (do_agree t left right) place) second)
 
-abbrev pub at_cons : Table → Option (ℕ × ℕ) → Option ℕ → Position → Position → Option Position → Option Position → Option Position
+abbrev pub at_cons : Table → Option (ℕ × ℕ) → Option ℕ → Position → Position → Option Position → Option Position
+    → Option Position
 at_cons t None left left_place place first second = or_else first (Some place)
 at_cons t (Some x) left left_place place first second = or_else (where_wanted t (Some x.1) left left_place first) second
 
-abbrev pub at_infix : Table → Infix → Option ℕ → Option ℕ → Position → Position → Option Position → Option Position → Option Position
+abbrev pub at_infix : Table → Infix → Option ℕ → Option ℕ → Position → Position → Option Position → Option Position
+    → Option Position
 at_infix t Equal left right left_place place first second = at_equal t left right place first second
 at_infix t Unequal left right left_place place first second = at_equal t left right place first second
-at_infix t Cons left right left_place place first second = at_cons t (list_of t right) left left_place place first second
-at_infix t s left right left_place place first second = or_else (where_wanted t (Some (taken s)) left left_place first) (where_wanted t (Some (taken s)) right place second)
+at_infix t Cons left right left_place place first second =
+    at_cons t (list_of t right) left left_place place first second
+at_infix t s left right left_place place first second =
+    or_else (where_wanted t (Some (taken s)) left left_place first) (where_wanted t (Some (taken s)) right place second)
 
 -- the place, where there are more arguments than parameters
 abbrev pub surplus : Exprs → Position → Option Position
 surplus NoExpr place = None
 surplus (AndExpr e es) place = Some place
 
--- the first mismatch inside an expression; a name that means nothing is one, and a call with another number of arguments
+-- the first mismatch inside an expression; a name that means nothing is one, and a call with another number of
+-- arguments
 abbrev mutual
   pub mismatch_in : Table → Owner → List scope.Variable → Expr → Option Position
   mismatch_in t w vs (Amount n place) = None
@@ -104,29 +110,38 @@ abbrev mutual
   mismatch_in t w vs (Attribute r) = untyped (type_in t w vs (Attribute r)) (occurrence_place r.of)
   mismatch_in t w vs (MadeOf made n place) = untyped (look.usable_named t n.text) place
   mismatch_in t w vs (Paren a place) = mismatch_in t w vs a
-  mismatch_in t w vs (Single f a place) = where_wanted t (Some (prefix_type f)) (type_in t w vs a) (expr_place a) (mismatch_in t w vs a)
-  mismatch_in t w vs (Binary s a b) = at_infix t s (type_in t w vs a) (type_in t w vs b) (expr_place a) (expr_place b) (mismatch_in t w vs a) (mismatch_in t w vs b)
+  mismatch_in t w vs (Single f a place) = where_wanted t (Some (prefix_type f)) (type_in t w vs a) (expr_place a)
+      (mismatch_in t w vs a)
+  mismatch_in t w vs (Binary s a b) = at_infix t s (type_in t w vs a) (type_in t w vs b) (expr_place a) (expr_place b)
+      (mismatch_in t w vs a) (mismatch_in t w vs b)
   mismatch_in t w vs (Choice c a b) =
       or_else (where_wanted t (Some truths) (type_in t w vs c) (expr_place c) (mismatch_in t w vs c))
-      (or_else (mismatch_in t w vs a) (where_wanted t (type_in t w vs a) (type_in t w vs b) (expr_place b) (mismatch_in t w vs b)))
-  mismatch_in t w vs (Call n es) = or_else (unless (is_some (look.callable t n.text)) n.place) (mismatch_in_all t w vs n.place es (params_in t (look.callable t n.text)))
-  mismatch_in t w vs (Let n a b place) = or_else (mismatch_in t w vs a) (mismatch_in t w (vs ++ record { name = n.text; of = type_in t w vs a } ∷ []) b)
+      (or_else (mismatch_in t w vs a) (where_wanted t (type_in t w vs a) (type_in t w vs b) (expr_place b)
+      (mismatch_in t w vs b)))
+  mismatch_in t w vs (Call n es) = or_else (unless (is_some (look.callable t n.text)) n.place)
+      (mismatch_in_all t w vs n.place es (params_in t (look.callable t n.text)))
+  mismatch_in t w vs (Let n a b place) = or_else (mismatch_in t w vs a)
+      (mismatch_in t w (vs ++ record { name = n.text; of = type_in t w vs a } ∷ []) b)
   mismatch_in t w vs (With a q b cs place) =
       or_else (mismatch_in t w vs a)
       (or_else (pattern.mismatch_in t q (type_in t w vs a))
       (or_else (mismatch_in t w (vs ++ pattern.variables_of t q (type_in t w vs a)) b)
-      (mismatch_in_cases t w vs (type_in t w vs a) (type_in t w (vs ++ pattern.variables_of t q (type_in t w vs a)) b) cs)))
+      (mismatch_in_cases t w vs (type_in t w vs a) (type_in t w (vs
+      ++ pattern.variables_of t q (type_in t w vs a)) b) cs)))
 
   -- each argument where its parameter's type is wanted
   pub mismatch_in_all : Table → Owner → List scope.Variable → Position → Exprs → List ℕ → Option Position
   mismatch_in_all t w vs place es [] = surplus es place
   mismatch_in_all t w vs place NoExpr (p ∷ ps) = Some place
-  mismatch_in_all t w vs place (AndExpr e es) (p ∷ ps) = or_else (where_wanted t (Some p) (type_in t w vs e) (expr_place e) (mismatch_in t w vs e)) (mismatch_in_all t w vs place es ps)
+  mismatch_in_all t w vs place (AndExpr e es) (p ∷ ps) =
+      or_else (where_wanted t (Some p) (type_in t w vs e) (expr_place e) (mismatch_in t w vs e))
+      (mismatch_in_all t w vs place es ps)
 
   -- the cases after the first, where its type is wanted
   pub mismatch_in_cases : Table → Owner → List scope.Variable → Option ℕ → Option ℕ → Cases → Option Position
   mismatch_in_cases t w vs subject wanted NoCase = None
-  mismatch_in_cases t w vs subject wanted (Default e) = where_wanted t wanted (type_in t w vs e) (expr_place e) (mismatch_in t w vs e)
+  mismatch_in_cases t w vs subject wanted (Default e) =
+      where_wanted t wanted (type_in t w vs e) (expr_place e) (mismatch_in t w vs e)
   mismatch_in_cases t w vs subject wanted (Case q e cs) =
       let vars = vs ++ pattern.variables_of t q subject in
       or_else (pattern.mismatch_in t q subject)
@@ -194,8 +209,10 @@ abbrev mutual
   recorded t w vs (Single f a place) = kept.Single (prefix_of f) (recorded t w vs a)
   recorded t w vs (Binary s a b) = infix_in t s (type_in t w vs b) (recorded t w vs a) (recorded t w vs b)
   recorded t w vs (Choice c a b) = kept.Choice (recorded t w vs c) (recorded t w vs a) (recorded t w vs b)
-  recorded t w vs (Call n es) = called_in (look.callable t n.text) (recorded_all t w vs es (params_in t (look.callable t n.text)))
-  recorded t w vs (Let n a b place) = kept.Let (recorded t w vs a) (recorded t w (vs ++ record { name = n.text; of = type_in t w vs a } ∷ []) b)
+  recorded t w vs (Call n es) = called_in (look.callable t n.text)
+      (recorded_all t w vs es (params_in t (look.callable t n.text)))
+  recorded t w vs (Let n a b place) = kept.Let (recorded t w vs a)
+      (recorded t w (vs ++ record { name = n.text; of = type_in t w vs a } ∷ []) b)
   recorded t w vs (With a q b cs place) =
       kept.With (recorded t w vs a)
       (kept.Case (pattern.recorded t q) (recorded t w (vs ++ pattern.variables_of t q (type_in t w vs a)) b)
@@ -208,4 +225,5 @@ abbrev mutual
   pub recorded_cases : Table → Owner → List scope.Variable → Option ℕ → Cases → kept.Cases
   recorded_cases t w vs subject NoCase = kept.NoCase
   recorded_cases t w vs subject (Default e) = kept.Default (recorded t w vs e)
-  recorded_cases t w vs subject (Case q e cs) = kept.Case (pattern.recorded t q) (recorded t w (vs ++ pattern.variables_of t q subject) e) (recorded_cases t w vs subject cs)
+  recorded_cases t w vs subject (Case q e cs) = kept.Case (pattern.recorded t q)
+      (recorded t w (vs ++ pattern.variables_of t q subject) e) (recorded_cases t w vs subject cs)

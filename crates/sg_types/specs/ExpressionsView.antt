@@ -28,23 +28,27 @@ pub record IsFound (t : Table) (w : Owner) (vs : List Variable) (e : Expr) (f : 
   pub place : f.place ≡ expr_place e
   pub mismatch : f.mismatch ≡ mismatch_in t w vs e
 
-pub record AreFound (t : Table) (w : Owner) (vs : List Variable) (place : Position) (es : Exprs) (ps : List ℕ) (f : FoundList) : Type 0 where
+pub record AreFound (t : Table) (w : Owner) (vs : List Variable) (place : Position) (es : Exprs) (ps : List ℕ)
+    (f : FoundList) : Type 0 where
   pub list : exprs_of f.list ≡ recorded_all t w vs es ps
   pub mismatch : f.mismatch ≡ mismatch_in_all t w vs place es ps
 
 -- a call of a builtin
-pub record IsBuiltIn (t : Table) (w : Owner) (vs : List Variable) (builtin : Unary) (es : Exprs) (at : Position) (f : Found) : Type 0 where
+pub record IsBuiltIn (t : Table) (w : Owner) (vs : List Variable) (builtin : Unary) (es : Exprs) (at : Position)
+    (f : Found) : Type 0 where
   pub tree : expr_of f.tree ≡ kept.Single builtin (only_in (recorded_all t w vs es (builtin_param builtin ∷ [])))
   pub of : f.of ≡ Some (builtin_result builtin)
   pub place : f.place ≡ at
   pub mismatch : f.mismatch ≡ mismatch_in_all t w vs at es (builtin_param builtin ∷ [])
 
 -- a pattern and the expression behind it
-pub record IsCase (t : Table) (w : Owner) (vs : List Variable) (subject : Option ℕ) (q : Pattern) (e : Expr) (f : FoundCase) : Type 0 where
+pub record IsCase (t : Table) (w : Owner) (vs : List Variable) (subject : Option ℕ) (q : Pattern) (e : Expr)
+    (f : FoundCase) : Type 0 where
   pub pattern : IsChecked t q subject f.pattern
   pub body : IsFound t w (vs ++ variables_of t q subject) e f.body
 
-pub record AreCases (t : Table) (w : Owner) (vs : List Variable) (subject wanted : Option ℕ) (cs : Cases) (f : FoundCases) : Type 0 where
+pub record AreCases (t : Table) (w : Owner) (vs : List Variable) (subject wanted : Option ℕ) (cs : Cases)
+    (f : FoundCases) : Type 0 where
   pub list : cases_of f.list ≡ recorded_cases t w vs subject cs
   pub mismatch : f.mismatch ≡ mismatch_in_cases t w vs subject wanted cs
 

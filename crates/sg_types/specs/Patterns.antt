@@ -41,11 +41,13 @@ abbrev mutual
   mismatch_in t (Anything place) wanted = None
   mismatch_in t (Variable n) wanted = None
   mismatch_in t (MadeAs made n place) wanted = unless (fits_where t wanted (usable_named t n.text)) place
-  mismatch_in t (Applied n xs) wanted = or_else (unless (is_operator_of t (op_named t.ops n.text) wanted) n.place) (mismatch_in_all t n.place xs (parts_of t (op_named t.ops n.text)))
+  mismatch_in t (Applied n xs) wanted = or_else (unless (is_operator_of t (op_named t.ops n.text) wanted) n.place)
+      (mismatch_in_all t n.place xs (parts_of t (op_named t.ops n.text)))
 
   pub mismatch_in_all : Table → Position → Patterns → List ℕ → Option Position
   mismatch_in_all t place NoPattern [] = None
-  mismatch_in_all t place (AndPattern x xs) (p ∷ ps) = or_else (mismatch_in t x (Some p)) (mismatch_in_all t place xs ps)
+  mismatch_in_all t place (AndPattern x xs) (p ∷ ps) =
+      or_else (mismatch_in t x (Some p)) (mismatch_in_all t place xs ps)
   mismatch_in_all t place xs ps = Some place
 
 -- the variables from left to right, each with the type that is wanted at its place
@@ -72,7 +74,8 @@ abbrev mutual
   recorded t (Anything place) = kept.Anything
   recorded t (Variable n) = kept.Variable
   recorded t (MadeAs made n place) = kept.MadeAs made (unwrap_or (usable_named t n.text) 0)
-  recorded t (Applied n xs) = kept.Applied (unwrap_or (op_named t.ops n.text) 0) (recorded_all t xs (parts_of t (op_named t.ops n.text)))
+  recorded t (Applied n xs) = kept.Applied (unwrap_or (op_named t.ops n.text) 0)
+      (recorded_all t xs (parts_of t (op_named t.ops n.text)))
 
   pub recorded_all : Table → Patterns → List ℕ → kept.Patterns
   recorded_all t (AndPattern x xs) (p ∷ ps) = kept.AndPattern (recorded t x) (recorded_all t xs ps)

@@ -90,7 +90,8 @@ fn variable(walk: &Walk<'_>, name: &Name, scope: &Scope) -> Result<Found, NoMemo
 }
 
 fn attribute(walk: &Walk<'_>, reference: &Reference, scope: &Scope) -> Result<Found, NoMemory>
-    ensures { IfOk result (IsFound walk.now.names.now (owner_of walk.now.owner) scope.now (plain.Attribute reference.now)) }
+    ensures { IfOk result (IsFound walk.now.names.now (owner_of walk.now.owner) scope.now
+        (plain.Attribute reference.now)) }
 {
     let _ = scope;
     let binding = reference_at(walk.names, &walk.owner, reference);
@@ -98,7 +99,8 @@ fn attribute(walk: &Walk<'_>, reference: &Reference, scope: &Scope) -> Result<Fo
 }
 
 fn made_term(names: &Names, made: Made, name: &Name, place: Position) -> Found
-    ensures tree { view.expr_of result.tree ≡ kept.MadeOf made (unwrap_or (look.usable_named names.now name.now.text) 0) }
+    ensures tree { view.expr_of result.tree ≡ kept.MadeOf made
+        (unwrap_or (look.usable_named names.now name.now.text) 0) }
     ensures of { result.of ≡ look.usable_named names.now name.now.text }
     ensures place { result.place ≡ place }
     ensures mismatch { result.mismatch ≡ types.untyped (look.usable_named names.now name.now.text) place }
@@ -221,7 +223,8 @@ fn paren(
     place: Position,
     scope: &mut Scope,
 ) -> Result<Found, NoMemory>
-    ensures found { IfOk result (IsFound walk.now.names.now (owner_of walk.now.owner) scope.old (plain.Paren (expr_of inner.now) place)) }
+    ensures found { IfOk result (IsFound walk.now.names.now (owner_of walk.now.owner) scope.old
+        (plain.Paren (expr_of inner.now) place)) }
     ensures scope { OnOk result (scope.new ≡ scope.old) }
 {
     let found = expr(walk, inner, scope)?;
@@ -242,7 +245,8 @@ fn single(
     place: Position,
     scope: &mut Scope,
 ) -> Result<Found, NoMemory>
-    ensures found { IfOk result (IsFound walk.now.names.now (owner_of walk.now.owner) scope.old (plain.Single prefix (expr_of operand.now) place)) }
+    ensures found { IfOk result (IsFound walk.now.names.now (owner_of walk.now.owner) scope.old
+        (plain.Single prefix (expr_of operand.now) place)) }
     ensures scope { OnOk result (scope.new ≡ scope.old) }
 {
     let found = expr(walk, operand, scope)?;
@@ -264,7 +268,8 @@ fn binary(
     right: &Expr,
     scope: &mut Scope,
 ) -> Result<Found, NoMemory>
-    ensures found { IfOk result (IsFound walk.now.names.now (owner_of walk.now.owner) scope.old (plain.Binary sign (expr_of left.now) (expr_of right.now))) }
+    ensures found { IfOk result (IsFound walk.now.names.now (owner_of walk.now.owner) scope.old
+        (plain.Binary sign (expr_of left.now) (expr_of right.now))) }
     ensures scope { OnOk result (scope.new ≡ scope.old) }
 {
     let left = expr(walk, left, scope)?;
@@ -280,7 +285,8 @@ fn choice(
     second: &Expr,
     scope: &mut Scope,
 ) -> Result<Found, NoMemory>
-    ensures found { IfOk result (IsFound walk.now.names.now (owner_of walk.now.owner) scope.old (plain.Choice (expr_of condition.now) (expr_of first.now) (expr_of second.now))) }
+    ensures found { IfOk result (IsFound walk.now.names.now (owner_of walk.now.owner) scope.old
+        (plain.Choice (expr_of condition.now) (expr_of first.now) (expr_of second.now))) }
     ensures scope { OnOk result (scope.new ≡ scope.old) }
 {
     let condition = expr(walk, condition, scope)?;
@@ -291,7 +297,8 @@ fn choice(
 
 #[cycle(expr)]
 fn call(walk: &Walk<'_>, name: &Name, args: &Exprs, scope: &mut Scope) -> Result<Found, NoMemory>
-    ensures found { IfOk result (IsFound walk.now.names.now (owner_of walk.now.owner) scope.old (plain.Call name.now (exprs_of args.now))) }
+    ensures found { IfOk result (IsFound walk.now.names.now (owner_of walk.now.owner) scope.old
+        (plain.Call name.now (exprs_of args.now))) }
     ensures scope { OnOk result (scope.new ≡ scope.old) }
 {
     let Some(called) = walk.names.callable(&name.text) else {
@@ -330,7 +337,8 @@ fn built_in(
     place: Position,
     scope: &mut Scope,
 ) -> Result<Found, NoMemory>
-    ensures found { IfOk result (IsBuiltIn walk.now.names.now (owner_of walk.now.owner) scope.old builtin (exprs_of args.now) place) }
+    ensures found { IfOk result (IsBuiltIn walk.now.names.now (owner_of walk.now.owner) scope.old builtin
+        (exprs_of args.now) place) }
     ensures scope { OnOk result (scope.new ≡ scope.old) }
 {
     let of = Some(builtin_result(builtin));
@@ -363,7 +371,8 @@ fn all(
     place: Position,
     scope: &mut Scope,
 ) -> Result<FoundList, NoMemory>
-    ensures found { IfOk result (AreFound walk.now.names.now (owner_of walk.now.owner) scope.old place (exprs_of args.now) types.now) }
+    ensures found { IfOk result (AreFound walk.now.names.now (owner_of walk.now.owner) scope.old place
+        (exprs_of args.now) types.now) }
     ensures scope { OnOk result (scope.new ≡ scope.old) }
 {
     match (args, types.split_first()) {
@@ -397,7 +406,8 @@ fn bind(
     place: Position,
     scope: &mut Scope,
 ) -> Result<Found, NoMemory>
-    ensures found { IfOk result (IsFound walk.now.names.now (owner_of walk.now.owner) scope.old (plain.Let name.now (expr_of bound.now) (expr_of body.now) place)) }
+    ensures found { IfOk result (IsFound walk.now.names.now (owner_of walk.now.owner) scope.old
+        (plain.Let name.now (expr_of bound.now) (expr_of body.now) place)) }
     ensures scope { OnOk result (scope.new ≡ scope.old) }
 {
     let bound = expr(walk, bound, scope)?;
@@ -427,7 +437,8 @@ fn with(
     place: Position,
     scope: &mut Scope,
 ) -> Result<Found, NoMemory>
-    ensures found { IfOk result (IsFound walk.now.names.now (owner_of walk.now.owner) scope.old (plain.With (expr_of subject.now) (pattern_of first.now) (expr_of body.now) (cases_of rest.now) place)) }
+    ensures found { IfOk result (IsFound walk.now.names.now (owner_of walk.now.owner) scope.old
+        (plain.With (expr_of subject.now) (pattern_of first.now) (expr_of body.now) (cases_of rest.now) place)) }
     ensures scope { OnOk result (scope.new ≡ scope.old) }
 {
     let subject = expr(walk, subject, scope)?;
@@ -445,7 +456,8 @@ fn case(
     subject: &Option<PhylumId>,
     scope: &mut Scope,
 ) -> Result<FoundCase, NoMemory>
-    ensures found { IfOk result (IsCase walk.now.names.now (owner_of walk.now.owner) scope.old subject.now (pattern_of matched.now) (expr_of body.now)) }
+    ensures found { IfOk result (IsCase walk.now.names.now (owner_of walk.now.owner) scope.old subject.now
+        (pattern_of matched.now) (expr_of body.now)) }
     ensures scope { OnOk result (scope.new ≡ scope.old) }
 {
     let before = scope.len();
@@ -464,7 +476,8 @@ fn cases(
     wanted: &Option<PhylumId>,
     scope: &mut Scope,
 ) -> Result<FoundCases, NoMemory>
-    ensures found { IfOk result (AreCases walk.now.names.now (owner_of walk.now.owner) scope.old subject.now wanted.now (cases_of cases.now)) }
+    ensures found { IfOk result (AreCases walk.now.names.now
+        (owner_of walk.now.owner) scope.old subject.now wanted.now (cases_of cases.now)) }
     ensures scope { OnOk result (scope.new ≡ scope.old) }
 {
     let mut kept = Vec::new(walk.alloc);

@@ -78,7 +78,8 @@ pub(crate) fn mismatch_of(
     wanted: &Option<PhylumId>,
     case: &FoundCase,
 ) -> Option<Position>
-    ensures { result ≡ or_else case.now.pattern.mismatch (spec.where_wanted names.now wanted.now case.now.body.of case.now.body.place case.now.body.mismatch) }
+    ensures { result ≡ or_else case.now.pattern.mismatch
+        (spec.where_wanted names.now wanted.now case.now.body.of case.now.body.place case.now.body.mismatch) }
 {
     earlier(
         case.pattern.mismatch,
@@ -94,10 +95,13 @@ pub(crate) fn chosen(
     first: Found,
     second: Found,
 ) -> Result<Found, NoMemory>
-    ensures tree { IfOk result (λ f. expr_of f.tree ≡ kept.Choice (expr_of condition.tree) (expr_of first.tree) (expr_of second.tree)) }
+    ensures tree { IfOk result (λ f. expr_of f.tree ≡ kept.Choice (expr_of condition.tree) (expr_of first.tree)
+        (expr_of second.tree)) }
     ensures of { IfOk result (λ f. f.of ≡ first.of) }
     ensures place { IfOk result (λ f. f.place ≡ condition.place) }
-    ensures mismatch { IfOk result (λ f. f.mismatch ≡ or_else (spec.where_wanted names.now (Some truths) condition.of condition.place condition.mismatch) (or_else first.mismatch (spec.where_wanted names.now first.of second.of second.place second.mismatch))) }
+    ensures mismatch { IfOk result (λ f. f.mismatch ≡ or_else
+        (spec.where_wanted names.now (Some truths) condition.of condition.place condition.mismatch)
+        (or_else first.mismatch (spec.where_wanted names.now first.of second.of second.place second.mismatch))) }
 {
     let own = where_wanted(names, &Some(BOOL), &condition);
     let last = where_wanted(names, &first.of, &second);
@@ -119,10 +123,12 @@ pub(crate) fn distinguished(
     rest: FoundCases,
     place: Position,
 ) -> Result<Found, NoMemory>
-    ensures tree { IfOk result (λ f. expr_of f.tree ≡ kept.With (expr_of subject.tree) (kept.Case (pattern_of first.pattern.tree) (expr_of first.body.tree) (cases_of rest.list))) }
+    ensures tree { IfOk result (λ f. expr_of f.tree ≡ kept.With (expr_of subject.tree)
+        (kept.Case (pattern_of first.pattern.tree) (expr_of first.body.tree) (cases_of rest.list))) }
     ensures of { IfOk result (λ f. f.of ≡ first.body.of) }
     ensures place { IfOk result (λ f. f.place ≡ place) }
-    ensures mismatch { IfOk result (λ f. f.mismatch ≡ or_else subject.mismatch (or_else first.pattern.mismatch (or_else first.body.mismatch rest.mismatch))) }
+    ensures mismatch { IfOk result (λ f. f.mismatch ≡ or_else subject.mismatch
+        (or_else first.pattern.mismatch (or_else first.body.mismatch rest.mismatch))) }
 {
     let FoundCase { pattern, body } = first;
     let inside = earlier(body.mismatch, rest.mismatch);

@@ -177,10 +177,12 @@ pub(crate) fn between(
     left: Found,
     right: Found,
 ) -> Result<Found, NoMemory>
-    ensures tree { IfOk result (λ f. expr_of f.tree ≡ spec.infix_in names.now sign right.of (expr_of left.tree) (expr_of right.tree)) }
+    ensures tree { IfOk result (λ f. expr_of f.tree ≡ spec.infix_in names.now sign right.of (expr_of left.tree)
+        (expr_of right.tree)) }
     ensures of { IfOk result (λ f. f.of ≡ spec.given sign right.of) }
     ensures place { IfOk result (λ f. f.place ≡ left.place) }
-    ensures mismatch { IfOk result (λ f. f.mismatch ≡ spec.at_infix names.now sign left.of right.of left.place right.place left.mismatch right.mismatch) }
+    ensures mismatch { IfOk result (λ f. f.mismatch
+        ≡ spec.at_infix names.now sign left.of right.of left.place right.place left.mismatch right.mismatch) }
 {
     let mismatch = at_infix(names, sign, &left, &right);
     let of = given(sign, &right);

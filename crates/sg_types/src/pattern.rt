@@ -135,7 +135,8 @@ pub fn pattern(
     scope: &mut Scope,
 ) -> Result<Checked, NoMemory>
     ensures checked { IfOk result (IsChecked names.now (pattern_of pattern.now) wanted.now) }
-    ensures scope { OnOk result (scope.new ≡ scope.old ++ spec.variables_of names.now (pattern_of pattern.now) wanted.now) }
+    ensures scope { OnOk result (scope.new ≡ scope.old
+        ++ spec.variables_of names.now (pattern_of pattern.now) wanted.now) }
 {
     match pattern {
         Pattern::Number(negative, size, place) => {
@@ -164,7 +165,8 @@ fn operator(
     scope: &mut Scope,
 ) -> Result<Checked, NoMemory>
     ensures checked { IfOk result (IsChecked names.now (plain.Applied name.now (patterns_of parts.now)) wanted.now) }
-    ensures scope { OnOk result (scope.new ≡ scope.old ++ spec.variables_of names.now (plain.Applied name.now (patterns_of parts.now)) wanted.now) }
+    ensures scope { OnOk result (scope.new ≡ scope.old
+        ++ spec.variables_of names.now (plain.Applied name.now (patterns_of parts.now)) wanted.now) }
 {
     let op = names.op_named(&name.text);
     let fits = is_operator_of(names, &op, wanted);
@@ -188,7 +190,8 @@ fn all(
     scope: &mut Scope,
 ) -> Result<CheckedList, NoMemory>
     ensures checked { IfOk result (AreChecked names.now place (patterns_of patterns.now) types.now) }
-    ensures scope { OnOk result (scope.new ≡ scope.old ++ spec.variables_of_all names.now (patterns_of patterns.now) types.now) }
+    ensures scope { OnOk result (scope.new ≡ scope.old
+        ++ spec.variables_of_all names.now (patterns_of patterns.now) types.now) }
 {
     match (patterns, types.split_first()) {
         (Patterns::End, None) => Ok(CheckedList {

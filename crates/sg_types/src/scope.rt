@@ -16,8 +16,8 @@ pub struct Variable {
     pub of: Option<PhylumId>,
 }
 
-/// The variables that are visible, which contracts see as a list from the outermost on, beside an ordered map of their first
-/// places: an author may write many.
+/// The variables that are visible, which contracts see as a list from the outermost on, beside an ordered map of
+/// their first places: an author may write many.
 #[derive(Drop)]
 pub struct Scope {
     alloc: Global,

@@ -1,4 +1,5 @@
--- The arguments of an equation: the different occurrences that its expression names, in the order of their first mention.
+-- The arguments of an equation: the different occurrences that its expression names, in the order of their first
+-- mention.
 use Rattle.std.specs.Prelude.{ℕ, if◌then◌else◌, List, [], ◌∷◌, ◌++◌, Option, Some, None, option_map, is_some}
 use Rattle.std.specs.List.{position}
 use Rattle.sg_kinds.specs.Values.{Bytes}

@@ -75,7 +75,8 @@ abbrev pub transform_typed : Table → Name → Pattern → Expr → TypedExpr
 transform_typed t n q e = typed t OfNothing (pattern.variables_of t q (phylum_named t n.text)) [] e
 
 abbrev pub transform_mismatch : Table → Name → Pattern → Expr → Option Position
-transform_mismatch t n q e = or_else (pattern.mismatch_in t q (phylum_named t n.text)) (mismatch_at t OfNothing (pattern.variables_of t q (phylum_named t n.text)) (phylum_named t n.text) e)
+transform_mismatch t n q e = or_else (pattern.mismatch_in t q (phylum_named t n.text))
+    (mismatch_at t OfNothing (pattern.variables_of t q (phylum_named t n.text)) (phylum_named t n.text) e)
 
 -- the expressions and the pattern of a declaration
 abbrev pub exprs_at : Table → Decl → List TypedExpr

@@ -27,7 +27,8 @@ IsUsable t = (n : Bytes) (p : ℕ) → usable_named t n ≡ Some p → is_usable
 
 -- each list phylum has its binary operator, over an element and the list
 abbrev pub HasLists : Table → Type 0
-HasLists t = (l : ℕ) (x : ℕ × ℕ) → list_at t l ≡ Some x → (phylum_of t.ops x.0 ≡ Some l) × (args_of t.ops x.0 ≡ x.1 ∷ l ∷ [])
+HasLists t = (l : ℕ) (x : ℕ × ℕ) → list_at t l ≡ Some x
+    → (phylum_of t.ops x.0 ≡ Some l) × (args_of t.ops x.0 ≡ x.1 ∷ l ∷ [])
 
 -- the types of the bindings before the variables: as many as there are, each the type of what names it
 pub record AreOutside (t : Table) (w : Owner) (outer : List ℕ) : Type 0 where

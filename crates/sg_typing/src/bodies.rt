@@ -31,8 +31,8 @@ use sg_types::scope::{Scope, Variable};
 use sg_types::types::{earlier, op_or_none, phylum_or_none};
 use std::alloc::Global;
 
-/// An expression of the record, its type, and of an equation its arguments: the different occurrences that it names, in the
-/// order of their first mention.
+/// An expression of the record, its type, and of an equation its arguments: the different occurrences that it names,
+/// in the order of their first mention.
 #[derive(Drop)]
 pub struct TypedExpr {
     pub expr: Expr,
@@ -74,7 +74,11 @@ pub fn expr_count(decl: &Decl) -> usize
 }
 
 fn walked(names: &Names, found: Found, wanted: &Option<PhylumId>, args: Vec<Occurrence>) -> Checked
-    ensures typed { result.typed ≡ record { expr = view.expr_of found.tree; of = unwrap_or found.of 0; args = args.items } }
+    ensures typed { result.typed ≡ record {
+      expr = view.expr_of found.tree;
+      of = unwrap_or found.of 0;
+      args = args.items;
+    } }
     ensures mismatch { result.mismatch ≡ where_wanted names.now wanted.now found.of found.place found.mismatch }
 {
     let mismatch = where_wanted(names, wanted, &found);
@@ -152,8 +156,10 @@ fn equations(
     equations: &[Equation],
     exprs: &mut Vec<TypedExpr>,
 ) -> Result<Option<Position>, NoMemory>
-    ensures mismatch { IfOk result (λ m. m ≡ first (spec.equation_mismatch names.now op) (map equation_of equations.now)) }
-    ensures exprs { result ≡ Ok None → exprs.new.items ≡ exprs.old.items ++ map (spec.equation_typed names.now op) (map equation_of equations.now) }
+    ensures mismatch { IfOk result (λ m. m ≡ first (spec.equation_mismatch names.now op)
+        (map equation_of equations.now)) }
+    ensures exprs { result ≡ Ok None → exprs.new.items
+        ≡ exprs.old.items ++ map (spec.equation_typed names.now op) (map equation_of equations.now) }
 {
     for each in equations {
         let walked = equation(alloc, names, op, each)?;
@@ -196,7 +202,8 @@ fn rights(
     exprs: &mut Vec<TypedExpr>,
 ) -> Result<Option<Position>, NoMemory>
     ensures mismatch { IfOk result (λ m. m ≡ first (spec.right_mismatch names.now left.now) (map right_of rights.now)) }
-    ensures exprs { result ≡ Ok None → exprs.new.items ≡ exprs.old.items ++ map (spec.right_typed names.now left.now) (map right_of rights.now) }
+    ensures exprs { result ≡ Ok None → exprs.new.items
+        ≡ exprs.old.items ++ map (spec.right_typed names.now left.now) (map right_of rights.now) }
 {
     for each in rights {
         let walked = right(alloc, names, left, each)?;
@@ -229,7 +236,8 @@ fn function(
     body: &Written,
 ) -> Result<Checked, NoMemory>
     ensures typed { IfOk result (λ x. x.typed ≡ spec.function_typed names.now params.now (expr_of body.now)) }
-    ensures mismatch { IfOk result (λ x. x.mismatch ≡ spec.function_mismatch names.now of.now params.now (expr_of body.now)) }
+    ensures mismatch { IfOk result (λ x. x.mismatch ≡ spec.function_mismatch names.now of.now params.now
+        (expr_of body.now)) }
 {
     let wanted = names.phylum_named(&of.text);
     let mut scope = parameters(alloc, names, params)?;
@@ -250,8 +258,10 @@ fn transform(
     body: &Written,
 ) -> Result<Transformed, NoMemory>
     ensures pattern { IfOk result (λ x. x.pattern ≡ patterns.recorded names.now (pattern_of matched.now)) }
-    ensures typed { IfOk result (λ x. x.body.typed ≡ spec.transform_typed names.now phylum.now (pattern_of matched.now) (expr_of body.now)) }
-    ensures mismatch { IfOk result (λ x. x.body.mismatch ≡ spec.transform_mismatch names.now phylum.now (pattern_of matched.now) (expr_of body.now)) }
+    ensures typed { IfOk result (λ x. x.body.typed ≡ spec.transform_typed names.now phylum.now
+        (pattern_of matched.now) (expr_of body.now)) }
+    ensures mismatch { IfOk result (λ x. x.body.mismatch
+        ≡ spec.transform_mismatch names.now phylum.now (pattern_of matched.now) (expr_of body.now)) }
 {
     let wanted = names.phylum_named(&phylum.text);
     let mut scope = Scope::new(alloc);
@@ -278,8 +288,10 @@ fn body(
     bodies: &mut Bodies,
 ) -> Result<Option<Position>, NoMemory>
     ensures mismatch { IfOk result (λ m. m ≡ spec.mismatch_at_decl names.now (tree_of decl.now)) }
-    ensures exprs { result ≡ Ok None → bodies.new.exprs.items ≡ bodies.old.exprs.items ++ spec.exprs_at names.now (tree_of decl.now) }
-    ensures patterns { result ≡ Ok None → bodies.new.patterns.items ≡ bodies.old.patterns.items ++ spec.patterns_at names.now (tree_of decl.now) }
+    ensures exprs { result ≡ Ok None → bodies.new.exprs.items
+        ≡ bodies.old.exprs.items ++ spec.exprs_at names.now (tree_of decl.now) }
+    ensures patterns { result ≡ Ok None → bodies.new.patterns.items
+        ≡ bodies.old.patterns.items ++ spec.patterns_at names.now (tree_of decl.now) }
 {
     match decl {
         Decl::Equations(phylum, op, _, list) => {

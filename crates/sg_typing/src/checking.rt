@@ -12,8 +12,8 @@ use sg_kinds::row::Row;
 use sg_names::names::Names;
 use std::alloc::Global;
 
-/// The expressions of equations, functions, transformations and input productions, and the patterns of transformations, each
-/// in the order of the text.
+/// The expressions of equations, functions, transformations and input productions, and the patterns of
+/// transformations, each in the order of the text.
 #[derive(Drop)]
 pub struct Typed {
     pub exprs: Row<TypedExpr>,

@@ -11,7 +11,11 @@ use Rattle.sg_names.specs.Arity.{arity_at}
 
 -- a fault more of one row, and none of the others
 abbrev pub and_faults : Found → Option SpecFault → Option SpecFault → Option SpecFault → Found
-and_faults f unknown twice arity = record { unknown = or_else f.unknown unknown; twice = or_else f.twice twice; arity = or_else f.arity arity }
+and_faults f unknown twice arity = record {
+  unknown = or_else f.unknown unknown;
+  twice = or_else f.twice twice;
+  arity = or_else f.arity arity;
+}
 
 abbrev pub and_unknown : Found → Option SpecFault → Found
 and_unknown f o = and_faults f o None None

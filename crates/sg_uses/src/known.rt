@@ -17,8 +17,8 @@ use sg_names::names::Names;
 use sg_names::occurrences::symbol;
 use std::alloc::Global;
 
-/// Where an expression stands: in an equation of an operator, in an input production with its left side and its symbols,
-/// or where no reference may stand.
+/// Where an expression stands: in an equation of an operator, in an input production with its left side and its
+/// symbols, or where no reference may stand.
 #[derive(Clone, Copy)]
 pub(crate) enum Site<'a> {
     Operator(OpId),
@@ -86,7 +86,8 @@ impl Context<'_> {
         phylum: &Name,
         name: &Name,
     ) -> Result<(), NoMemory>
-        ensures { OnOk result (found.new ≡ noted.noted_at self.now.names.now found.old (uses.UsesOperator phylum.now name.now)) }
+        ensures { OnOk result (found.new ≡ noted.noted_at self.now.names.now found.old
+            (uses.UsesOperator phylum.now name.now)) }
     {
         if self.names.usable_named(&phylum.text).is_none() {
             return found.note_unknown(self.alloc, false, phylum);
@@ -103,7 +104,8 @@ impl Context<'_> {
     }
 
     pub fn result(&self, found: &mut Found, name: &Name, attr: &Name) -> Result<(), NoMemory>
-        ensures { OnOk result (found.new ≡ noted.noted_at self.now.names.now found.old (uses.UsesResult name.now attr.now)) }
+        ensures { OnOk result (found.new ≡ noted.noted_at self.now.names.now found.old
+            (uses.UsesResult name.now attr.now)) }
     {
         if !is_nonterminal(self.names, &name.text) {
             return found.note_unknown(self.alloc, false, name);
@@ -137,7 +139,8 @@ impl Context<'_> {
     }
 
     pub fn reference(&self, found: &mut Found, reference: &Reference) -> Result<(), NoMemory>
-        ensures { OnOk result (found.new ≡ noted.noted_at self.now.names.now found.old (uses.Refers (site_of self.now.site) reference.now)) }
+        ensures { OnOk result (found.new ≡ noted.noted_at self.now.names.now found.old
+            (uses.Refers (site_of self.now.site) reference.now)) }
     {
         if self.is_there(&reference.of) {
             let known = self.is_known(reference);
@@ -150,14 +153,16 @@ impl Context<'_> {
     }
 
     pub fn variable(&self, scope: &Scope, found: &mut Found, name: &Name) -> Result<(), NoMemory>
-        ensures { OnOk result (found.new ≡ noted.noted_at self.now.names.now found.old (uses.UsesVariable scope.now name.now)) }
+        ensures { OnOk result (found.new ≡ noted.noted_at self.now.names.now found.old
+            (uses.UsesVariable scope.now name.now)) }
     {
         let known = scope.has(name.text.as_slice());
         found.note_unknown(self.alloc, known, name)
     }
 
     pub fn binding(&self, scope: &Scope, found: &mut Found, name: &Name) -> Result<(), NoMemory>
-        ensures { OnOk result (found.new ≡ noted.noted_at self.now.names.now found.old (uses.Binds scope.now name.now)) }
+        ensures { OnOk result (found.new ≡ noted.noted_at self.now.names.now found.old
+            (uses.Binds scope.now name.now)) }
     {
         let visible = scope.has(name.text.as_slice());
         found.note_twice(self.alloc, visible, name)

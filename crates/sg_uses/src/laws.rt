@@ -20,7 +20,10 @@ pub fn uses_follow_the_text()
 /// So the first fault of each of the three rows stands before all others of its row in the text.
 #[tactic(auto, using(crate::proofs::FirstInText::unknown_first, crate::proofs::FirstInText::twice_first, crate::proofs::FirstInText::arity_first))]
 pub fn first_is_first_in_the_text()
-    ensures unknown { (bytes : List ℕ) (ts : List Token) (ds : List Decl) → EachSpells (declarations bytes ts) ds → (t : Table) (p : Position) → fault_place (unknown_name t ds) ≡ Some p → IsFirst (unknown_at t) (uses t ds) p }
-    ensures twice { (bytes : List ℕ) (ts : List Token) (ds : List Decl) → EachSpells (declarations bytes ts) ds → (t : Table) (p : Position) → fault_place (twice_bound t ds) ≡ Some p → IsFirst twice_at (uses t ds) p }
-    ensures arity { (bytes : List ℕ) (ts : List Token) (ds : List Decl) → EachSpells (declarations bytes ts) ds → (t : Table) (p : Position) → fault_place (arity t ds) ≡ Some p → IsFirst (arity_at t) (uses t ds) p }
+    ensures unknown { (bytes : List ℕ) (ts : List Token) (ds : List Decl) → EachSpells (declarations bytes ts) ds
+        → (t : Table) (p : Position) → fault_place (unknown_name t ds) ≡ Some p → IsFirst (unknown_at t) (uses t ds) p }
+    ensures twice { (bytes : List ℕ) (ts : List Token) (ds : List Decl) → EachSpells (declarations bytes ts) ds
+        → (t : Table) (p : Position) → fault_place (twice_bound t ds) ≡ Some p → IsFirst twice_at (uses t ds) p }
+    ensures arity { (bytes : List ℕ) (ts : List Token) (ds : List Decl) → EachSpells (declarations bytes ts) ds
+        → (t : Table) (p : Position) → fault_place (arity t ds) ≡ Some p → IsFirst (arity_at t) (uses t ds) p }
 {}

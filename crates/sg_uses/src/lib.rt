@@ -1,5 +1,5 @@
-//! The first unknown name, the first variable that is bound twice and the first wrong number of parts, by one walk along
-//! the uses of names.
+//! The first unknown name, the first variable that is bound twice and the first wrong number of parts, by one walk
+//! along the uses of names.
 #![tactic(auto)]
 
 pub mod found;

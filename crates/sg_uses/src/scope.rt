@@ -7,8 +7,8 @@ use std::alloc::Global;
 use std::collections::BTreeSet;
 use std::marker::Model;
 
-/// The names that are visible, in the order in which they were bound, beside an ordered set of them: an author may write
-/// many. Contracts see their list.
+/// The names that are visible, in the order in which they were bound, beside an ordered set of them: an author may
+/// write many. Contracts see their list.
 #[derive(Drop)]
 pub(crate) struct Scope {
     names: Vec<Vec<u8>>,

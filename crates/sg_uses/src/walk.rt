@@ -54,7 +54,8 @@ pub(crate) fn pattern(
     pattern: &Pattern,
 ) -> Result<(), NoMemory>
     ensures scope { OnOk result (scope.new ≡ uses.pattern_scope scope.old (pattern_of pattern.now)) }
-    ensures found { OnOk result (found.new ≡ noted context.now.names.now found.old (uses.pattern_uses scope.old (pattern_of pattern.now))) }
+    ensures found { OnOk result (found.new ≡ noted context.now.names.now found.old
+        (uses.pattern_uses scope.old (pattern_of pattern.now))) }
 {
     match pattern {
         Pattern::Variable(name) => {
@@ -80,7 +81,8 @@ fn patterns(
     patterns: &Patterns,
 ) -> Result<(), NoMemory>
     ensures scope { OnOk result (scope.new ≡ uses.patterns_scope scope.old (patterns_of patterns.now)) }
-    ensures found { OnOk result (found.new ≡ noted context.now.names.now found.old (uses.patterns_uses scope.old (patterns_of patterns.now))) }
+    ensures found { OnOk result (found.new ≡ noted context.now.names.now found.old
+        (uses.patterns_uses scope.old (patterns_of patterns.now))) }
 {
     let mut left = patterns;
     while let Patterns::More(part, rest) = left {
@@ -100,7 +102,8 @@ pub(crate) fn expr(
     expr: &Expr,
 ) -> Result<(), NoMemory>
     ensures scope { OnOk result (scope.new ≡ scope.old) }
-    ensures found { OnOk result (found.new ≡ noted context.now.names.now found.old (uses.expr_uses (site_of context.now.site) scope.old (expr_of expr.now))) }
+    ensures found { OnOk result (found.new ≡ noted context.now.names.now found.old
+        (uses.expr_uses (site_of context.now.site) scope.old (expr_of expr.now))) }
 {
     match expr {
         Expr::Number(_, _) | Expr::Text(_) | Expr::Truth(_, _) => Ok(()),
@@ -150,7 +153,8 @@ fn exprs(
     exprs: &Exprs,
 ) -> Result<(), NoMemory>
     ensures scope { OnOk result (scope.new ≡ scope.old) }
-    ensures found { OnOk result (found.new ≡ noted context.now.names.now found.old (uses.exprs_uses (site_of context.now.site) scope.old (exprs_of exprs.now))) }
+    ensures found { OnOk result (found.new ≡ noted context.now.names.now found.old
+        (uses.exprs_uses (site_of context.now.site) scope.old (exprs_of exprs.now))) }
 {
     let mut left = exprs;
     while let Exprs::More(part, rest) = left {
@@ -171,7 +175,8 @@ pub(crate) fn case(
     body: &Expr,
 ) -> Result<(), NoMemory>
     ensures scope { OnOk result (scope.new ≡ scope.old) }
-    ensures found { OnOk result (found.new ≡ noted context.now.names.now found.old (uses.case_uses (site_of context.now.site) scope.old (pattern_of pattern.now) (expr_of body.now))) }
+    ensures found { OnOk result (found.new ≡ noted context.now.names.now found.old
+        (uses.case_uses (site_of context.now.site) scope.old (pattern_of pattern.now) (expr_of body.now))) }
 {
     let visible = scope.len();
     self::pattern(context, scope, found, pattern)?;
@@ -190,7 +195,8 @@ fn cases(
     cases: &Cases,
 ) -> Result<(), NoMemory>
     ensures scope { OnOk result (scope.new ≡ scope.old) }
-    ensures found { OnOk result (found.new ≡ noted context.now.names.now found.old (uses.cases_uses (site_of context.now.site) scope.old (cases_of cases.now))) }
+    ensures found { OnOk result (found.new ≡ noted context.now.names.now found.old
+        (uses.cases_uses (site_of context.now.site) scope.old (cases_of cases.now))) }
 {
     let mut left = cases;
     loop {

@@ -36,7 +36,8 @@ fn phyla(context: &Context, found: &mut Found, names: &[Name]) -> Result<(), NoM
 
 #[tactic(auto, using(crate::proofs::NotedLaws::flat_more, crate::proofs::NotedLaws::flat_all))]
 fn alts(context: &Context, found: &mut Found, alts: &[Alt]) -> Result<(), NoMemory>
-    ensures { OnOk result (found.new ≡ noted context.now.names.now found.old (flat_map (λ (a : Alt). map uses.UsesPhylum a.args) alts.now)) }
+    ensures { OnOk result (found.new ≡ noted context.now.names.now found.old
+        (flat_map (λ (a : Alt). map uses.UsesPhylum a.args) alts.now)) }
 {
     for alt in alts {
         phyla(context, found, alt.args.as_slice())?;
@@ -46,7 +47,8 @@ fn alts(context: &Context, found: &mut Found, alts: &[Alt]) -> Result<(), NoMemo
 
 #[tactic(auto, using(crate::proofs::NotedLaws::map_more, crate::proofs::NotedLaws::map_all))]
 fn attributes(context: &Context, found: &mut Found, attrs: &[AttrDecl]) -> Result<(), NoMemory>
-    ensures { OnOk result (found.new ≡ noted context.now.names.now found.old (map (λ (a : AttrDecl). uses.UsesPhylum a.of) attrs.now)) }
+    ensures { OnOk result (found.new ≡ noted context.now.names.now found.old
+        (map (λ (a : AttrDecl). uses.UsesPhylum a.of) attrs.now)) }
 {
     for attr in attrs {
         context.phylum(found, &attr.of)?;
@@ -56,7 +58,8 @@ fn attributes(context: &Context, found: &mut Found, attrs: &[AttrDecl]) -> Resul
 
 #[tactic(auto, using(crate::proofs::NotedLaws::map_more, crate::proofs::NotedLaws::map_all))]
 fn locals(context: &Context, found: &mut Found, locals: &[Typed]) -> Result<(), NoMemory>
-    ensures { OnOk result (found.new ≡ noted context.now.names.now found.old (map (λ (l : Typed). uses.UsesPhylum l.of) locals.now)) }
+    ensures { OnOk result (found.new ≡ noted context.now.names.now found.old
+        (map (λ (l : Typed). uses.UsesPhylum l.of) locals.now)) }
 {
     for local in locals {
         context.phylum(found, &local.of)?;
@@ -83,7 +86,8 @@ fn target(
     found: &mut Found,
     target: &Target,
 ) -> Result<(), NoMemory>
-    ensures { OnOk result (found.new ≡ noted context.now.names.now found.old (uses.target_uses (site_of context.now.site) scope.now target.now)) }
+    ensures { OnOk result (found.new ≡ noted context.now.names.now found.old
+        (uses.target_uses (site_of context.now.site) scope.now target.now)) }
 {
     match target {
         Target::Attribute(reference) => context.reference(found, reference),
@@ -99,7 +103,8 @@ fn equation(
     equation: &Equation,
 ) -> Result<(), NoMemory>
     ensures scope { OnOk result (scope.new ≡ scope.old) }
-    ensures found { OnOk result (found.new ≡ noted context.now.names.now found.old (uses.equation_uses (site_of context.now.site) scope.old (equation_of equation.now))) }
+    ensures found { OnOk result (found.new ≡ noted context.now.names.now found.old
+        (uses.equation_uses (site_of context.now.site) scope.old (equation_of equation.now))) }
 {
     target(context, scope, found, &equation.target)?;
     expr(context, scope, found, &equation.expr)
@@ -112,7 +117,8 @@ fn equations(
     found: &mut Found,
     equations: &[Equation],
 ) -> Result<(), NoMemory>
-    ensures { OnOk result (found.new ≡ noted context.now.names.now found.old (flat_map (uses.equation_uses (site_of context.now.site) scope.old) (map equation_of equations.now))) }
+    ensures { OnOk result (found.new ≡ noted context.now.names.now found.old
+        (flat_map (uses.equation_uses (site_of context.now.site) scope.old) (map equation_of equations.now))) }
 {
     for one in equations {
         equation(context, scope, found, one)?;
@@ -121,7 +127,8 @@ fn equations(
 }
 
 fn item(context: &Context, scope: &Scope, found: &mut Found, item: &Item) -> Result<(), NoMemory>
-    ensures { OnOk result (found.new ≡ noted context.now.names.now found.old (uses.item_uses (site_of context.now.site) scope.now item.now)) }
+    ensures { OnOk result (found.new ≡ noted context.now.names.now found.old
+        (uses.item_uses (site_of context.now.site) scope.now item.now)) }
 {
     match item {
         Item::Shows(shown) => target(context, scope, found, shown),
@@ -136,7 +143,8 @@ fn scheme(
     found: &mut Found,
     scheme: &SchemeDecl,
 ) -> Result<(), NoMemory>
-    ensures { OnOk result (found.new ≡ noted context.now.names.now found.old (uses.scheme_uses (site_of context.now.site) scope.now scheme.now)) }
+    ensures { OnOk result (found.new ≡ noted context.now.names.now found.old
+        (uses.scheme_uses (site_of context.now.site) scope.now scheme.now)) }
 {
     let items = scheme.items.as_slice();
     for one in items {
@@ -152,7 +160,8 @@ fn schemes(
     found: &mut Found,
     schemes: &[SchemeDecl],
 ) -> Result<(), NoMemory>
-    ensures { OnOk result (found.new ≡ noted context.now.names.now found.old (flat_map (uses.scheme_uses (site_of context.now.site) scope.now) schemes.now)) }
+    ensures { OnOk result (found.new ≡ noted context.now.names.now found.old
+        (flat_map (uses.scheme_uses (site_of context.now.site) scope.now) schemes.now)) }
 {
     for one in schemes {
         scheme(context, scope, found, one)?;
@@ -168,7 +177,8 @@ fn parameters(
     params: &[Typed],
 ) -> Result<(), NoMemory>
     ensures scope { OnOk result (scope.new ≡ uses.params_scope scope.old params.now) }
-    ensures found { OnOk result (found.new ≡ noted context.now.names.now found.old (uses.params_uses scope.old params.now)) }
+    ensures found { OnOk result (found.new ≡ noted context.now.names.now found.old
+        (uses.params_uses scope.old params.now)) }
 {
     for param in params {
         context.phylum(found, &param.of)?;
@@ -222,7 +232,8 @@ fn rights(
     left: &Name,
     rights: &[Right],
 ) -> Result<(), NoMemory>
-    ensures { OnOk result (found.new ≡ noted names.now found.old (flat_map (uses.right_uses left.now.text) (map right_of rights.now))) }
+    ensures { OnOk result (found.new ≡ noted names.now found.old
+        (flat_map (uses.right_uses left.now.text) (map right_of rights.now))) }
 {
     for one in rights {
         right(alloc, names, found, left, one)?;
@@ -237,7 +248,8 @@ fn within_equations(
     op: Option<OpId>,
     all: &[Equation],
 ) -> Result<(), NoMemory>
-    ensures { OnOk result (found.new ≡ noted names.now found.old (uses.within (uses.equations_uses names.now (map equation_of all.now)) op)) }
+    ensures { OnOk result (found.new ≡ noted names.now found.old
+        (uses.within (uses.equations_uses names.now (map equation_of all.now)) op)) }
 {
     let Some(op) = op else {
         return Ok(());
@@ -254,7 +266,8 @@ fn within_schemes(
     op: Option<OpId>,
     all: &[SchemeDecl],
 ) -> Result<(), NoMemory>
-    ensures { OnOk result (found.new ≡ noted names.now found.old (uses.within (uses.schemes_uses names.now all.now) op)) }
+    ensures { OnOk result (found.new ≡ noted names.now found.old
+        (uses.within (uses.schemes_uses names.now all.now) op)) }
 {
     let Some(op) = op else {
         return Ok(());
@@ -274,7 +287,8 @@ fn in_equations(
     own: &[Typed],
     all: &[Equation],
 ) -> Result<(), NoMemory>
-    ensures { OnOk result (found.new ≡ noted context.now.names.now found.old (uses.in_equations context.now.names.now phylum.now name.now own.now (map equation_of all.now))) }
+    ensures { OnOk result (found.new ≡ noted context.now.names.now found.old
+        (uses.in_equations context.now.names.now phylum.now name.now own.now (map equation_of all.now))) }
 {
     context.operator_use(found, phylum, name)?;
     locals(context, found, own)?;
@@ -290,7 +304,8 @@ fn in_schemes(
     name: &Name,
     all: &[SchemeDecl],
 ) -> Result<(), NoMemory>
-    ensures { OnOk result (found.new ≡ noted context.now.names.now found.old (uses.in_schemes context.now.names.now phylum.now name.now all.now)) }
+    ensures { OnOk result (found.new ≡ noted context.now.names.now found.old
+        (uses.in_schemes context.now.names.now phylum.now name.now all.now)) }
 {
     context.operator_use(found, phylum, name)?;
     let op = context.names.operator_at(phylum, name);
@@ -307,7 +322,8 @@ fn in_function(
     body: &Expr,
 ) -> Result<(), NoMemory>
     requires { site_of context.now.site ≡ uses.Elsewhere }
-    ensures { OnOk result (found.new ≡ noted context.now.names.now found.old (uses.in_function of.now params.now (expr_of body.now))) }
+    ensures { OnOk result (found.new ≡ noted context.now.names.now found.old
+        (uses.in_function of.now params.now (expr_of body.now))) }
 {
     context.phylum(found, of)?;
     let mut scope = Scope::new(context.alloc);
@@ -324,7 +340,8 @@ fn in_transform(
     body: &Expr,
 ) -> Result<(), NoMemory>
     requires { site_of context.now.site ≡ uses.Elsewhere }
-    ensures { OnOk result (found.new ≡ noted context.now.names.now found.old (uses.in_transform of.now (pattern_of pattern.now) (expr_of body.now))) }
+    ensures { OnOk result (found.new ≡ noted context.now.names.now found.old
+        (uses.in_transform of.now (pattern_of pattern.now) (expr_of body.now))) }
 {
     context.phylum(found, of)?;
     case(
@@ -344,7 +361,8 @@ fn in_entry(
     nonterminal: &Name,
     attr: &Name,
 ) -> Result<(), NoMemory>
-    ensures { OnOk result (found.new ≡ noted context.now.names.now found.old (uses.in_entry phylum.now nonterminal.now attr.now)) }
+    ensures { OnOk result (found.new ≡ noted context.now.names.now found.old
+        (uses.in_entry phylum.now nonterminal.now attr.now)) }
 {
     context.phylum(found, phylum)?;
     context.result(found, nonterminal, attr)

@@ -32,7 +32,8 @@ pub record IsPassed (rules : Rules) (plans : Plans) (t : Term) (u : Place) (p : 
   pub visit : slice_index (row_at plans.visits phylum) a.slot ≤ p
 
 -- and of visit p alone
-pub record IsPassedAt (rules : Rules) (plans : Plans) (t : Term) (u : Place) (p : ℕ) (a : Reference Place) : Type 0 where
+pub record IsPassedAt (rules : Rules) (plans : Plans) (t : Term) (u : Place) (p : ℕ)
+    (a : Reference Place) : Type 0 where
   pub node : a.node ≡ u
   pub phylum : ℕ
   pub left : phylum_at rules.ops (label_of (sub t u)) ≡ Some phylum

@@ -31,7 +31,8 @@ module _ (Site Ref Value : Type 0) (bearer : Site → Ref) (args : Site → List
     pub marked_dirty : (i : Site) → marked i → Dirty i
     pub done_dirty : (i : Site) → done i → Dirty i
     pub done_known : (i : Site) → done i → (a : Ref) → Contains (args i) a → Known done given a
-    pub announced : (i : Site) (a : Ref) → Outside i → (done i → ⊥) → Contains (args i) a → Known done given a → IsChanged now was a → marked i
+    pub announced : (i : Site) (a : Ref) → Outside i → (done i → ⊥) → Contains (args i) a → Known done given a
+        → IsChanged now was a → marked i
 
   -- after one more equation
   abbrev pub DoneToo : (Site → Type 0) → Site → Site → Type 0
@@ -39,7 +40,8 @@ module _ (Site Ref Value : Type 0) (bearer : Site → Ref) (args : Site → List
 
   -- and the marks then: without it, and with the readers of what it defines where that is changed
   abbrev pub MarkedThen : (Site → Type 0) → Site → Site → Type 0
-  MarkedThen marked it i = (marked i × (i ≢ it)) ⊎ (Outside i × Contains (args i) (bearer it) × IsChanged now was (bearer it))
+  MarkedThen marked it i = (marked i × (i ≢ it)) ⊎ (Outside i × Contains (args i) (bearer it)
+      × IsChanged now was (bearer it))
 
   -- more is given, and the readers of what of it is changed are marked
   abbrev pub GivenToo : (Ref → Type 0) → (Ref → Type 0) → Ref → Type 0

@@ -1,8 +1,8 @@
 //! Runs the cases of tables, and tells each on which the run does something else.
 //!
-//! The file `tables` names the tables, one a line. The blocks of a table stand apart by one empty line. A block that begins
-//! with `//` is a comment; the first one says how the table was made. The other blocks consist of lines of words, with one
-//! blank between two words, of which some are followed by the lines of a text.
+//! The file `tables` names the tables, one a line. The blocks of a table stand apart by one empty line. A block that
+//! begins with `//` is a comment; the first one says how the table was made. The other blocks consist of lines of
+//! words, with one blank between two words, of which some are followed by the lines of a text.
 //!
 //! A block that begins with `text NAME` is a text for the blocks below it. A block that begins with `run` is a case:
 //!
@@ -25,8 +25,8 @@
 //! | `*N BYTES` | the bytes N times |
 //! | `@NAME FROM TO` | the bytes of that text from place FROM to before place TO |
 //!
-//! For each table one line tells how many cases passed and how many did not, and before it stands each difference in full, with
-//! the table and the line of the case.
+//! For each table one line tells how many cases passed and how many did not, and before it stands each difference in
+//! full, with the table and the line of the case.
 #![tactic(auto)]
 
 mod case;
