@@ -9,8 +9,8 @@ use Rattle.sg_kinds.specs.Evaluation.{bound_by, bound_by_all, nothing_if}
 use Rattle.sg_kinds.specs.SameValue.{nat_same}
 use Rattle.sg_pool.specs.Pools.{value_at, StandsFor, tree_over, IsGrown}
 use Rattle.sg_pool.specs.PoolEntries.{entry_value}
-use Rattle.sg_pool.specs.declared.entry.Entry.{Entry}
-use Rattle.sg_pool.specs.declared.entry.Entry.TheVariants as entry
+use Rattle.sg_pool.specs.declared.entry.PoolEntry.{PoolEntry}
+use Rattle.sg_pool.specs.declared.entry.PoolEntry.TheVariants as entry
 use Rattle.sg_pool.proofs.Grown.{grown_longer, stands_at}
 use Rattle.sg_eval.specs.Lives.{value_in, IsKnown, AreKnown, kids_from, values_from, IsMatched}
 use Rattle.sg_eval.specs.declared.live.Live.{Live}
@@ -102,7 +102,7 @@ kid_past f [] n h = nothing_from n
 kid_past f (j ∷ ks) zero h = cc
 kid_past f (j ∷ ks) (suc n) h = kid_past f ks n h
 
-pub kid_is : (pool : List Value) (id n : ℕ) (e : Entry) (op : ℕ) (kids : List ℕ) (o : Option ℕ) → StandsFor pool id (entry_value pool e) → e ≡ entry.Tree op kids → o ≡ slice_get kids n
+pub kid_is : (pool : List Value) (id n : ℕ) (e : PoolEntry) (op : ℕ) (kids : List ℕ) (o : Option ℕ) → StandsFor pool id (entry_value pool e) → e ≡ entry.Tree op kids → o ≡ slice_get kids n
     → MatchOption o (kids_from n (value_at pool id) ≡ NoValue) (λ k. kids_from n (value_at pool id) ≡ AndValue (value_at pool k) (kids_from (suc n) (value_at pool id)))
 kid_is pool id n e op kids o stands is there = by o there
   where

@@ -16,7 +16,7 @@ use sg_kinds::memory::NoMemory;
 use sg_kinds::pattern::{Literal, PatternList, PatternTree};
 use sg_kinds::spec::Spec;
 use sg_kinds::value::{Value, ValueNode};
-use sg_pool::entry::Entry;
+use sg_pool::entry::PoolEntry;
 use sg_pool::pool::Pool;
 use std::alloc::Global;
 
@@ -135,8 +135,8 @@ fn has_number(id: ValueId, x: Live, pool: &Pool) -> bool
 {
     pool.sound();
     match x {
-        Live::Truth(b) => matches!(pool.entry(id), Entry::Bool(a) if *a == b),
-        Live::Number(n) => matches!(pool.entry(id), Entry::Int(a) if *a == n),
+        Live::Truth(b) => matches!(pool.entry(id), PoolEntry::Bool(a) if *a == b),
+        Live::Number(n) => matches!(pool.entry(id), PoolEntry::Int(a) if *a == n),
         Live::Kept(number) => id.number == number,
     }
 }
@@ -159,9 +159,9 @@ fn is_literal_at(literal: &Literal, number: usize, pool: &Pool) -> bool
     ensures { result ≡ same_value (literal_of literal.now) (value_at pool.now number) }
 {
     match (literal, pool.entry(ValueId { number })) {
-        (Literal::Truth(a), Entry::Bool(b)) => *a == *b,
-        (Literal::Number(a), Entry::Int(b)) => *a == *b,
-        (Literal::Text(a), Entry::Text(b)) => a.as_slice() == b.as_slice(),
+        (Literal::Truth(a), PoolEntry::Bool(b)) => *a == *b,
+        (Literal::Number(a), PoolEntry::Int(b)) => *a == *b,
+        (Literal::Text(a), PoolEntry::Text(b)) => a.as_slice() == b.as_slice(),
         _ => false,
     }
 }
@@ -185,13 +185,13 @@ fn is_value_at(v: &Value, id: ValueId, pool: &Pool) -> bool
     ensures { result ≡ same_value v.now (value_at pool.now id) }
 {
     match (&v.node, pool.entry(id)) {
-        (ValueNode::Bool(a), Entry::Bool(b)) => *a == *b,
-        (ValueNode::Int(a), Entry::Int(b)) => *a == *b,
-        (ValueNode::Text(a), Entry::Text(b)) => a.as_slice() == b.as_slice(),
-        (ValueNode::Tree(a, xs), Entry::Tree(b, ys)) => {
+        (ValueNode::Bool(a), PoolEntry::Bool(b)) => *a == *b,
+        (ValueNode::Int(a), PoolEntry::Int(b)) => *a == *b,
+        (ValueNode::Text(a), PoolEntry::Text(b)) => a.as_slice() == b.as_slice(),
+        (ValueNode::Tree(a, xs), PoolEntry::Tree(b, ys)) => {
             *a == *b && are_values_at(xs, ys.as_slice(), pool)
         }
-        (ValueNode::Fault(a), Entry::Fault(b)) => *a == *b,
+        (ValueNode::Fault(a), PoolEntry::Fault(b)) => *a == *b,
         _ => false,
     }
 }
@@ -220,7 +220,7 @@ fn tree_of(op: OpId, x: Live, pool: &Pool) -> Option<ValueId>
     };
     let id = ValueId { number };
     match pool.entry(id) {
-        Entry::Tree(q, _) if *q == op => Some(id),
+        PoolEntry::Tree(q, _) if *q == op => Some(id),
         _ => None,
     }
 }
@@ -235,7 +235,7 @@ fn kid_at(id: ValueId, at: usize, pool: &Pool) -> Option<ValueId>
     ensures place { IfSome result (λ kid. at < 2 ^ 63) }
 {
     match pool.entry(id) {
-        Entry::Tree(_, kids) => number_at(kids.as_slice(), at),
+        PoolEntry::Tree(_, kids) => number_at(kids.as_slice(), at),
         _ => None,
     }
 }

@@ -14,7 +14,7 @@ use sg_kinds::ids::ValueId;
 use sg_kinds::marks::FaultKind;
 use sg_kinds::text::Text;
 use sg_kinds::value::SIZE_LIMIT;
-use sg_pool::entry::Entry;
+use sg_pool::entry::PoolEntry;
 use sg_pool::pool::Pool;
 use std::alloc::Global;
 
@@ -38,7 +38,7 @@ fn text_at(number: usize, pool: &Pool) -> Option<&Text>
         (is_chars (value_at pool.now number) ≡ false) (λ s. value_at pool.now number ≡ Chars s.now) }
 {
     match pool.entry(ValueId { number }) {
-        Entry::Text(text) => Some(text),
+        PoolEntry::Text(text) => Some(text),
         _ => None,
     }
 }

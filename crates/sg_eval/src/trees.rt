@@ -14,7 +14,7 @@ use sg_kinds::memory::NoMemory;
 use sg_kinds::spec::Spec;
 use sg_kinds::term::{Term, TermNode};
 use sg_kinds::value::{DEPTH_LIMIT, Kids, SIZE_LIMIT, Value};
-use sg_pool::entry::Entry;
+use sg_pool::entry::PoolEntry;
 use sg_pool::pool::{Pool, PoolFault};
 use std::alloc::Global;
 
@@ -92,9 +92,9 @@ pub fn read(id: ValueId, pool: &Pool) -> Result<Live, Stop>
         IsReached last result left (limited (Gives (value_at last id) left)) }
 {
     match pool.entry(id) {
-        Entry::Bool(b) => Ok(Live::Truth(*b)),
-        Entry::Int(n) => Ok(Live::Number(*n)),
-        Entry::Fault(kind) => Err(Stop::Fault(*kind)),
+        PoolEntry::Bool(b) => Ok(Live::Truth(*b)),
+        PoolEntry::Int(n) => Ok(Live::Number(*n)),
+        PoolEntry::Fault(kind) => Err(Stop::Fault(*kind)),
         _ => {
             if pool.size(id) <= SIZE_LIMIT as u64 && pool.depth(id) <= DEPTH_LIMIT {
                 Ok(Live::Kept(id.number))

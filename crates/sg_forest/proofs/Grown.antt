@@ -4,13 +4,13 @@ use Rattle.std.specs.List.{slice_get}
 use Rattle.sg_forest.specs.declared.node_id.NodeId.{NodeId}
 use Rattle.sg_forest.specs.Node.{Node}
 use Rattle.sg_forest.specs.Trees.{IsLive, IsRoot, IsChild, Lists, Climbs, IsInside, IsLinked, IsForest}
-use Rattle.sg_forest.specs.Steps.{IsAdded, AreRoots, KeepsKids}
+use Rattle.sg_forest.specs.Steps.{IsRootMade, AreRoots, KeepsKids}
 use Rattle.sg_forest.proofs.Paths.{cases_id, root_is_no_child, one_parent, root_or_child, root_is_live, parent_is_live}
 use Rattle.sg_forest.proofs.Moves.{place_in, HasRoot-root, HasRoot-child, StaysHung, as_root, as_child, as_placed, HasRoot-stays}
 
 module _ {L D : Type 0} (old new : NodeId → Option (Node L D)) (label : L) (part : D) (kids : List NodeId) (id : NodeId)
     (linked : IsLinked old) (roots : (k : ℕ) (kid : NodeId) → slice_get kids k ≡ Some kid → IsRoot old kid)
-    (grown : IsAdded old new label part kids id) where
+    (grown : IsRootMade old new label part kids id) where
   abbrev top : Node L D
   top = record { label = label; part = part; up = None; kids = kids }
 

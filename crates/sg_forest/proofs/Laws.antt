@@ -5,7 +5,7 @@ use Rattle.sg_forest.specs.declared.node_id.NodeId.{NodeId}
 use Rattle.sg_forest.specs.Node.{Node}
 use Rattle.sg_forest.specs.Trees.{IsLive, IsRoot, IsChild, Lists, Climbs, IsInside, IsLinked, IsForest}
 use Rattle.sg_forest.specs.Tree.{Tree, Row, node, Shows, Stands, StandAll, changed_kid, with_part, KeepsTrees, KeepsTreesWithout, KeepsTreesNotOver, KeepsTreesOutside, ChangesTrees, ReplacesTrees, GrowsTree, KeepsWays, KeepsWaysWithin, KeepsWaysOutside}
-use Rattle.sg_forest.specs.Steps.{IsPartSet, IsSwapped, IsAdded, IsDropped, SameSort, KeepsParts, KeepsKids}
+use Rattle.sg_forest.specs.Steps.{IsPartSet, IsSwapped, IsRootMade, IsDropped, SameSort, KeepsParts, KeepsKids}
 use Rattle.sg_forest.proofs.Paths.{root_inside, root_or_child, one_parent, parent_outside, child_has_root, inside_by_parent, inside_append, inside_itself}
 use Rattle.sg_forest.proofs.Standing.{Stands-kept, StandAll-kept, StandAll-set, Stands-apart, StandAll-below, Stands-changed}
 use Rattle.sg_forest.proofs.Swapped as swap
@@ -109,7 +109,7 @@ module _ {L D : Type 0} (old new : NodeId → Option (Node L D)) (a d p : NodeId
 
 module _ {L D : Type 0} (old new : NodeId → Option (Node L D)) (label : L) (part : D) (kids : List NodeId) (id : NodeId)
     (linked : IsLinked old) (roots : (k : ℕ) (kid : NodeId) → slice_get kids k ≡ Some kid → IsRoot old kid)
-    (grown : IsAdded old new label part kids id) where
+    (grown : IsRootMade old new label part kids id) where
   pub GrowsTree-grown : GrowsTree old new label part kids id
   GrowsTree-grown ts all = (
     kids,

@@ -44,7 +44,7 @@ module _ {L D : Type 0} (old new : NodeId → Option (Node L D)) where
     pub others : (n : NodeId) → n ≢ a → n ≢ d → n ≢ p → new n ≡ old n
 
   -- the roots hang under a new root, in this order, and nothing else changed
-  pub record IsAdded (label : L) (part : D) (kids : List NodeId) (id : NodeId) : Type 0 where
+  pub record IsRootMade (label : L) (part : D) (kids : List NodeId) (id : NodeId) : Type 0 where
     pub was_free : old id ≡ None
     pub root : new id ≡ Some (record { label = label; part = part; up = None; kids = kids })
     pub hung : (k : ℕ) (kid : NodeId) (x : Node L D) → slice_get kids k ≡ Some kid → old kid ≡ Some x → new kid ≡ Some (record x { up = Some (id, k) })

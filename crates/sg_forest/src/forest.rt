@@ -1,10 +1,10 @@
 ghost use Rattle.std.specs.Prelude.{◌≡◌, ◌≢◌, ◌<◌, ◌≤◌, ◌+◌, ◌↔◌, ℕ, length, slice_get, IfOk, OnOk, OnErr, IfErr, IfSome, IsOk, IsTrue, Some, None};
 ghost use Rattle.sg_forest.specs.Trees.{node_at, IsLive, IsRoot, IsChild, IsInside, IsForest, room_below};
 ghost use Rattle.sg_forest.specs.Tree.{node, tree_at, Stands, with_part, KeepsTrees, KeepsTreesWithout, KeepsTreesNotOver, KeepsTreesOutside, ChangesTrees, ReplacesTrees, GrowsTree, KeepsWays, KeepsWaysWithin, KeepsWaysTo, MovesWays, KeepsWaysOutside};
-ghost use Rattle.sg_forest.specs.Steps.{SameSort, AreDistinct, AreRoots, KeepsParts, KeepsKids, KeepsShape, IsPartSet, IsSwapped, IsAdded, IsDropped};
+ghost use Rattle.sg_forest.specs.Steps.{SameSort, AreDistinct, AreRoots, KeepsParts, KeepsKids, KeepsShape, IsPartSet, IsSwapped, IsRootMade, IsDropped};
 
 use crate::label::Label;
-use crate::node::Entry;
+use crate::node::Linked;
 use crate::node_id::NodeId;
 use crate::nodes::{add_root, exchange, is_inside, remove_tree, set_part};
 use slab::Slab;
@@ -25,7 +25,7 @@ pub struct Refused<L, D> {
 /// Trees of labelled nodes, in place.
 #[derive(Drop)]
 pub struct Forest<L: Label, D> {
-    nodes: Slab<Entry<L, D>>,
+    nodes: Slab<Linked<L, D>>,
 }
 
 impl<L: Label, D> Model for Forest<L, D> {
@@ -190,7 +190,7 @@ impl<L: Label, D> Forest<L, D> {
         requires count { length kids.items ≡ L.arity_of label }
         requires roots { AreRoots L.sort_of (node_at self.old) (L.kid_sort_of label) kids.items }
         requires distinct { AreDistinct kids.items }
-        ensures grown { IfOk result (IsAdded (node_at self.old) (node_at self.new) label part kids.items) }
+        ensures grown { IfOk result (IsRootMade (node_at self.old) (node_at self.new) label part kids.items) }
         ensures err { OnErr result (self.new.nodes ≡ self.old.nodes) }
         ensures refused { IfErr result (λ r.
             (r.label ≡ label) × (r.part ≡ part) × (r.kids.items ≡ kids.items)) }

@@ -5,14 +5,14 @@ use std::marker::Model;
 
 /// One node: its label, its part, the place where it hangs, and its children.
 #[derive(Drop)]
-pub struct Entry<L, D> {
+pub struct Linked<L, D> {
     label: L,
     part: D,
     up: Option<(NodeId, usize)>,
     kids: Vec<NodeId>,
 }
 
-impl<L, D> Model for Entry<L, D> {
+impl<L, D> Model for Linked<L, D> {
     ghost use Rattle.sg_forest.specs.Node.{Node, node_code};
 
     ghost Value = { Node L D };
@@ -22,11 +22,11 @@ impl<L, D> Model for Entry<L, D> {
     ghost view = { λ e. record { label = e.label; part = e.part; up = e.up; kids = e.kids.items } };
 }
 
-impl<L, D> Entry<L, D> {
+impl<L, D> Linked<L, D> {
     pub fn new(label: L, part: D, kids: Vec<NodeId>) -> Self
         ensures { result ≡ record { label = label; part = part; up = None; kids = kids.items } }
     {
-        Entry {
+        Linked {
             label,
             part,
             up: None,

@@ -1,14 +1,14 @@
 ghost use Rattle.std.specs.Prelude.{◌≡◌, ◌≢◌, ◌<◌, ◌≤◌, ◌-◌, ◌+◌, ◌↔◌, ℕ, length, take, slice_get, slice_set, Some, None, IsTrue};
 ghost use Rattle.slab.specs.Slab.{get, ContainsKey, slab_len, HasRoomFor};
 ghost use Rattle.sg_forest.specs.Trees.{node_in, IsLive, IsRoot, IsChild, Lists, IsInside, IsLinked};
-ghost use Rattle.sg_forest.specs.Steps.{IsSwapped, IsAdded, IsDropped, AreDistinct};
+ghost use Rattle.sg_forest.specs.Steps.{IsSwapped, IsRootMade, IsDropped, AreDistinct};
 
-use crate::node::Entry;
+use crate::node::Linked;
 use crate::node_id::NodeId;
 use slab::Slab;
 
 /// Writes where a node hangs.
-pub fn set_up<L, D>(nodes: &mut Slab<Entry<L, D>>, at: NodeId, up: Option<(NodeId, usize)>)
+pub fn set_up<L, D>(nodes: &mut Slab<Linked<L, D>>, at: NodeId, up: Option<(NodeId, usize)>)
     requires { ContainsKey nodes.old at.key }
     ensures written { (x : _) → get nodes.old at.key ≡ Some x → get nodes.new at.key ≡ Some (record x { up = up }) }
     ensures others { (n : ℕ) → n ≢ at.key → get nodes.new n ≡ get nodes.old n }
@@ -20,7 +20,7 @@ pub fn set_up<L, D>(nodes: &mut Slab<Entry<L, D>>, at: NodeId, up: Option<(NodeI
 }
 
 /// Writes one place of a node's children.
-pub fn set_kid<L, D>(nodes: &mut Slab<Entry<L, D>>, at: NodeId, k: usize, kid: NodeId)
+pub fn set_kid<L, D>(nodes: &mut Slab<Linked<L, D>>, at: NodeId, k: usize, kid: NodeId)
     requires live { ContainsKey nodes.old at.key }
     requires place { (x : _) → get nodes.old at.key ≡ Some x → k < length x.kids }
     ensures written { (x : _) → get nodes.old at.key ≡ Some x
@@ -33,7 +33,7 @@ pub fn set_kid<L, D>(nodes: &mut Slab<Entry<L, D>>, at: NodeId, k: usize, kid: N
 }
 
 /// Writes a part, and hands back the one before.
-pub fn set_part<L, D>(nodes: &mut Slab<Entry<L, D>>, at: NodeId, part: D) -> D
+pub fn set_part<L, D>(nodes: &mut Slab<Linked<L, D>>, at: NodeId, part: D) -> D
     requires live { ContainsKey nodes.old at.key }
     ensures returned { (x : _) → get nodes.old at.key ≡ Some x → result ≡ x.part }
     ensures written { (x : _) → get nodes.old at.key ≡ Some x → get nodes.new at.key ≡ Some (record x { part = part }) }
@@ -45,7 +45,7 @@ pub fn set_part<L, D>(nodes: &mut Slab<Entry<L, D>>, at: NodeId, part: D) -> D
 }
 
 /// Takes the last child off a node's list.
-pub fn pop_kid<L, D>(nodes: &mut Slab<Entry<L, D>>, at: NodeId)
+pub fn pop_kid<L, D>(nodes: &mut Slab<Linked<L, D>>, at: NodeId)
     requires { ContainsKey nodes.old at.key }
     ensures written { (x : _) → get nodes.old at.key ≡ Some x
         → get nodes.new at.key ≡ Some (record x { kids = take (length x.kids - 1) x.kids }) }
@@ -58,7 +58,7 @@ pub fn pop_kid<L, D>(nodes: &mut Slab<Entry<L, D>>, at: NodeId)
 
 /// Removes a node, and says where it hung.
 pub fn remove_node<L: Drop, D: Drop>(
-    nodes: &mut Slab<Entry<L, D>>,
+    nodes: &mut Slab<Linked<L, D>>,
     at: NodeId,
 ) -> Option<(NodeId, usize)>
     requires { ContainsKey nodes.old at.key }
@@ -72,7 +72,7 @@ pub fn remove_node<L: Drop, D: Drop>(
 }
 
 /// Hangs a root in the place of a node, which becomes a root. Where it is one already nothing changes.
-pub fn exchange<L, D>(nodes: &mut Slab<Entry<L, D>>, at: NodeId, detached: NodeId)
+pub fn exchange<L, D>(nodes: &mut Slab<Linked<L, D>>, at: NodeId, detached: NodeId)
     requires linked { IsLinked (node_in nodes.old) }
     requires live { IsLive (node_in nodes.old) at }
     requires root { IsRoot (node_in nodes.old) detached }
@@ -89,7 +89,7 @@ pub fn exchange<L, D>(nodes: &mut Slab<Entry<L, D>>, at: NodeId, detached: NodeI
 }
 
 fn put_in_place<L, D>(
-    nodes: &mut Slab<Entry<L, D>>,
+    nodes: &mut Slab<Linked<L, D>>,
     at: NodeId,
     detached: NodeId,
     parent: NodeId,
@@ -111,7 +111,7 @@ fn put_in_place<L, D>(
 }
 
 /// Hangs each node under a parent, in this order.
-pub fn link_kids<L, D>(nodes: &mut Slab<Entry<L, D>>, parent: NodeId, kids: &[NodeId])
+pub fn link_kids<L, D>(nodes: &mut Slab<Linked<L, D>>, parent: NodeId, kids: &[NodeId])
     requires live { (k : ℕ) (kid : _) → slice_get kids.now k ≡ Some kid
         → IsLive (node_in nodes.old) kid }
     requires distinct { AreDistinct kids.now }
@@ -129,12 +129,17 @@ pub fn link_kids<L, D>(nodes: &mut Slab<Entry<L, D>>, parent: NodeId, kids: &[No
 }
 
 /// Adds a root over roots.
-pub fn add_root<L, D>(nodes: &mut Slab<Entry<L, D>>, label: L, part: D, kids: Vec<NodeId>) -> NodeId
+pub fn add_root<L, D>(
+    nodes: &mut Slab<Linked<L, D>>,
+    label: L,
+    part: D,
+    kids: Vec<NodeId>,
+) -> NodeId
     requires room { HasRoomFor nodes.old 1 }
     requires live { (k : ℕ) (kid : _) → slice_get kids.items k ≡ Some kid
         → IsLive (node_in nodes.old) kid }
     requires distinct { AreDistinct kids.items }
-    ensures grown { IsAdded (node_in nodes.old) (node_in nodes.new) label part kids.items result }
+    ensures grown { IsRootMade (node_in nodes.old) (node_in nodes.new) label part kids.items result }
     ensures capacity { nodes.new.capacity ≡ nodes.old.capacity }
     ensures len { slab_len nodes.new ≡ slab_len nodes.old + 1 }
 {
@@ -142,12 +147,12 @@ pub fn add_root<L, D>(nodes: &mut Slab<Entry<L, D>>, label: L, part: D, kids: Ve
         key: nodes.vacant_key(),
     };
     link_kids(nodes, id, kids.as_slice());
-    nodes.insert_reserved(Entry::new(label, part, kids));
+    nodes.insert_reserved(Linked::new(label, part, kids));
     id
 }
 
 /// Removes a tree: goes down by last children, takes each node out that has none left, and goes up.
-pub fn remove_tree<L: Drop, D: Drop>(nodes: &mut Slab<Entry<L, D>>, root: NodeId)
+pub fn remove_tree<L: Drop, D: Drop>(nodes: &mut Slab<Linked<L, D>>, root: NodeId)
     requires linked { IsLinked (node_in nodes.old) }
     requires root { IsRoot (node_in nodes.old) root }
     ensures dropped { IsDropped (node_in nodes.old) (node_in nodes.new) root }
@@ -171,7 +176,7 @@ pub fn remove_tree<L: Drop, D: Drop>(nodes: &mut Slab<Entry<L, D>>, root: NodeId
 }
 
 /// Whether a node is another or stands below it.
-pub fn is_inside<L, D>(nodes: &Slab<Entry<L, D>>, n: NodeId, top: NodeId) -> bool
+pub fn is_inside<L, D>(nodes: &Slab<Linked<L, D>>, n: NodeId, top: NodeId) -> bool
     requires linked { IsLinked (node_in nodes.now) }
     requires live { IsLive (node_in nodes.now) n }
     ensures inside { IsTrue result ↔ IsInside (node_in nodes.now) n top }

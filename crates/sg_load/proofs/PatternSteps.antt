@@ -17,7 +17,7 @@ use Rattle.sg_ast.specs.View.{tree_of, trees_of}
 use Rattle.sg_ast.specs.Parts.{lexeme_text}
 use Rattle.sg_patterns.specs.Spelling.{IsPattern, deepest}
 use Rattle.sg_load.specs.Patterns.{HasNoForm, IsFormFault, MatchesEmpty, IsEmptyFault, IsLexemeFault, IsOther, ArePatterns}
-use Rattle.sg_load.specs.PatternsSoFar.{IsAdded, first_empty, NoneBefore, IsFirstEmpty, ArePatternsOf}
+use Rattle.sg_load.specs.PatternsSoFar.{IsPatternAdded, first_empty, NoneBefore, IsFirstEmpty, ArePatternsOf}
 
 -- what declares no lexeme phylum has no text and no fault
 no_text : (d : Decl) → IsOther d → lexeme_text d ≡ []
@@ -124,7 +124,7 @@ empty_within ds n place ps so_far = let found : IsFirstEmpty ds place = so_far.f
 matches_there : (nm : Name) (s : Quoted) (p : Lexeme) → IsPattern deepest p s.text → ((q : Lexeme) → IsPattern deepest q s.text → q ≡ p) → MatchesEmpty (LexemeOf nm s) → Matches p []
 matches_there nm s p form only h = let one : h.0 ≡ p = only h.0 h.1 in let P : Lexeme → Type 0 = λ q. Matches q [] in subst P one h.2
 
-pub added : (ds : List Decl) (n : ℕ) (nm : Name) (s : Quoted) (ps qs : List Lexeme) (e : Option ℕ) (b : Bool) → slice_get ds n ≡ Some (LexemeOf nm s) → IsAdded ps qs s b → ArePatternsOf ds n ps e → ArePatternsOf ds (n + 1) qs (first_empty e b n)
+pub added : (ds : List Decl) (n : ℕ) (nm : Name) (s : Quoted) (ps qs : List Lexeme) (e : Option ℕ) (b : Bool) → slice_get ds n ≡ Some (LexemeOf nm s) → IsPatternAdded ps qs s b → ArePatternsOf ds n ps e → ArePatternsOf ds (n + 1) qs (first_empty e b n)
 added ds n nm s ps qs e b there new so_far =
     let P : List Lexeme → Type 0 = λ rs. ArePatternsOf ds (n + 1) rs (first_empty e b n) in
     subst P (sym new.last) (record {

@@ -8,7 +8,7 @@ use Rattle.sg_ast.specs.Declarations.{Decl}
 use Rattle.sg_load.specs.Patterns.{HasNoForm, MatchesEmpty, AreLexemes}
 
 -- the pattern of a text came last
-pub record IsAdded (old new : List Lexeme) (s : Quoted) (empty : Bool) : Type 0 where
+pub record IsPatternAdded (old new : List Lexeme) (s : Quoted) (empty : Bool) : Type 0 where
   pub pattern : Lexeme
   pub last : new ≡ old ++ pattern ∷ []
   pub form : IsPattern deepest pattern s.text

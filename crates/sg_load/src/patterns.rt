@@ -6,7 +6,7 @@ ghost use Rattle.sg_patterns.specs.Spelling.{IsPattern, deepest};
 ghost use Rattle.sg_ast.specs.Declarations.{LexemeOf};
 ghost use Rattle.sg_ast.specs.View.{tree_of, trees_of};
 ghost use Rattle.sg_load.specs.PatternsSoFar as spec;
-ghost use Rattle.sg_load.specs.PatternsSoFar.{IsAdded};
+ghost use Rattle.sg_load.specs.PatternsSoFar.{IsPatternAdded};
 ghost use Rattle.sg_load.specs.Patterns.{HasNoForm, MatchesEmpty, IsFormFault, IsEmptyFault, IsLexemeFault, IsOther, AreLexemes};
 ghost use Rattle.sg_load.specs.Rows.{HasNone};
 
@@ -52,7 +52,7 @@ fn add(
     name: &Name,
     text: &Quoted,
 ) -> Result<bool, SpecFault>
-    ensures added { IfOk result (λ empty. IsAdded patterns.old.items patterns.new.items text.now empty) }
+    ensures added { IfOk result (λ empty. IsPatternAdded patterns.old.items patterns.new.items text.now empty) }
     ensures form { IfErr result (λ f. f ≢ SpecFault.NoMemory → HasNoForm (LexemeOf name.now text.now)) }
     ensures fault { IfErr result (λ f. f ≢ SpecFault.NoMemory → IsFormFault f (LexemeOf name.now text.now)) }
 {

@@ -14,7 +14,7 @@ use sg_kinds::ids::{OpId, PhylumId};
 use sg_kinds::pattern::Literal;
 use sg_kinds::row::item;
 use sg_kinds::spec::Spec;
-use sg_pool::entry::Entry;
+use sg_pool::entry::PoolEntry;
 use sg_terms::Terms;
 
 /// The phyla of an operator's arguments.
@@ -66,7 +66,7 @@ pub fn kid_at(terms: &Terms, n: NodeId, k: usize) -> Option<NodeId>
 }
 
 // the entry of a leaf's value; None at a node of an operator
-fn leaf<'a>(terms: &'a Terms, n: NodeId) -> Option<&'a Entry>
+fn leaf<'a>(terms: &'a Terms, n: NodeId) -> Option<&'a PoolEntry>
     requires { IsLive (nodes terms.now) n }
     ensures { MatchOption result ((op : ℕ) × (value_under terms.now n ≡ Tree op (values_under terms.now n 0)))
         (λ entry. value_under terms.now n ≡ entry_value terms.now.pool entry.now) }
@@ -87,9 +87,9 @@ pub fn is_literal(terms: &Terms, literal: &Literal, n: NodeId) -> bool
         return false;
     };
     match (literal, entry) {
-        (Literal::Truth(a), Entry::Bool(b)) => *a == *b,
-        (Literal::Number(a), Entry::Int(b)) => *a == *b,
-        (Literal::Text(a), Entry::Text(b)) => a.as_slice() == b.as_slice(),
+        (Literal::Truth(a), PoolEntry::Bool(b)) => *a == *b,
+        (Literal::Number(a), PoolEntry::Int(b)) => *a == *b,
+        (Literal::Text(a), PoolEntry::Text(b)) => a.as_slice() == b.as_slice(),
         _ => false,
     }
 }
@@ -103,7 +103,7 @@ pub fn is_empty_text(terms: &Terms, n: NodeId) -> bool
         return false;
     };
     match entry {
-        Entry::Text(text) => text.len() == 0,
+        PoolEntry::Text(text) => text.len() == 0,
         _ => false,
     }
 }

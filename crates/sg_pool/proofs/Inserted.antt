@@ -9,13 +9,13 @@ use Rattle.std.proofs.lemmas.List.Quantifiers.{all_pairs_push}
 use Rattle.indexmap.specs.IndexSet.{insert_key}
 use Rattle.sg_kinds.specs.Values.{Value}
 use Rattle.sg_pool.specs.Pools.{has_value, with_value, AreDifferent}
-use Rattle.sg_pool.specs.PoolEntries.{Entry, entry_value, kid_numbers, same_entry}
+use Rattle.sg_pool.specs.PoolEntries.{PoolEntry, entry_value, kid_numbers, same_entry}
 use Rattle.sg_pool.specs.declared.pool.Measure.{Measure}
 use Rattle.sg_pool.specs.PoolView.{pooled_values, AreBelow, measure_of, IsPooled}
 use Rattle.sg_pool.specs.SameEntry.{entry_is}
 use Rattle.sg_pool.proofs.Pooled.{has_itself, has_same, values_from-push, ordered_push, length-values_of, value_at_place, entry_value-stays}
 
-module _ (es : List Entry) (ms : List Measure) (e : Entry) (old : IsPooled es ms) (below : AreBelow (length (pooled_values es)) (kid_numbers e)) where
+module _ (es : List PoolEntry) (ms : List Measure) (e : PoolEntry) (old : IsPooled es ms) (below : AreBelow (length (pooled_values es)) (kid_numbers e)) where
   abbrev here : Value
   here = entry_value (pooled_values es) e
 
@@ -45,7 +45,7 @@ module _ (es : List Entry) (ms : List Measure) (e : Entry) (old : IsPooled es ms
       })
 
   -- the entry's place has its value
-  pub stands_inserted : (i : ℕ) (k : Entry) → slice_get (insert_key same_entry es e) i ≡ Some k → same_entry e k ≡ true → slice_get (pooled_values (insert_key same_entry es e)) i ≡ Some here
+  pub stands_inserted : (i : ℕ) (k : PoolEntry) → slice_get (insert_key same_entry es e) i ≡ Some k → same_entry e k ≡ true → slice_get (pooled_values (insert_key same_entry es e)) i ≡ Some here
   stands_inserted i k at h = value_at_place (insert_key same_entry es e) i e stays_pooled.ordered (at ∙ ap Some (sym (entry_is e k h))) ∙ ap Some (by (list_any (same_entry e) es) refl)
     where
       by : (b : Bool) → list_any (same_entry e) es ≡ b → entry_value (pooled_values (insert_key same_entry es e)) e ≡ here
@@ -53,7 +53,7 @@ module _ (es : List Entry) (ms : List Measure) (e : Entry) (old : IsPooled es ms
       by false h = rw (h, values_from-push [] es e) (entry_value-stays (pooled_values es) (here ∷ []) e below)
 
 -- the same, as the calls on the parts of a pool tell it
-module _ (es keys : List Entry) (ms : List Measure) (vs : List Value) (e : Entry) (old : IsPooled es ms) (view : pooled_values es ≡ vs) (below : AreBelow (length vs) (kid_numbers e)) (insert : keys ≡ insert_key same_entry es e) where
+module _ (es keys : List PoolEntry) (ms : List Measure) (vs : List Value) (e : PoolEntry) (old : IsPooled es ms) (view : pooled_values es ≡ vs) (below : AreBelow (length vs) (kid_numbers e)) (insert : keys ≡ insert_key same_entry es e) where
   here_below : AreBelow (length (pooled_values es)) (kid_numbers e)
   here_below = subst (λ l. AreBelow (length l) (kid_numbers e)) (sym view) below
 
@@ -80,5 +80,5 @@ module _ (es keys : List Entry) (ms : List Measure) (vs : List Value) (e : Entry
   pub with_inserted : pooled_values keys ≡ with_value vs (entry_value vs e)
   with_inserted = ap pooled_values insert ∙ values_inserted es ms e old here_below ∙ ap (λ l. with_value l (entry_value l e)) view
 
-  pub stands_kept : (i : ℕ) → ((k : Entry) × (slice_get keys i ≡ Some k) × (same_entry e k ≡ true)) → slice_get (pooled_values keys) i ≡ Some (entry_value vs e)
+  pub stands_kept : (i : ℕ) → ((k : PoolEntry) × (slice_get keys i ≡ Some k) × (same_entry e k ≡ true)) → slice_get (pooled_values keys) i ≡ Some (entry_value vs e)
   stands_kept i h = ap (λ l. slice_get (pooled_values l) i) insert ∙ stands_inserted es ms e old here_below i h.0 (ap (λ l. slice_get l i) (sym insert) ∙ h.1) h.2 ∙ ap (λ l. Some (entry_value l e)) view

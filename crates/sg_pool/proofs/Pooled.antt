@@ -11,8 +11,8 @@ use Rattle.std.proofs.lemmas.Bool.{cases_order}
 use Rattle.sg_kinds.specs.Evaluation.{untyped}
 use Rattle.sg_kinds.specs.Values.{Value, Tree, row_of, same_value}
 use Rattle.sg_pool.specs.Pools.{value_at, has_value, AreDifferent}
-use Rattle.sg_pool.specs.PoolEntries.{Entry, entry_value, kid_numbers, same_entry}
-use Rattle.sg_pool.specs.declared.entry.Entry.TheVariants as entry
+use Rattle.sg_pool.specs.PoolEntries.{PoolEntry, entry_value, kid_numbers, same_entry}
+use Rattle.sg_pool.specs.declared.entry.PoolEntry.TheVariants as entry
 use Rattle.sg_pool.specs.declared.pool.Measure.{Measure}
 use Rattle.sg_pool.specs.PoolView.{values_from, pooled_values, AreBelow, AreOrdered, measure_of, IsPooled}
 use Rattle.sg_kinds.specs.SameValue.{value_is, value_same}
@@ -33,7 +33,7 @@ pub map-value_at : (vs more : List Value) (ks : List ℕ) → AreBelow (length v
 map-value_at vs more [] h = refl
 map-value_at vs more (k ∷ ks) h = rw (slice_get-front vs more k h.0, map-value_at vs more ks h.1) refl
 
-pub entry_value-stays : (vs more : List Value) (e : Entry) → AreBelow (length vs) (kid_numbers e) → entry_value (vs ++ more) e ≡ entry_value vs e
+pub entry_value-stays : (vs more : List Value) (e : PoolEntry) → AreBelow (length vs) (kid_numbers e) → entry_value (vs ++ more) e ≡ entry_value vs e
 entry_value-stays vs more (entry.Bool b) h = refl
 entry_value-stays vs more (entry.Int z) h = refl
 entry_value-stays vs more (entry.Text s) h = refl
@@ -41,23 +41,23 @@ entry_value-stays vs more (entry.Tree op ks) h = ap (λ l. Tree op (row_of l)) (
 entry_value-stays vs more (entry.Fault kind) h = refl
 
 -- the values begin with those that are there
-pub tail_of : (done : List Value) (es : List Entry) → (more : List Value) × (values_from done es ≡ done ++ more)
+pub tail_of : (done : List Value) (es : List PoolEntry) → (more : List Value) × (values_from done es ≡ done ++ more)
 tail_of done [] = ([], sym (search rules))
 tail_of done (e ∷ es) =
     let t = tail_of (done ++ entry_value done e ∷ []) es in
     (entry_value done e ∷ t.0, t.1 ∙ append_assoc done (entry_value done e ∷ []) t.0)
 
-pub length-values_from : (done : List Value) (es : List Entry) → length (values_from done es) ≡ length done + length es
+pub length-values_from : (done : List Value) (es : List PoolEntry) → length (values_from done es) ≡ length done + length es
 length-values_from done [] = omega arith
 length-values_from done (e ∷ es) = length-values_from (done ++ entry_value done e ∷ []) es ∙ (let l : length (done ++ entry_value done e ∷ []) ≡ length done + 1 = length-append done (entry_value done e ∷ []) in omega (arith, l))
 
-pub values_from-push : (done : List Value) (es : List Entry) (e : Entry) → values_from done (es ++ e ∷ []) ≡ values_from done es ++ entry_value (values_from done es) e ∷ []
+pub values_from-push : (done : List Value) (es : List PoolEntry) (e : PoolEntry) → values_from done (es ++ e ∷ []) ≡ values_from done es ++ entry_value (values_from done es) e ∷ []
 values_from-push done [] e = refl
 values_from-push done (x ∷ es) e = values_from-push (done ++ entry_value done x ∷ []) es e
 
 -- an entry's place has its value
 module _ where
-  at_first : (done : List Value) (x : Entry) (es : List Entry) → AreBelow (length done) (kid_numbers x)
+  at_first : (done : List Value) (x : PoolEntry) (es : List PoolEntry) → AreBelow (length done) (kid_numbers x)
       → slice_get (values_from (done ++ entry_value done x ∷ []) es) (length done) ≡ Some (entry_value (values_from (done ++ entry_value done x ∷ []) es) x)
   at_first done x es below =
       let w = entry_value done x in
@@ -65,7 +65,7 @@ module _ where
       let whole : values_from (done ++ w ∷ []) es ≡ done ++ w ∷ t.0 = t.1 ∙ append_assoc done (w ∷ []) t.0 in
       rw whole (slice_get-seam done w t.0 ∙ ap Some (sym (entry_value-stays done (w ∷ t.0) x below)))
 
-  pub values_at : (done : List Value) (n : ℕ) (es : List Entry) (i : ℕ) (e : Entry) → n ≡ length done → AreOrdered n es → slice_get es i ≡ Some e
+  pub values_at : (done : List Value) (n : ℕ) (es : List PoolEntry) (i : ℕ) (e : PoolEntry) → n ≡ length done → AreOrdered n es → slice_get es i ≡ Some e
       → slice_get (values_from done es) (n + i) ≡ Some (entry_value (values_from done es) e)
   values_at done n [] i e len o h = cc
   values_at done n (x ∷ es) zero e len o h =
@@ -99,7 +99,7 @@ places_are vs (x ∷ xs) (y ∷ ys) different hx hy e =
     cc (place_is vs x y different hx.0 hy.0 first, places_are vs xs ys different hx.1 hy.1 rest)
 
 -- entries with one value are the same
-pub entry_value-is : (vs : List Value) (x y : Entry) → AreDifferent vs → AreBelow (length vs) (kid_numbers x) → AreBelow (length vs) (kid_numbers y) → entry_value vs x ≡ entry_value vs y → x ≡ y
+pub entry_value-is : (vs : List Value) (x y : PoolEntry) → AreDifferent vs → AreBelow (length vs) (kid_numbers x) → AreBelow (length vs) (kid_numbers y) → entry_value vs x ≡ entry_value vs y → x ≡ y
 entry_value-is vs (entry.Bool a) (entry.Bool b) different hx hy e = cc
 entry_value-is vs (entry.Int a) (entry.Int b) different hx hy e = cc
 entry_value-is vs (entry.Text a) (entry.Text b) different hx hy e = cc
@@ -111,29 +111,29 @@ entry_value-is vs (entry.Fault a) (entry.Fault b) different hx hy e = cc
 entry_value-is vs x y different hx hy e = cc
 
 -- the children of an entry at a place
-pub ordered_at : (n : ℕ) (es : List Entry) (i : ℕ) (e : Entry) → AreOrdered n es → slice_get es i ≡ Some e → AreBelow (n + i) (kid_numbers e)
+pub ordered_at : (n : ℕ) (es : List PoolEntry) (i : ℕ) (e : PoolEntry) → AreOrdered n es → slice_get es i ≡ Some e → AreBelow (n + i) (kid_numbers e)
 ordered_at n [] i e o h = cc
 ordered_at n (x ∷ es) zero e o h = let same : x ≡ e = cc in let k : n + 0 ≡ n = omega arith in rw (k, ← same) o.0
 ordered_at n (x ∷ es) (suc i) e o h = let k : n + suc i ≡ suc n + i = omega arith in rw k (ordered_at (suc n) es i e o.1 h)
 
-pub ordered_push : (n : ℕ) (es : List Entry) (e : Entry) → AreOrdered n es → AreBelow (n + length es) (kid_numbers e) → AreOrdered n (es ++ e ∷ [])
+pub ordered_push : (n : ℕ) (es : List PoolEntry) (e : PoolEntry) → AreOrdered n es → AreBelow (n + length es) (kid_numbers e) → AreOrdered n (es ++ e ∷ [])
 ordered_push n [] e o h = let k : n + 0 ≡ n = omega arith in (subst (λ m. AreBelow m (kid_numbers e)) k h, tt)
 ordered_push n (x ∷ es) e o h = let k : n + length (x ∷ es) ≡ suc n + length es = omega arith in (o.0, ordered_push (suc n) es e o.1 (subst (λ m. AreBelow m (kid_numbers e)) k h))
 
-pub length-values_of : (es : List Entry) → length (pooled_values es) ≡ length es
+pub length-values_of : (es : List PoolEntry) → length (pooled_values es) ≡ length es
 length-values_of es = length-values_from [] es ∙ (omega arith)
 
-pub value_at_place : (es : List Entry) (i : ℕ) (e : Entry) → AreOrdered 0 es → slice_get es i ≡ Some e → slice_get (pooled_values es) i ≡ Some (entry_value (pooled_values es) e)
+pub value_at_place : (es : List PoolEntry) (i : ℕ) (e : PoolEntry) → AreOrdered 0 es → slice_get es i ≡ Some e → slice_get (pooled_values es) i ≡ Some (entry_value (pooled_values es) e)
 value_at_place es i e o h = let k : 0 + i ≡ i = omega arith in subst (λ m. slice_get (pooled_values es) m ≡ Some (entry_value (pooled_values es) e)) k (values_at [] 0 es i e refl o h)
 
 -- where an entry is there, and where its value is there
 pub has_itself : IsEquivalence same_value
 has_itself = decided same_value (λ x y. (value_is x y, λ e. subst (λ z. same_value x z ≡ true) e (value_same x)))
 
-pub has_entry-Decides : (es : List Entry) (e : Entry) → Decides (list_any (same_entry e) es) (Contains es e)
+pub has_entry-Decides : (es : List PoolEntry) (e : PoolEntry) → Decides (list_any (same_entry e) es) (Contains es e)
 has_entry-Decides es e = (Contains-from_any entry_is e es, list_any-from_Contains entry_equal e es)
 
-pub has_value-Decides : (es : List Entry) (e : Entry) → AreOrdered 0 es → AreDifferent (pooled_values es) → AreBelow (length (pooled_values es)) (kid_numbers e)
+pub has_value-Decides : (es : List PoolEntry) (e : PoolEntry) → AreOrdered 0 es → AreDifferent (pooled_values es) → AreBelow (length (pooled_values es)) (kid_numbers e)
     → Decides (has_value (pooled_values es) (entry_value (pooled_values es) e)) (Contains es e)
 has_value-Decides es e o different below = (to, from)
   where
@@ -154,7 +154,7 @@ has_value-Decides es e o different below = (to, from)
         list_any-from_Contains has_itself (entry_value (pooled_values es) e) (pooled_values es)
         (c.0, omega (arith, c.1, length-values_of es), get_or_from_slice_get (pooled_values es) c.0 _ (entry_value (pooled_values es) e) v)
 
-pub has_same : (es : List Entry) (e : Entry) → AreOrdered 0 es → AreDifferent (pooled_values es) → AreBelow (length (pooled_values es)) (kid_numbers e)
+pub has_same : (es : List PoolEntry) (e : PoolEntry) → AreOrdered 0 es → AreDifferent (pooled_values es) → AreBelow (length (pooled_values es)) (kid_numbers e)
     → list_any (same_entry e) es ≡ has_value (pooled_values es) (entry_value (pooled_values es) e)
 has_same es e o different below = one_answer _ _ (has_entry-Decides es e) (has_value-Decides es e o different below)
 
@@ -164,19 +164,19 @@ all_below n [] h i d l = absurd (omega arith)
 all_below n (k ∷ ks) h zero d l = h.0
 all_below n (k ∷ ks) h (suc i) d l = all_below n ks h.1 i d (omega arith)
 
-pub entry_told : (es : List Entry) (ms : List Measure) (vs : List Value) (i : ℕ) (e : Entry) → IsPooled es ms → pooled_values es ≡ vs → slice_get es i ≡ Some e → slice_get vs i ≡ Some (entry_value vs e)
+pub entry_told : (es : List PoolEntry) (ms : List Measure) (vs : List Value) (i : ℕ) (e : PoolEntry) → IsPooled es ms → pooled_values es ≡ vs → slice_get es i ≡ Some e → slice_get vs i ≡ Some (entry_value vs e)
 entry_told es ms vs i e p view at = subst (λ l. slice_get l i ≡ Some (entry_value l e)) view (value_at_place es i e p.ordered at)
 
-pub kids_told : (es : List Entry) (ms : List Measure) (i : ℕ) (e : Entry) → IsPooled es ms → slice_get es i ≡ Some e → All (λ k. k < i) (kid_numbers e)
+pub kids_told : (es : List PoolEntry) (ms : List Measure) (i : ℕ) (e : PoolEntry) → IsPooled es ms → slice_get es i ≡ Some e → All (λ k. k < i) (kid_numbers e)
 kids_told es ms i e p at = all_below i (kid_numbers e) (subst (λ m. AreBelow m (kid_numbers e)) (omega arith) (ordered_at 0 es i e p.ordered at))
 
 -- the measure at a place is that of its value
-pub measures_length : (es : List Entry) (ms : List Measure) (vs : List Value) → IsPooled es ms → pooled_values es ≡ vs → length ms ≡ length vs
+pub measures_length : (es : List PoolEntry) (ms : List Measure) (vs : List Value) → IsPooled es ms → pooled_values es ≡ vs → length ms ≡ length vs
 measures_length es ms vs p view = ap length p.measures ∙ length-map (pooled_values es) measure_of ∙ ap length view
 
-pub entries_length : (es : List Entry) (vs : List Value) → pooled_values es ≡ vs → length es ≡ length vs
+pub entries_length : (es : List PoolEntry) (vs : List Value) → pooled_values es ≡ vs → length es ≡ length vs
 entries_length es vs view = sym (length-values_of es) ∙ ap length view
 
-pub measure_told : (es : List Entry) (ms : List Measure) (vs : List Value) (i : ℕ) (d : Measure) → IsPooled es ms → pooled_values es ≡ vs → i < length vs → get_or ms i d ≡ measure_of (value_at vs i)
+pub measure_told : (es : List PoolEntry) (ms : List Measure) (vs : List Value) (i : ℕ) (d : Measure) → IsPooled es ms → pooled_values es ≡ vs → i < length vs → get_or ms i d ≡ measure_of (value_at vs i)
 measure_told es ms vs i d p view l =
     ap (λ k. get_or k i d) (p.measures ∙ ap (map measure_of) view) ∙ map_at measure_of vs i d untyped l ∙ ap measure_of (sym (unwrap_or-slice_get vs i untyped))

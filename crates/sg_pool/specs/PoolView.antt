@@ -2,15 +2,15 @@
 use Rattle.std.specs.Prelude.{◌≡◌, ℕ, suc, ◌<◌, List, [], ◌∷◌, ◌++◌, map, ⊤}
 use Rattle.sg_kinds.specs.Values.{Value, size_of, depth_of}
 use Rattle.sg_pool.specs.Pools.{AreDifferent}
-use Rattle.sg_pool.specs.PoolEntries.{Entry, entry_value, kid_numbers}
+use Rattle.sg_pool.specs.PoolEntries.{PoolEntry, entry_value, kid_numbers}
 use Rattle.sg_pool.specs.declared.pool.Measure.{Measure}
 
 -- the values of entries, one after another, behind those that are there
-abbrev pub values_from : List Value → List Entry → List Value
+abbrev pub values_from : List Value → List PoolEntry → List Value
 values_from done [] = done
 values_from done (e ∷ es) = values_from (done ++ entry_value done e ∷ []) es
 
-abbrev pub pooled_values : List Entry → List Value
+abbrev pub pooled_values : List PoolEntry → List Value
 pooled_values es = values_from [] es
 
 -- each number is below n
@@ -19,7 +19,7 @@ AreBelow n [] = ⊤
 AreBelow n (k ∷ ks) = (k < n) × AreBelow n ks
 
 -- each entry's children have smaller numbers; the first entry has the number n
-abbrev pub AreOrdered : ℕ → List Entry → Type 0
+abbrev pub AreOrdered : ℕ → List PoolEntry → Type 0
 AreOrdered n [] = ⊤
 AreOrdered n (e ∷ es) = AreBelow n (kid_numbers e) × AreOrdered (suc n) es
 
@@ -27,7 +27,7 @@ AreOrdered n (e ∷ es) = AreBelow n (kid_numbers e) × AreOrdered (suc n) es
 abbrev pub measure_of : Value → Measure
 measure_of v = record { size = size_of v; depth = depth_of v }
 
-pub record IsPooled (es : List Entry) (ms : List Measure) : Type 0 where
+pub record IsPooled (es : List PoolEntry) (ms : List Measure) : Type 0 where
   pub ordered : AreOrdered 0 es
   pub different : AreDifferent (pooled_values es)
   pub measures : ms ≡ map measure_of (pooled_values es)

@@ -12,7 +12,7 @@ use std::hash::{Hash, Hasher};
 
 /// An entry of a pool: a value that has no children, or an operator with the numbers of its children.
 #[derive(Drop)]
-pub enum Entry {
+pub enum PoolEntry {
     Bool(bool),
     Int(i64),
     Text(Text),
@@ -35,52 +35,53 @@ fn place_of(kind: FaultKind) -> u8
     }
 }
 
-impl PartialEq for Entry {
+impl PartialEq for PoolEntry {
     ghost eq = { same_entry };
 
     ghost laws = { entry_partial };
 
-    fn eq(&self, other: &Entry) -> bool {
+    fn eq(&self, other: &PoolEntry) -> bool {
         match (self, other) {
-            (Entry::Bool(a), Entry::Bool(b)) => *a == *b,
-            (Entry::Int(a), Entry::Int(b)) => *a == *b,
-            (Entry::Text(a), Entry::Text(b)) => a.as_slice() == b.as_slice(),
-            (Entry::Tree(a, xs), Entry::Tree(b, ys)) => *a == *b && xs.as_slice() == ys.as_slice(),
-            (Entry::Fault(a), Entry::Fault(b)) => *a == *b,
+            (PoolEntry::Bool(a), PoolEntry::Bool(b)) => *a == *b,
+            (PoolEntry::Int(a), PoolEntry::Int(b)) => *a == *b,
+            (PoolEntry::Text(a), PoolEntry::Text(b)) => a.as_slice() == b.as_slice(),
+            (PoolEntry::Tree(a, xs), PoolEntry::Tree(b, ys)) => *a == *b
+                && xs.as_slice() == ys.as_slice(),
+            (PoolEntry::Fault(a), PoolEntry::Fault(b)) => *a == *b,
             _ => false,
         }
     }
 }
 
-impl Eq for Entry {
+impl Eq for PoolEntry {
     ghost laws = { entry_equal };
 }
 
-impl Hash for Entry {
+impl Hash for PoolEntry {
     ghost hash_input = { entry_writes };
 
     ghost respects_eq = { entry_alike.fed };
 
     fn hash<H: Hasher>(&self, state: &mut H) {
         match self {
-            Entry::Bool(b) => {
+            PoolEntry::Bool(b) => {
                 0u8.hash(state);
                 b.hash(state);
             }
-            Entry::Int(n) => {
+            PoolEntry::Int(n) => {
                 1u8.hash(state);
                 n.hash(state);
             }
-            Entry::Text(text) => {
+            PoolEntry::Text(text) => {
                 2u8.hash(state);
                 text.as_slice().hash(state);
             }
-            Entry::Tree(op, kids) => {
+            PoolEntry::Tree(op, kids) => {
                 3u8.hash(state);
                 op.number.hash(state);
                 kids.as_slice().hash(state);
             }
-            Entry::Fault(kind) => {
+            PoolEntry::Fault(kind) => {
                 4u8.hash(state);
                 place_of(*kind).hash(state);
             }

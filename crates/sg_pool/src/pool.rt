@@ -6,7 +6,7 @@ ghost use Rattle.sg_pool.specs.PoolEntries.{entry_value, kid_numbers};
 ghost use Rattle.sg_pool.specs.PoolView.{AreBelow, measure_of};
 ghost use Rattle.sg_pool.specs.declared.pool.PoolFault.TheVariants.{NoMemory as PoolNoMemory};
 
-use crate::entry::Entry;
+use crate::entry::PoolEntry;
 use indexmap::IndexSet;
 use sg_kinds::ids::{OpId, ValueId};
 use sg_kinds::marks::FaultKind;
@@ -48,7 +48,7 @@ const LEAF: Measure = Measure { size: 1, depth: 1 };
 #[derive(Drop)]
 pub struct Pool {
     alloc: Global,
-    entries: IndexSet<Entry>,
+    entries: IndexSet<PoolEntry>,
     measures: Vec<Measure>,
 }
 
@@ -100,7 +100,7 @@ impl Pool {
 
     /// The entry of a number: what its value is, with the numbers of its children.
     #[tactic(auto, using(crate::proofs::Pooled::entries_length, crate::proofs::Pooled::entry_told, crate::proofs::Pooled::kids_told))]
-    pub fn entry(&self, id: ValueId) -> &Entry
+    pub fn entry(&self, id: ValueId) -> &PoolEntry
         requires { id < length self.now }
         ensures value { StandsFor self.now id (entry_value self.now result.now) }
         ensures kids { All (λ k. k < id) (kid_numbers result.now) }
@@ -131,11 +131,14 @@ impl Pool {
         ensures { IfOk result (λ v. StandsFor self.now id v) }
     {
         match self.entry(id) {
-            Entry::Bool(b) => Ok(Value::truth(*b)),
-            Entry::Int(n) => Ok(Value::number(*n)),
-            Entry::Text(text) => Ok(Value::text(text.copy(alloc)?)),
-            Entry::Tree(op, kids) => Ok(Value::tree(*op, self.values(alloc, kids.as_slice(), id)?)),
-            Entry::Fault(kind) => Ok(Value::fault(*kind)),
+            PoolEntry::Bool(b) => Ok(Value::truth(*b)),
+            PoolEntry::Int(n) => Ok(Value::number(*n)),
+            PoolEntry::Text(text) => Ok(Value::text(text.copy(alloc)?)),
+            PoolEntry::Tree(op, kids) => Ok(Value::tree(
+                *op,
+                self.values(alloc, kids.as_slice(), id)?,
+            )),
+            PoolEntry::Fault(kind) => Ok(Value::fault(*kind)),
         }
     }
 
@@ -173,7 +176,7 @@ impl Pool {
                 let (size, depth) = v.measure();
                 let numbers = self.put_all(kids)?;
                 self.enter(
-                    Entry::Tree(*op, Row::new(numbers)),
+                    PoolEntry::Tree(*op, Row::new(numbers)),
                     Measure {
                         size: size as u64,
                         depth,
@@ -207,7 +210,7 @@ impl Pool {
         ensures pool { OnOk result (self.new ≡ with_value self.old (Truth b)) }
         ensures grown { IsGrown self.old self.new }
     {
-        self.enter(Entry::Bool(b), LEAF)
+        self.enter(PoolEntry::Bool(b), LEAF)
     }
 
     /// The number of a number.
@@ -216,7 +219,7 @@ impl Pool {
         ensures pool { OnOk result (self.new ≡ with_value self.old (Number n)) }
         ensures grown { IsGrown self.old self.new }
     {
-        self.enter(Entry::Int(n), LEAF)
+        self.enter(PoolEntry::Int(n), LEAF)
     }
 
     /// The number of a text, whatever its length.
@@ -226,7 +229,7 @@ impl Pool {
         ensures grown { IsGrown self.old self.new }
     {
         let size = text.as_slice().len() as u64 + 1;
-        self.enter(Entry::Text(text), Measure { size, depth: 1 })
+        self.enter(PoolEntry::Text(text), Measure { size, depth: 1 })
     }
 
     /// The number of a fault.
@@ -235,7 +238,7 @@ impl Pool {
         ensures pool { OnOk result (self.new ≡ with_value self.old (Fault kind)) }
         ensures grown { IsGrown self.old self.new }
     {
-        self.enter(Entry::Fault(kind), LEAF)
+        self.enter(PoolEntry::Fault(kind), LEAF)
     }
 
     /// A number whose value is the tree of an operator over the values of these numbers; `Size` exactly where that
@@ -253,7 +256,7 @@ impl Pool {
             return Err(PoolFault::Size);
         };
         let numbers = Row::new(Vec::from_slice(self.alloc, kids)?);
-        Ok(self.enter(Entry::Tree(op, numbers), measure)?)
+        Ok(self.enter(PoolEntry::Tree(op, numbers), measure)?)
     }
 
     // the measure of a tree over the values of these numbers, none where it is over a limit
@@ -278,7 +281,7 @@ impl Pool {
 
     // the number of an entry, which is put last where it is not there
     #[tactic(auto, using(crate::proofs::Grown::grown_same, crate::proofs::Grown::grown_put))]
-    fn enter(&mut self, entry: Entry, measure: Measure) -> Result<ValueId, NoMemory>
+    fn enter(&mut self, entry: PoolEntry, measure: Measure) -> Result<ValueId, NoMemory>
         requires kids { AreBelow (length self.old) (kid_numbers entry) }
         requires measure { measure ≡ measure_of (entry_value self.old entry) }
         ensures stands { IfOk result (λ id. StandsFor self.new id (entry_value self.old entry)) }

@@ -19,7 +19,7 @@ use sg_kinds::memory::NoMemory;
 use sg_kinds::spec::{Item, Piece, Scheme, Spec};
 use sg_kinds::term::{Term, TermNode};
 use sg_kinds::text::Text;
-use sg_pool::entry::Entry;
+use sg_pool::entry::PoolEntry;
 use sg_pool::pool::Pool;
 use std::alloc::Global;
 
@@ -59,17 +59,17 @@ pub fn write_value(
     ensures { OnOk result (out.new.items ≡ out.old.items ++ value_text (value_at pool.now id)) }
 {
     match pool.entry(id) {
-        Entry::Bool(b) => {
+        PoolEntry::Bool(b) => {
             let text: &[u8] = if *b { b"true" } else { b"false" };
             out.extend_from_slice(text)?;
         }
-        Entry::Int(n) => {
+        PoolEntry::Int(n) => {
             let text = n.to_string(alloc)?;
             out.extend_from_slice(text.as_bytes())?;
         }
-        Entry::Text(text) => out.extend_from_slice(text.as_slice())?,
-        Entry::Tree(_, _) => {}
-        Entry::Fault(kind) => out.extend_from_slice(fault_text(*kind))?,
+        PoolEntry::Text(text) => out.extend_from_slice(text.as_slice())?,
+        PoolEntry::Tree(_, _) => {}
+        PoolEntry::Fault(kind) => out.extend_from_slice(fault_text(*kind))?,
     }
     Ok(())
 }

@@ -20,7 +20,7 @@ use Rattle.sg_forest.specs.declared.node_id.NodeId.{NodeId}
 use Rattle.sg_forest.specs.Node.{Node as ForestNode}
 use Rattle.sg_forest.specs.Trees.{Trees, node_at, IsLive}
 use Rattle.sg_forest.specs.Tree.{node, end, GrowsTree}
-use Rattle.sg_forest.specs.Steps.{KeepsKids, IsAdded}
+use Rattle.sg_forest.specs.Steps.{KeepsKids, IsRootMade}
 use Rattle.sg_groves.specs.declared.kind.Kind.{Kind}
 use Rattle.sg_groves.specs.declared.part.Part.{Part}
 use Rattle.sg_groves.specs.Grove.{Grove, IsLeaf, IsOperation, IsTyped, IsGrove}
@@ -69,7 +69,7 @@ leaf_part id = record { scheme = 0; elided = false; values = id ∷ [] }
 
 module _ (spec : Spec) (old new : Trees Kind Part) (was now : List Value) (grown : IsGrown was now) (held : IsGrove (grove spec old was)) (keeps : KeepsKids (node_at old) (node_at new)) (trees : AreTrees new) where
   -- a leaf
-  pub IsGrove-leaf : {E : Type 0} (p id : ℕ) (v : Value) (r : Result NodeId E) → Fits spec (Leaf p v) p → StandsFor now id v → IfOk r (IsAdded (node_at old) (node_at new) (leaf_kind p) (leaf_part id) []) → OnErr r (new.nodes ≡ old.nodes) → IsGrove (grove spec new now)
+  pub IsGrove-leaf : {E : Type 0} (p id : ℕ) (v : Value) (r : Result NodeId E) → Fits spec (Leaf p v) p → StandsFor now id v → IfOk r (IsRootMade (node_at old) (node_at new) (leaf_kind p) (leaf_part id) []) → OnErr r (new.nodes ≡ old.nodes) → IsGrove (grove spec new now)
   IsGrove-leaf p id v (Err e) fits stands made same = IsGrove-same spec old new was now grown held same
   IsGrove-leaf p id v (Ok n) fits stands made same =
       IsGrove-made spec old new was now grown held n (leaf_kind p) (leaf_part id) [] made (λ k c lists. let none : None ≡ Some c = lists in cc none) keeps trees
@@ -78,7 +78,7 @@ module _ (spec : Spec) (old new : Trees Kind Part) (was now : List Value) (grown
   -- a node of an operator, with number 0 in each slot
   pub IsGrove-node : {E : Type 0} (op : ℕ) (kind : Kind) (part : Part) (kids : List NodeId) (r : Result NodeId E) → kind.op ≡ Some op → phylum_of spec.ops op ≡ Some kind.phylum → kind.arity ≡ length (args_of spec.ops op)
       → part.scheme < 16 → length part.values ≡ length (slots_there spec op 0) → All (λ k. k ≡ 0) part.values → AreRootsOf (grove spec old was) (args_of spec.ops op) kids
-      → IfOk r (IsAdded (node_at old) (node_at new) kind part kids) → OnErr r (new.nodes ≡ old.nodes) → IsGrove (grove spec new now)
+      → IfOk r (IsRootMade (node_at old) (node_at new) kind part kids) → OnErr r (new.nodes ≡ old.nodes) → IsGrove (grove spec new now)
   IsGrove-node op kind part kids (Err e) is phylum arity scheme count zero roots made same = IsGrove-same spec old new was now grown held same
   IsGrove-node op kind part kids (Ok n) is phylum arity scheme count zero roots made same =
       IsGrove-made spec old new was now grown held n kind part kids made live keeps trees
@@ -120,7 +120,7 @@ module _ (spec : Spec) (old new : Trees Kind Part) (was now : List Value) (grown
         term = over_op now kind part (terms_under now row.0) op is ∙ ap (λ p. Node op part.scheme part.elided (terms_under p row.0)) (sym pool) ∙ ap (Node op part.scheme part.elided) row.2;
       }
 
-  unknown_there : (op : ℕ) (kind : Kind) (part : Part) (kids : List NodeId) (n : NodeId) → length part.values ≡ length (slots_there spec op 0) → All (λ k. k ≡ 0) part.values → IsAdded (node_at old) (node_at new) kind part kids n
+  unknown_there : (op : ℕ) (kind : Kind) (part : Part) (kids : List NodeId) (n : NodeId) → length part.values ≡ length (slots_there spec op 0) → All (λ k. k ≡ 0) part.values → IsRootMade (node_at old) (node_at new) kind part kids n
       → (slot type : ℕ) → slot_type spec op 0 slot ≡ Some type → number_at (grove spec new now) n slot ≡ Some 0
   unknown_there op kind part kids n count zero made slot type has =
       let l = slice_get_within (slots_there spec op 0) slot type has in
@@ -137,11 +137,11 @@ module _ (spec : Spec) (old new : Trees Kind Part) (was now : List Value) (grown
   held_node op kind part kids (Ok n) is pool grows = λ ts all. Holds-node op kind part kids n is pool grows ts all
   held_node op kind part kids (Err e) is pool grows = tt
 
-  pub was_free : {E : Type 0} (kind : Kind) (part : Part) (kids : List NodeId) (r : Result NodeId E) → IfOk r (IsAdded (node_at old) (node_at new) kind part kids) → IfOk r (λ n. node_at old n ≡ None)
+  pub was_free : {E : Type 0} (kind : Kind) (part : Part) (kids : List NodeId) (r : Result NodeId E) → IfOk r (IsRootMade (node_at old) (node_at new) kind part kids) → IfOk r (λ n. node_at old n ≡ None)
   was_free kind part kids (Ok n) made = made.was_free
   was_free kind part kids (Err e) made = tt
 
-  pub unknown_node : {E : Type 0} (op : ℕ) (kind : Kind) (part : Part) (kids : List NodeId) (r : Result NodeId E) → length part.values ≡ length (slots_there spec op 0) → All (λ k. k ≡ 0) part.values → IfOk r (IsAdded (node_at old) (node_at new) kind part kids)
+  pub unknown_node : {E : Type 0} (op : ℕ) (kind : Kind) (part : Part) (kids : List NodeId) (r : Result NodeId E) → length part.values ≡ length (slots_there spec op 0) → All (λ k. k ≡ 0) part.values → IfOk r (IsRootMade (node_at old) (node_at new) kind part kids)
       → IfOk r (λ n. (slot type : ℕ) → slot_type spec op 0 slot ≡ Some type → number_at (grove spec new now) n slot ≡ Some 0)
   unknown_node op kind part kids (Ok n) count zero made = λ slot type has. unknown_there op kind part kids n count zero made slot type has
   unknown_node op kind part kids (Err e) count zero made = tt

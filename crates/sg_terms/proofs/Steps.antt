@@ -10,7 +10,7 @@ use Rattle.sg_pool.specs.Pools.{IsGrown}
 use Rattle.sg_forest.specs.declared.node_id.NodeId.{NodeId}
 use Rattle.sg_forest.specs.Node.{Node}
 use Rattle.sg_forest.specs.Trees.{Trees, node_at, IsLive, IsChild, IsInside}
-use Rattle.sg_forest.specs.Steps.{SameSort, KeepsParts, KeepsKids, KeepsShape, IsPartSet, IsSwapped, IsAdded, IsDropped}
+use Rattle.sg_forest.specs.Steps.{SameSort, KeepsParts, KeepsKids, KeepsShape, IsPartSet, IsSwapped, IsRootMade, IsDropped}
 use Rattle.sg_forest.proofs.Paths.{cases_id}
 use Rattle.sg_forest.proofs.Moves.{slice_get-set_same, slice_get-set_other}
 use Rattle.sg_forest.proofs.Shape.{KeepsShape-part_set, IsForest-shape}
@@ -76,7 +76,7 @@ module _ (spec : Spec) (old new : Trees Kind Part) (was now : List Value) (grown
           ]
 
   -- a new root that fits
-  module _ (id : NodeId) (kind : Kind) (part : Part) (kids : List NodeId) (made : IsAdded (node_at old) (node_at new) kind part kids id) (live : (k : ℕ) (c : NodeId) → slice_get kids k ≡ Some c → IsLive (node_at old) c) (keeps : KeepsKids (node_at old) (node_at new)) where
+  module _ (id : NodeId) (kind : Kind) (part : Part) (kids : List NodeId) (made : IsRootMade (node_at old) (node_at new) kind part kids id) (live : (k : ℕ) (c : NodeId) → slice_get kids k ≡ Some c → IsLive (node_at old) c) (keeps : KeepsKids (node_at old) (node_at new)) where
     pub made_kinds : KeepsKinds spec old new was now
     made_kinds m w y there then =
         let k = keeps.kept m w there in

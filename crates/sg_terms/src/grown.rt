@@ -2,7 +2,7 @@
 ghost use Rattle.std.specs.Prelude.{◌≡◌, ◌≢◌, ◌↔◌, ℕ, [], ◌∷◌, false, length, slice_get, Some, None, IfOk, IfErr, OnErr};
 ghost use Rattle.sg_forest.specs.Trees.{node_at, IsRoot, IsChild};
 ghost use Rattle.sg_forest.specs.Tree.{GrowsTree, KeepsWays};
-ghost use Rattle.sg_forest.specs.Steps.{AreDistinct, IsAdded, KeepsKids};
+ghost use Rattle.sg_forest.specs.Steps.{AreDistinct, IsRootMade, KeepsKids};
 ghost use Rattle.sg_terms.specs.Occurrences.{AreTrees};
 
 use sg_forest::{Forest, NodeId};
@@ -22,7 +22,7 @@ pub fn grow(
     requires count { length kids.items ≡ kind.arity }
     requires roots { (k : ℕ) (id : _) → slice_get kids.items k ≡ Some id → IsRoot (node_at trees.old) id }
     requires distinct { AreDistinct kids.items }
-    ensures grown { IfOk result (IsAdded (node_at trees.old) (node_at trees.new) kind part kids.items) }
+    ensures grown { IfOk result (IsRootMade (node_at trees.old) (node_at trees.new) kind part kids.items) }
     ensures err { OnErr result (trees.new.nodes ≡ trees.old.nodes) }
     ensures refused { IfErr result (λ back. back.items ≡ kids.items) }
     ensures kids { KeepsKids (node_at trees.old) (node_at trees.new) }
@@ -49,7 +49,7 @@ pub fn grow_leaf(
     id: ValueId,
 ) -> Result<NodeId, NoMemory>
     requires { AreTrees trees.old }
-    ensures grown { IfOk result (IsAdded (node_at trees.old) (node_at trees.new)
+    ensures grown { IfOk result (IsRootMade (node_at trees.old) (node_at trees.new)
         (record { phylum = p; op = None; arity = 0 }) (record { scheme = 0; elided = false; values = id ∷ [] }) []) }
     ensures err { OnErr result (trees.new.nodes ≡ trees.old.nodes) }
     ensures kids { KeepsKids (node_at trees.old) (node_at trees.new) }

@@ -3,7 +3,7 @@ use sg_kinds::ids::OpId;
 use sg_kinds::marks::FaultKind;
 use sg_kinds::text::Text;
 use sg_kinds::value::Value;
-use sg_pool::entry::Entry;
+use sg_pool::entry::PoolEntry;
 use sg_pool::pool::{Pool, PoolFault};
 use std::process::Abort;
 
@@ -75,6 +75,6 @@ fn values_over_the_limits_are_refused(rt: HostRuntime) {
     assert!(rt; matches!(large, Err(PoolFault::Size)) && pool.len() == 1025);
     let fault = pool.put_fault(FaultKind::Fuel).expect(&rt, "a number");
     assert!(rt; fault.number < pool.len() && pool.len() == 1026);
-    assert!(rt; matches!(pool.entry(fault), Entry::Fault(_)));
+    assert!(rt; matches!(pool.entry(fault), PoolEntry::Fault(_)));
     pool.sound();
 }
