@@ -4,7 +4,7 @@ use Rattle.std.specs.Prelude.{All, IfOk, IsSome}
 use Rattle.sg_kinds.specs.Outcome.{outcome}
 use Rattle.sg_kinds.specs.declared.spec.Spec.{Spec}
 use Rattle.sg_kinds.specs.declared.spec.Rule.{Rule}
-use Rattle.sg_pool.specs.Pools.{Stands, value_at}
+use Rattle.sg_pool.specs.Pools.{StandsFor, value_at}
 use Rattle.sg_pool.proofs.Grown.{grown_itself}
 use Rattle.sg_eval.specs.MadeTerms.{AreMade}
 use Rattle.sg_terms.specs.Occurrences.{number_for, value_for}
@@ -66,11 +66,11 @@ returns-clause-outcome c =
     let at : slice_get c.self.inside.spec.rules c.args.rule ≡ Some r = ap (λ l. slice_get l c.args.rule) (sym c.as_slice.ensures) ∙ ap (slice_get c.as_slice.result.now) (sym c.rule.view_is) ∙ c.item-equation.ensures in
     let is = ready g c.self.invariant.0 c.args.n c.args.rule r at (operator r at) in
     let known = is.known c.gather.new.numbers.items (c.in_ok-gather.ensures ∙ ap (map (number_for c.self.inside.trees c.args.n)) c.as_slice-2.ensures) in
-    let run = subst (λ (s : Spec). (q : Rule) → slice_get s.rules c.args.rule ≡ Some q → IfOk c.run.result (λ id. Stands c.run.new.pool id (outcome s q (map (value_at c.self.inside.pool) c.deref.result.now)))) same c.run.ensures.outcome in
-    let here = subst (λ vs. IfOk c.run.result (λ id. Stands c.run.new.pool id (outcome c.self.inside.spec r vs))) (ap (map (value_at c.self.inside.pool)) c.deref.ensures.value ∙ known.1) (run r at) in
+    let run = subst (λ (s : Spec). (q : Rule) → slice_get s.rules c.args.rule ≡ Some q → IfOk c.run.result (λ id. StandsFor c.run.new.pool id (outcome s q (map (value_at c.self.inside.pool) c.deref.result.now)))) same c.run.ensures.outcome in
+    let here = subst (λ vs. IfOk c.run.result (λ id. StandsFor c.run.new.pool id (outcome c.self.inside.spec r vs))) (ap (map (value_at c.self.inside.pool)) c.deref.ensures.value ∙ known.1) (run r at) in
     rw (← c.self.view_is)
     (λ q at_q. let one : r ≡ q = cc (at, at_q) in
-    subst (λ (z : Rule). IfOk c.run.result (λ id. Stands c.run.new.pool id (outcome c.self.inside.spec z (map (value_for g c.args.n) z.args)))) one here)
+    subst (λ (z : Rule). IfOk c.run.result (λ id. StandsFor c.run.new.pool id (outcome c.self.inside.spec z (map (value_for g c.args.n) z.args)))) one here)
 
 pub returns-clause-storable : goal.returns-clause-storable
 returns-clause-storable c =
@@ -83,8 +83,8 @@ returns-clause-storable c =
     let at : slice_get c.self.inside.spec.rules c.args.rule ≡ Some r = ap (λ l. slice_get l c.args.rule) (sym c.as_slice.ensures) ∙ ap (slice_get c.as_slice.result.now) (sym c.rule.view_is) ∙ c.item-equation.ensures in
     let is = ready g c.self.invariant.0 c.args.n c.args.rule r at (operator r at) in
     let known = is.known c.gather.new.numbers.items (c.in_ok-gather.ensures ∙ ap (map (number_for c.self.inside.trees c.args.n)) c.as_slice-2.ensures) in
-    let run = subst (λ (s : Spec). (q : Rule) → slice_get s.rules c.args.rule ≡ Some q → IfOk c.run.result (λ id. Stands c.run.new.pool id (outcome s q (map (value_at c.self.inside.pool) c.deref.result.now)))) same c.run.ensures.outcome in
-    let here = subst (λ vs. IfOk c.run.result (λ id. Stands c.run.new.pool id (outcome c.self.inside.spec r vs))) (ap (map (value_at c.self.inside.pool)) c.deref.ensures.value ∙ known.1) (run r at) in
+    let run = subst (λ (s : Spec). (q : Rule) → slice_get s.rules c.args.rule ≡ Some q → IfOk c.run.result (λ id. StandsFor c.run.new.pool id (outcome s q (map (value_at c.self.inside.pool) c.deref.result.now)))) same c.run.ensures.outcome in
+    let here = subst (λ vs. IfOk c.run.result (λ id. StandsFor c.run.new.pool id (outcome c.self.inside.spec r vs))) (ap (map (value_at c.self.inside.pool)) c.deref.ensures.value ∙ known.1) (run r at) in
     let held = IsGrove-same c.self.inside.spec c.self.inside.trees c.self.inside.trees c.self.inside.pool c.run.new.pool c.run.ensures.grown c.self.invariant.0 refl in
     let to = bearer r at in
     storable_result later held c.args.n c.args.rule r at (operator r at) c.args.node c.args.slot (record { there = to.there; slot_is = to.slot_is }) (map (value_for g c.args.n) r.args) is.types is.have is.typed c.run.result here
