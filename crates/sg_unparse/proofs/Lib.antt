@@ -1,4 +1,5 @@
 pub mod Begins
+pub mod Schemed
 pub mod Each
 pub mod Ends
 pub mod Owners

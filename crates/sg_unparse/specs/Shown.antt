@@ -1,7 +1,8 @@
 -- Values as they are shown, and the scheme in which a node is shown.
-use Rattle.std.specs.Prelude.{ℕ, ◌%◌, true, false, if◌then◌else◌, List, [], ◌∷◌, ◌++◌, length, codes, slice_get, Option, option_map, option_and_then, unwrap_or}
+use Rattle.std.specs.Prelude.{ℕ, ◌%◌, true, false, if◌then◌else◌, List, [], ◌∷◌, ◌++◌, length, codes, slice_get, Option, None, option_map, option_and_then, unwrap_or}
 use Rattle.std.specs.Fmt.{signed_decimal}
 use Rattle.sg_kinds.specs.Values.{Bytes, Value, Truth, Number, Chars, Tree, Fault}
+use Rattle.sg_kinds.specs.Terms.{Term, Leaf, Node}
 use Rattle.sg_kinds.specs.Specification.{has_shape, is_lexical_shape}
 use Rattle.sg_kinds.specs.declared.spec.Spec.{Spec}
 use Rattle.sg_kinds.specs.declared.spec.Phylum.{Phylum}
@@ -42,3 +43,15 @@ value_text spec p (Fault kind) = fault_text kind
 abbrev pub scheme_of : Spec → ℕ → ℕ → Option Scheme
 scheme_of spec op n =
     option_and_then (λ (o : Operator). slice_get o.schemes (n % length o.schemes)) (slice_get spec.ops op)
+
+-- the scheme in which the root of a term is shown, and how many schemes its operator has; none of a leaf
+abbrev pub current_scheme : Spec → Term → Option Scheme
+current_scheme spec (Leaf p v) = None
+current_scheme spec (Node op n elided ts) = scheme_of spec op n
+
+abbrev pub count_of : Spec → ℕ → ℕ
+count_of spec op = unwrap_or (option_map (λ (o : Operator). length o.schemes) (slice_get spec.ops op)) 0
+
+abbrev pub scheme_count : Spec → Term → ℕ
+scheme_count spec (Leaf p v) = 0
+scheme_count spec (Node op n elided ts) = count_of spec op

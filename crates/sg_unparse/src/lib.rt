@@ -2,6 +2,8 @@
 #![tactic(auto)]
 
 pub mod laws;
+mod schemes;
 mod shown;
 
+pub use schemes::{current, scheme_count};
 pub use shown::{fault_text, scheme_of, write_text, write_value};
