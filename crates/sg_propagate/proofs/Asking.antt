@@ -1,6 +1,10 @@
 -- What the question needs whether an argument shows another value.
-use Rattle.std.specs.Prelude.{◌≡◌, ◌≢◌, ℕ, suc, ◌+◌, ◌<◌, length, Option, Some, slice_get, option_map, unwrap_or, Contains}
-use Rattle.std.proofs.Common.{sym, ap, ◌∙◌, subst, arith}
+use Rattle.std.specs.Prelude.{◌≡◌, ◌≢◌, ℕ, suc, ◌+◌, ◌<◌, ◌≤◌, List, [], ◌∷◌, length, Option, Some, slice_get, option_map, unwrap_or, Contains}
+use Rattle.std.proofs.Common.{sym, ap, ◌∙◌, subst, inl, inr, get_or, take, arith}
+use Rattle.std.proofs.lemmas.List.{take_all}
+use Rattle.std.proofs.lemmas.List.Elements.{Contains-append_cases}
+use Rattle.sg_kinds.proofs.Kids.{take_more}
+use Rattle.sg_groves.proofs.Lists.{contains_either, contains_none}
 use Rattle.std.proofs.lemmas.Option.{same_Some}
 use Rattle.sg_kinds.specs.Instances.{attr_count}
 use Rattle.sg_kinds.specs.Dependencies.{IsAttr, phylum_there}
@@ -89,3 +93,23 @@ pub own_shows : (g : Grove) (top left n : NodeId) (w : Worklist) (o : Occurrence
 own_shows g top left n w o e (own zero_at has) = has
 own_shows g top left n w o e (at_top j f is_top differs) = absurd (omega (arith, e, f))
 own_shows g top left n w o e (below j c f is_c apart has) = absurd (omega (arith, e, f))
+
+-- of these none shows another value
+abbrev pub ShowsNone : Grove → NodeId → NodeId → NodeId → Worklist → List Occurrence → Type 0
+ShowsNone g top left n w os = (o : Occurrence) → Contains os o → ShowsOther g top left n w o → ⊥
+
+module _ (g : Grove) (top left n : NodeId) (w : Worklist) (os : List Occurrence) where
+  pub shows_none_yet : ShowsNone g top left n w (take 0 os)
+  shows_none_yet o has shows = contains_none o has
+
+  pub shows_none_more : (i : ℕ) (o : Occurrence) → i < length os → o ≡ get_or os i o → ShowsNone g top left n w (take i os) → (ShowsOther g top left n w o → ⊥) → ShowsNone g top left n w (take (i + 1) os)
+  shows_none_more i o low at before not a has shows = elim (Contains-append_cases (take i os) (o ∷ []) a (subst (λ xs. Contains xs a) (take_more os i o low at) has)) [
+    | inl early ↦ before a early shows
+    | inr late ↦ elim (contains_either o [] a late) [
+      | inl same ↦ not (subst (ShowsOther g top left n w) (sym same) shows)
+      | inr none ↦ contains_none a none
+    ]
+  ]
+
+  pub shows_none_all : (i : ℕ) → length os ≤ i → ShowsNone g top left n w (take i os) → ShowsNone g top left n w os
+  shows_none_all i long none o has = none o (subst (λ xs. Contains xs o) (sym (take_all i os long)) has)

@@ -32,6 +32,7 @@ use Rattle.sg_terms.specs.Occurrences.{IsBearer, node_there}
 use Rattle.sg_terms.specs.Storable.{IsSlot, IsNoSlot, IsStorable}
 use Rattle.sg_terms.proofs.Typed as typed
 use Rattle.sg_terms.proofs.Written.{op_node}
+use Rattle.sg_trail.specs.declared.entry.Entry.{Entry}
 use Rattle.sg_trail.specs.Trails.{IsAnySlot, IsCovered, Way}
 use Rattle.sg_attrib.specs.Visited.{IsArgument, IsNeeded, IsStepGiven, Gives}
 use Rattle.sg_attrib.proofs.Listed.{gained_nothing}
@@ -166,3 +167,12 @@ argument_there g is n op o at vertex =
   where
     vertex_type : (spec : Spec) (op : ℕ) (o : Occurrence) → IsVertex (rules_of spec) op o → (type : ℕ) × (slot_type spec op o.at o.slot ≡ Some type)
     vertex_type spec op o vertex = slice_get-there (slots_there spec op o.at) o.slot (omega (arith, vertex, slots_long spec op o.at))
+
+-- the equation tells what it defines at a node
+pub same_entry : (g : Grove) (n : NodeId) (x : Rule) (m c : NodeId) (slot k : ℕ) → IsBearer g n x m slot → IsBearer g n x c k → (a b : ℕ) → number_at g m slot ≡ Some a → number_at g c k ≡ Some b
+    → ◌≡◌ {A = Entry} (record { node = m; slot = slot; number = a }) (record { node = c; slot = k; number = b })
+same_entry g n x m c slot k one two a b a_is b_is =
+    let node : m ≡ c = same_Some m c (sym one.there ∙ two.there) in
+    let same : slot ≡ k = one.slot_is ∙ sym two.slot_is in
+    let number : a ≡ b = same_Some a b (sym a_is ∙ ap (number_at g m) same ∙ ap (λ d. number_at g d k) node ∙ b_is) in
+    λ i. record { node = node i; slot = same i; number = number i }

@@ -12,3 +12,9 @@ pub mod Announced
 pub mod Started
 pub mod SetUp
 pub mod Asking
+pub mod Tops
+pub mod Rising
+pub mod Finishing
+pub mod Swapping
+pub mod Exchanging
+pub mod Replaced

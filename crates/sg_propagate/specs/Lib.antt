@@ -1,3 +1,4 @@
 pub mod Scenes
 pub mod Moves
 pub mod Asked
+pub mod Exchanged

@@ -1,4 +1,4 @@
-use Rattle.std.proofs.Common.{◌≡◌, ◌≢◌, ◌-◌, ℕ, suc, Bool, true, eqb, sym, ap, ◌∙◌, subst, arith}
+use Rattle.std.proofs.Common.{◌≡◌, ◌-◌, Bool, true, eqb, sym, ap, ◌∙◌, subst, arith}
 use Rattle.std.specs.Prelude.{is_some, not}
 use Rattle.std.proofs.lemmas.Bool.{eqb-false, eqb-true, ne_eqb, not-true}
 use Rattle.sg_forest.specs.declared.node_id.NodeId.{NodeId}
@@ -46,15 +46,13 @@ returns-else-eq c =
 pub returns-then-eq : goal.returns-then-eq
 returns-then-eq c =
     let v = c.requires.vertex in
-    let k = c.args.o.at - 1 in
     let some = c.if-o-eq0.false in
     let same = same_by_test c.kid-m.result c.args.top c.eq.result c.eq.ensures c.if-eq.true in
-    let here = c.args.terms.now in
-    let one = subst HasOneNumber c.pool.ensures c.sound.ensures.one_number in (
-      λ yes. numbers_show here c.facts.ensures c.args.top c.args.left c.args.n c.args.work.now v.0 c.args.o c.requires.tops v.1 v.2 k (omega (arith, some)) c.kid-m.result c.kid-m.ensures.child same one c.stored.result c.stored-then-eq.result
-          c.stored.ensures.number c.stored-then-eq.ensures.number c.stored.ensures.within c.stored-then-eq.ensures.within
-          (eqb-false c.stored.result c.stored-then-eq.result (not-true (eqb c.stored.result c.stored-then-eq.result) (sym c.ne.ensures ∙ yes))),
-      λ shows. c.ne.ensures ∙ ap not (ne_eqb c.stored.result c.stored-then-eq.result
-          (show_numbers here c.facts.ensures c.args.top c.args.left c.args.n c.args.work.now v.0 c.args.o c.requires.tops v.1 v.2 k (omega (arith, some)) c.kid-m.result c.kid-m.ensures.child same one c.stored.result c.stored-then-eq.result
-          c.stored.ensures.number c.stored-then-eq.ensures.number c.stored.ensures.within c.stored-then-eq.ensures.within shows)),
+    let one = subst HasOneNumber c.pool.ensures c.sound.ensures.one_number in
+    let a = c.stored in
+    let b = c.stored-then-eq in (
+      λ differ. numbers_show c.args.terms.now c.facts.ensures c.args.top c.args.left c.args.n c.args.work.now v.0 c.args.o c.requires.tops v.1 v.2 (c.args.o.at - 1) (omega (arith, some)) c.kid-m.result c.kid-m.ensures.child same one a.result b.result a.ensures.number b.ensures.number
+          a.ensures.within b.ensures.within (eqb-false a.result b.result (not-true (eqb a.result b.result) (sym c.ne.ensures ∙ differ))),
+      λ shows. c.ne.ensures ∙ ap not (ne_eqb a.result b.result (show_numbers c.args.terms.now c.facts.ensures c.args.top c.args.left c.args.n c.args.work.now v.0 c.args.o c.requires.tops v.1 v.2 (c.args.o.at - 1) (omega (arith, some)) c.kid-m.result c.kid-m.ensures.child same one
+          a.result b.result a.ensures.number b.ensures.number a.ensures.within b.ensures.within shows)),
     )
