@@ -1,0 +1,12 @@
+pub mod Within
+pub mod Around
+pub mod Neighbours
+pub mod Below
+pub mod Firsts
+pub mod Leading
+pub mod Schemed
+pub mod Climbing
+pub mod Settling
+pub mod Siblings
+pub mod Fronts
+pub mod Elements

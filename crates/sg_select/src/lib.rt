@@ -1,0 +1,13 @@
+//! What may be selected, and where the moves between these places lead.
+#![tactic(auto)]
+
+mod inside;
+pub mod laws;
+mod moves;
+mod paths;
+mod runs;
+mod schemes;
+
+pub use moves::{first, next, prev, rests, settle, sibling, up};
+pub use paths::{node_along, path_of, settle_path};
+pub use runs::{elements_from, spine_of};

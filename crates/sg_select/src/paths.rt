@@ -1,0 +1,75 @@
+// Where paths from a root lead.
+ghost use Rattle.std.specs.Prelude.{◌≡◌, IfOk, IfSome, false};
+ghost use Rattle.sg_kinds.specs.Places.{Place, place_of};
+ghost use Rattle.sg_kinds.specs.Terms.{Term};
+ghost use Rattle.sg_forest.specs.Trees.{Climbs, IsLive, IsRoot};
+ghost use Rattle.sg_groves.specs.Grove.{nodes};
+ghost use Rattle.sg_groves.specs.Holds.{Holds, IsPlaced};
+ghost use Rattle.sg_select.specs.Leads.{LeadsTo};
+ghost use Rattle.sg_select.specs.Paths.{GoesTo, there};
+ghost use Rattle.sg_select.specs.RestingPlaces.{settled};
+
+use crate::inside::kid_count;
+use crate::moves::settle;
+use sg_forest::NodeId;
+use sg_kinds::memory::NoMemory;
+use sg_kinds::row::{Path, Row};
+use sg_terms::Terms;
+use std::alloc::Global;
+
+// the node at the longest front of a path that the term has, and whether that is the whole path
+fn deepest(terms: &Terms, root: NodeId, path: &[u32]) -> (NodeId, bool)
+    requires { IsRoot (nodes terms.now) root }
+    ensures live { IsLive (nodes terms.now) result.0 }
+    ensures goes { (t : Term) → Holds terms.now root t
+        → GoesTo terms.now root t (place_of path.now) result.0 result.1 }
+{
+    terms.facts();
+    let mut at = root;
+    for &k in path {
+        if k as usize >= kid_count(terms, at) {
+            return (at, false);
+        }
+        at = terms.kid(at, k as usize);
+    }
+    (at, true)
+}
+
+/// The node to which a path of child numbers leads from a root; None exactly where the term has no such place.
+pub fn node_along(terms: &Terms, root: NodeId, path: &[u32]) -> Option<NodeId>
+    requires { IsRoot (nodes terms.now) root }
+    ensures live { IfSome result (IsLive (nodes terms.now)) }
+    ensures leads { (t : Term) → Holds terms.now root t
+        → LeadsTo terms.now root (there t (place_of path.now)) result }
+{
+    terms.facts();
+    let (n, is_whole) = deepest(terms, root, path);
+    if is_whole { Some(n) } else { None }
+}
+
+/// The nearest resting place at or above the place that a path names, also where the term has no such place.
+pub fn settle_path(terms: &Terms, root: NodeId, path: &[u32]) -> NodeId
+    requires { IsRoot (nodes terms.now) root }
+    ensures live { IsLive (nodes terms.now) result }
+    ensures settled { (t : Term) → Holds terms.now root t
+        → Climbs (nodes terms.now) (settled terms.now.spec t (place_of path.now)) result root }
+{
+    settle(terms, deepest(terms, root, path).0)
+}
+
+/// The path of a node from its root, the one call here that takes memory.
+pub fn path_of(alloc: Global, terms: &Terms, n: NodeId) -> Result<Path, NoMemory>
+    requires { IsLive (nodes terms.now) n }
+    ensures { IfOk result (λ path. (root : _) (t : Term) (u : Place) → IsPlaced terms.now root t u n
+        → place_of path ≡ u) }
+{
+    terms.facts();
+    let mut way: Vec<u32> = Vec::new(alloc);
+    let mut at = n;
+    while let Some((above, k)) = terms.parent(at) {
+        way.push(k as u32)?;
+        at = above;
+    }
+    way.reverse();
+    Ok(Row::new(way))
+}

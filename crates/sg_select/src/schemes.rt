@@ -1,0 +1,110 @@
+// What the schemes of a node and of its parent say of it.
+ghost use Rattle.std.specs.Prelude.{◌≡◌, ◌<◌, length, slice_get, unwrap_or, Some};
+ghost use Rattle.sg_kinds.specs.Sound.{is_pair};
+ghost use Rattle.sg_kinds.specs.Specification.{args_of};
+ghost use Rattle.sg_kinds.specs.Terms.{Term};
+ghost use Rattle.sg_forest.specs.Trees.{IsLive};
+ghost use Rattle.sg_groves.specs.Grove.{nodes};
+ghost use Rattle.sg_groves.specs.Holds.{Holds};
+ghost use Rattle.sg_unparse.specs.Unparsed.{child_places};
+ghost use Rattle.sg_select.specs.RestingPlaces.{begins_resting as begins, child_place as place_of_child, is_shown as shows, leads_on as leads_to_kid, is_rest as is_rest_of, rests_under as rests_there};
+
+use sg_forest::NodeId;
+use sg_kinds::ids::OpId;
+use sg_kinds::marks::{ChildPlace, Shape};
+use sg_kinds::row::item;
+use sg_kinds::spec::{Item, Spec};
+use sg_terms::Terms;
+use sg_unparse::current;
+
+// the place of child `k` among the items of a scheme; `..` where there is none
+fn place_in(items: &[Item], k: usize) -> ChildPlace
+    ensures { result ≡ unwrap_or (slice_get (child_places items.now) k) ChildPlace.Hidden }
+{
+    let mut left = k;
+    for item in items {
+        if let Item::Child(place) = item {
+            if left == 0 {
+                return *place;
+            }
+            left -= 1;
+        }
+    }
+    ChildPlace::Hidden
+}
+
+// the place of a child in the current scheme of a node; `..` where it has none there.
+fn child_place(terms: &Terms, n: NodeId, k: usize) -> ChildPlace
+    requires { IsLive (nodes terms.now) n }
+    ensures { (t : Term) → Holds terms.now n t → result ≡ place_of_child terms.now.spec t k }
+{
+    terms.facts();
+    match current(terms, n) {
+        Some(scheme) => place_in(scheme.items.as_slice(), k),
+        None => ChildPlace::Hidden,
+    }
+}
+
+/// Whether a node shows a child: the child has a place in its current scheme, and that is not `..`.
+pub fn is_shown(terms: &Terms, n: NodeId, k: usize) -> bool
+    requires { IsLive (nodes terms.now) n }
+    ensures { (t : Term) → Holds terms.now n t → result ≡ shows (place_of_child terms.now.spec t k) }
+{
+    !matches!(child_place(terms, n, k), ChildPlace::Hidden)
+}
+
+/// Whether a selection may go on from a node that can be reached to a child: the node is not elided and shows it.
+pub fn leads_on(terms: &Terms, n: NodeId, k: usize) -> bool
+    requires { IsLive (nodes terms.now) n }
+    ensures { (t : Term) → Holds terms.now n t → result ≡ leads_to_kid terms.now.spec t k }
+{
+    !terms.elided(n) && is_shown(terms, n, k)
+}
+
+// whether the current scheme of a node begins with `@`; a leaf counts so
+fn begins_resting(terms: &Terms, n: NodeId) -> bool
+    requires { IsLive (nodes terms.now) n }
+    ensures { (t : Term) → Holds terms.now n t → result ≡ begins terms.now.spec t }
+{
+    terms.facts();
+    match current(terms, n) {
+        Some(scheme) => scheme.rests,
+        None => terms.op(n).is_none(),
+    }
+}
+
+/// Whether an operator is the binary one of a list.
+pub fn is_pair_of_list(spec: &Spec, op: OpId) -> bool
+    requires { op < length spec.now.ops }
+    ensures { result ≡ is_pair spec.now op }
+{
+    let operator = item(spec.ops.as_slice(), op.number as usize);
+    let is_list = match spec.phyla.place(operator.phylum.number) {
+        Some(phylum) => matches!(phylum.shape, Shape::Listed | Shape::OptionalListed),
+        None => false,
+    };
+    is_list && operator.args.len() == 2
+}
+
+// whether child `k` of a node is the rest of a list
+fn is_rest(terms: &Terms, n: NodeId, k: usize) -> bool
+    requires { IsLive (nodes terms.now) n }
+    ensures { (t : Term) → Holds terms.now n t → result ≡ is_rest_of terms.now.spec t k }
+{
+    terms.facts();
+    match terms.op(n) {
+        Some(op) => k == 1 && is_pair_of_list(terms.spec(), op),
+        None => false,
+    }
+}
+
+/// Whether a child of a node that can be reached is a resting place.
+pub fn rests_under(terms: &Terms, n: NodeId, k: usize, kid: NodeId) -> bool
+    requires node { IsLive (nodes terms.now) n }
+    requires kid { IsLive (nodes terms.now) kid }
+    ensures { (t y : Term) → Holds terms.now n t → Holds terms.now kid y
+        → result ≡ rests_there terms.now.spec t k y }
+{
+    let rests = matches!(child_place(terms, n, k), ChildPlace::Resting);
+    rests && !is_rest(terms, n, k) && begins_resting(terms, kid)
+}
