@@ -1,13 +1,13 @@
 -- The resting places of a term around one of its places: those before it, it, those inside, and those after it.
-use Rattle.std.specs.Prelude.{◌≡◌, refl, ℕ, zero, suc, ◌+◌, Bool, true, false, not, ◌&&◌, cond, List, [], ◌∷◌, ◌++◌, length, take, drop, filter, Option, Some, None, slice_get, option_map, option_and_then, unwrap_or}
-use Rattle.std.proofs.Common.{sym, ap, ◌∙◌, subst, arith, append_assoc, append-nil}
+use Rattle.std.specs.Prelude.{◌≡◌, refl, ℕ, zero, suc, ◌+◌, Bool, true, false, not, ◌&&◌, List, [], ◌∷◌, ◌++◌, length, take, drop, Option, Some, None, slice_get, option_map, option_and_then, unwrap_or}
+use Rattle.std.proofs.Common.{sym, ap, ◌∙◌, arith, append_assoc, append-nil}
 use Rattle.std.proofs.lemmas.Bool.{false≢true}
 use Rattle.std.proofs.lemmas.Option.{none-some, same_Some}
 use Rattle.sg_kinds.specs.Terms.{Term, Terms, Leaf, Node, NoTerm, AndTerm, terms_of}
-use Rattle.sg_kinds.specs.Places.{Place, child, sub, places_in}
+use Rattle.sg_kinds.specs.Places.{Place, child, sub}
 use Rattle.sg_kinds.specs.declared.spec.Spec.{Spec}
 use Rattle.sg_terms.specs.Told.{elided_of}
-use Rattle.sg_select.specs.RestingPlaces.{child_place, is_shown, leads_on, rests_under, is_open, rests, resting}
+use Rattle.sg_select.specs.RestingPlaces.{child_place, is_shown, leads_on, rests_under, is_open, resting}
 use Rattle.sg_select.specs.Around.{when, kids, inside, among, part, parts, own, earlier, later, before, after}
 use Rattle.sg_select.proofs.Within.{open_child, rests_child, listed}
 

@@ -3,7 +3,7 @@ use Rattle.std.specs.Prelude.{◌≡◌, refl, ℕ, zero, suc, ◌+◌, ◌<◌,
 use Rattle.std.proofs.Common.{sym, ap, ◌∙◌, subst, inl, inr, arith, length-append}
 use Rattle.std.proofs.Math.Seq.{get_or-append_seam}
 use Rattle.std.proofs.lemmas.List.Elements.{Contains-append_cases}
-use Rattle.sg_kinds.specs.Terms.{Term, Terms, Leaf, Node, NoTerm, AndTerm, terms_of}
+use Rattle.sg_kinds.specs.Terms.{Term, Terms, Leaf, Node, NoTerm, AndTerm}
 use Rattle.sg_kinds.specs.Places.{Place, sub}
 use Rattle.sg_kinds.specs.declared.spec.Spec.{Spec}
 use Rattle.sg_groves.specs.Evaluated.{IsAtOrBelow}

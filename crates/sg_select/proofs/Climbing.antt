@@ -1,29 +1,23 @@
 -- Walks up from a node, and what each move knows on its way.
-use Rattle.std.specs.Prelude.{◌≡◌, refl, ℕ, suc, ◌+◌, ◌<◌, ◌≤◌, length, Bool, true, false, ◌&&◌, cond, List, [], ◌∷◌, ◌++◌, drop, take, Contains, Option, Some, None, slice_get, option_map, unwrap_or}
-use Rattle.std.specs.List.{find, last_or}
-use Rattle.std.proofs.Common.{sym, ap, ◌∙◌, subst, inl, inr, arith, append_assoc}
-use Rattle.std.proofs.lemmas.Bool.{false≢true}
-use Rattle.std.proofs.lemmas.Option.{none-some, same_Some, slice_get_within}
-use Rattle.std.proofs.lemmas.List.Elements.{Contains-append_left}
+use Rattle.std.specs.Prelude.{◌≡◌, refl, ℕ, ◌+◌, ◌<◌, ◌≤◌, length, Bool, true, false, ◌&&◌, [], ◌∷◌, ◌++◌, drop, take, Option, Some, None, slice_get, option_map, unwrap_or}
+use Rattle.std.specs.List.{last_or}
+use Rattle.std.proofs.Common.{sym, ap, ◌∙◌, subst, arith}
+use Rattle.std.proofs.lemmas.Option.{same_Some, slice_get_within}
 use Rattle.sg_kinds.specs.Terms.{Term}
 use Rattle.sg_kinds.specs.Places.{Place, sub}
 use Rattle.sg_kinds.specs.declared.spec.Spec.{Spec}
 use Rattle.sg_forest.specs.declared.node_id.NodeId.{NodeId}
 use Rattle.sg_forest.specs.Node as forest
-use Rattle.sg_forest.specs.Trees.{Climbs, IsChild, IsLive, IsRoot}
-use Rattle.sg_groves.specs.Evaluated.{IsAtOrBelow}
+use Rattle.sg_forest.specs.Trees.{IsChild, IsLive, IsRoot}
 use Rattle.sg_groves.specs.declared.kind.Kind.{Kind}
 use Rattle.sg_groves.specs.declared.part.Part.{Part}
 use Rattle.sg_groves.specs.Grove.{Grove, nodes, IsGrove}
 use Rattle.sg_groves.specs.Holds.{Holds, IsPlaced}
-use Rattle.sg_groves.proofs.Lists.{contains_first}
-use Rattle.sg_terms.specs.Told.{elided_of}
-use Rattle.sg_select.specs.RestingPlaces.{above, is_open, leads_on, rests, sibling_from, next_from, prev_from, up_from, is_shown, child_place}
-use Rattle.sg_select.specs.Around.{when, kids, inside, own, parts, earlier, later, before, after}
-use Rattle.sg_select.proofs.Around.{IsReached, reached_from}
-use Rattle.sg_select.proofs.Within.{open_child}
+use Rattle.sg_select.specs.RestingPlaces.{is_open, leads_on, rests}
+use Rattle.sg_select.specs.Around.{when, kids, own, parts, earlier, later, before, after}
+use Rattle.sg_select.proofs.Around.{reached_from}
 use Rattle.sg_select.proofs.Firsts.{last_left, last_right, one_up}
-use Rattle.sg_select.proofs.Leading.{sub_there, above_placed, top_placed, held, kid_placed, kid_there, leads_none, leads_some, no_lead, a_lead}
+use Rattle.sg_select.proofs.Leading.{sub_there, above_placed, top_placed, held}
 use Rattle.sg_build.proofs.Told.{opened, the_term}
 use Rattle.sg_kinds.proofs.Elementary.{slice_get-All, slice_get-there}
 use Rattle.sg_kinds.specs.Specification.{args_of}

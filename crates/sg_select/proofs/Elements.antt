@@ -1,13 +1,13 @@
 -- Elements of lists.
-use Rattle.std.specs.Prelude.{◌≡◌, refl, ℕ, zero, suc, ◌+◌, ◌<◌, Bool, true, false, ◌&&◌, cond, nat_eq, List, [], ◌∷◌, length, Option, Some, None, slice_get, option_map, unwrap_or}
-use Rattle.std.proofs.Common.{sym, ap, ◌∙◌, subst, arith}
+use Rattle.std.specs.Prelude.{◌≡◌, refl, ℕ, zero, suc, ◌<◌, Bool, true, false, ◌&&◌, cond, nat_eq, ◌∷◌, length, Option, Some, None, slice_get, option_map, unwrap_or}
+use Rattle.std.proofs.Common.{sym, ap, ◌∙◌, arith}
 use Rattle.std.proofs.lemmas.Bool.{false≢true}
 use Rattle.std.proofs.lemmas.Option.{none-some, same_Some}
 use Rattle.sg_kinds.proofs.Elementary.{eq_is}
 use Rattle.sg_kinds.specs.Places.{Place, sub}
 use Rattle.sg_kinds.specs.Sound.{is_pair}
 use Rattle.sg_kinds.specs.Specification.{args_of, has_shape, is_list_shape, phylum_of}
-use Rattle.sg_kinds.specs.Terms.{Term, Terms, Leaf, Node, NoTerm, AndTerm}
+use Rattle.sg_kinds.specs.Terms.{Term, Leaf, Node, NoTerm, AndTerm}
 use Rattle.sg_kinds.specs.declared.spec.Spec.{Spec}
 use Rattle.sg_forest.specs.declared.node_id.NodeId.{NodeId}
 use Rattle.sg_forest.specs.Node as forest
@@ -17,7 +17,7 @@ use Rattle.sg_groves.specs.Grove.{Grove, nodes, IsGrove}
 use Rattle.sg_groves.specs.Holds.{Holds}
 use Rattle.sg_terms.specs.Found.{op_at}
 use Rattle.sg_terms.specs.Told as told
-use Rattle.sg_build.proofs.Told.{leaf_told, opened, the_term, told_only}
+use Rattle.sg_build.proofs.Told.{leaf_told, opened, told_only}
 use Rattle.sg_select.specs.Around.{kids}
 use Rattle.sg_select.specs.Paths.{elements, is_list_node, spine_from}
 

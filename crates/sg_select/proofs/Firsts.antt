@@ -1,8 +1,7 @@
 -- First and last elements, and what rests first behind a place.
-use Rattle.std.specs.Prelude.{◌≡◌, refl, ℕ, zero, suc, ◌+◌, ◌≤◌, Bool, true, false, not, ◌&&◌, cond, bytes_eq, List, [], ◌∷◌, ◌++◌, length, take, drop, Contains, Option, Some, None, slice_get, option_and_then}
+use Rattle.std.specs.Prelude.{◌≡◌, refl, ℕ, zero, suc, ◌+◌, ◌≤◌, Bool, true, false, cond, List, [], ◌∷◌, ◌++◌, length, take, drop, Option, Some, None, slice_get, option_and_then}
 use Rattle.std.specs.List.{find, last_or}
-use Rattle.std.proofs.Common.{sym, ap, ◌∙◌, subst, inl, inr, arith, append-nil}
-use Rattle.std.proofs.lemmas.Bool.{false≢true}
+use Rattle.std.proofs.Common.{sym, ap, ◌∙◌, subst, arith, append-nil}
 use Rattle.std.proofs.lemmas.Option.{none-some, same_Some}
 use Rattle.sg_kinds.specs.Terms.{Term, Terms, Leaf, Node, NoTerm, AndTerm, terms_of}
 use Rattle.sg_kinds.specs.Places.{Place, child, sub}
@@ -10,8 +9,8 @@ use Rattle.sg_kinds.specs.declared.spec.Spec.{Spec}
 use Rattle.sg_terms.specs.Told.{elided_of}
 use Rattle.sg_select.specs.RestingPlaces.{above, child_place, is_open, is_shown, rests, rests_under, up_from}
 use Rattle.sg_select.specs.Around.{when, kids, inside, among, part, parts}
-use Rattle.sg_select.proofs.Within.{open_child, rests_child}
-use Rattle.sg_select.proofs.Around.{IsReached, child_is, reached_to, split_at, taken, parts_append}
+use Rattle.sg_select.proofs.Within.{rests_child}
+use Rattle.sg_select.proofs.Around.{child_is, reached_to, taken, parts_append}
 
 -- the first of two lists, and the last of two
 pub first_left : (us vs : List Place) (v : Place) → slice_get us 0 ≡ Some v → slice_get (us ++ vs) 0 ≡ Some v

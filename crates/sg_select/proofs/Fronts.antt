@@ -1,20 +1,15 @@
 -- Fronts of places that a term has, and where places settle that it has not.
 use Rattle.std.specs.Prelude.{◌≡◌, refl, ℕ, zero, suc, ◌+◌, ◌<◌, ◌≤◌, Bool, true, false, ◌&&◌, cond, List, [], ◌∷◌, ◌++◌, length, take, drop, reverse, Option, Some, None, slice_get, option_map, option_and_then, unwrap_or}
 use Rattle.std.specs.List.{find}
-use Rattle.std.proofs.Common.{sym, ap, ◌∙◌, subst, arith, get_or}
-use Rattle.std.proofs.lemmas.Bool.{false≢true}
-use Rattle.std.proofs.lemmas.List.{reverse-append, reverse-reverse, take-append-drop}
-use Rattle.sg_kinds.proofs.Kids.{take_more, drop_more}
+use Rattle.std.proofs.Common.{sym, ap, ◌∙◌, arith, get_or}
+use Rattle.std.proofs.lemmas.List.{reverse-append, take-append-drop}
+use Rattle.sg_kinds.proofs.Kids.{take_more}
 use Rattle.sg_kinds.specs.Terms.{Term}
 use Rattle.sg_kinds.specs.Places.{Place, child, place_of, sub}
 use Rattle.sg_kinds.specs.declared.spec.Spec.{Spec}
 use Rattle.sg_forest.specs.declared.node_id.NodeId.{NodeId}
-use Rattle.sg_forest.specs.Trees.{Climbs}
-use Rattle.sg_groves.specs.Grove.{Grove, nodes, IsGrove}
-use Rattle.sg_groves.specs.Holds.{Holds, IsPlaced}
-use Rattle.sg_build.proofs.Told.{the_term}
+use Rattle.sg_groves.specs.Grove.{Grove}
 use Rattle.sg_select.specs.Kept.{nearest}
-use Rattle.sg_select.specs.Leads.{LeadsTo}
 use Rattle.sg_select.specs.Paths.{EndsAt, GoesTo, there}
 use Rattle.sg_select.specs.RestingPlaces.{above, is_open, rests, rests_under, settled, stands_resting}
 

@@ -1,7 +1,6 @@
 -- Nodes at places of the tree of a root, and what they hold.
-use Rattle.std.specs.Prelude.{◌≡◌, refl, ℕ, zero, suc, ◌<◌, ◌≤◌, List, [], ◌∷◌, length, Option, Some, None, slice_get, option_and_then, MatchOption}
+use Rattle.std.specs.Prelude.{◌≡◌, refl, ℕ, ◌≤◌, [], ◌∷◌, length, Option, Some, None, slice_get, option_and_then, MatchOption}
 use Rattle.std.proofs.Common.{sym, ap, ◌∙◌, subst, arith}
-use Rattle.std.proofs.lemmas.Option.{none-some, same_Some}
 use Rattle.sg_kinds.specs.Terms.{Term, Leaf, Node}
 use Rattle.sg_kinds.specs.Places.{Place, sub}
 use Rattle.sg_forest.specs.declared.node_id.NodeId.{NodeId}
@@ -11,7 +10,7 @@ use Rattle.sg_groves.specs.declared.kind.Kind.{Kind}
 use Rattle.sg_groves.specs.declared.part.Part.{Part}
 use Rattle.sg_groves.specs.Grove.{Grove, nodes, IsGrove, IsLeaf, IsOperation}
 use Rattle.sg_groves.specs.Holds.{Holds, IsPlaced}
-use Rattle.sg_groves.proofs.Held.{live_holds, one_term, part_held}
+use Rattle.sg_groves.proofs.Held.{one_term, part_held}
 use Rattle.sg_terms.specs.Found.{op_at}
 use Rattle.sg_build.proofs.Told.{kids_in, the_term, told, told_only, kid_told, opened}
 use Rattle.sg_build.proofs.Placed.{way_over, way_ends}

@@ -1,5 +1,5 @@
 -- What the current scheme of a node says, by what is told of the node.
-use Rattle.std.specs.Prelude.{◌≡◌, refl, ℕ, suc, Bool, true, false, not, ◌&&◌, nat_eq, List, [], ◌∷◌, length, Option, Some, None, is_some, slice_get, option_map, option_and_then, unwrap_or, MatchOption}
+use Rattle.std.specs.Prelude.{◌≡◌, refl, ℕ, Bool, true, false, not, ◌&&◌, nat_eq, [], length, Option, Some, None, is_some, slice_get, option_map, option_and_then, unwrap_or, MatchOption}
 use Rattle.std.proofs.Common.{sym, ap, ◌∙◌, subst}
 use Rattle.std.proofs.lemmas.Option.{none-some, same_Some}
 use Rattle.sg_kinds.specs.Sound.{is_pair}
@@ -18,10 +18,9 @@ use Rattle.sg_terms.specs.Found.{op_at}
 use Rattle.sg_terms.specs.Told as told
 use Rattle.sg_unparse.specs.Shown.{current_scheme}
 use Rattle.sg_unparse.specs.Unparsed.{child_places}
-use Rattle.sg_build.proofs.Told.{leaf_term, opened, kids_in, the_term, told_only}
+use Rattle.sg_build.proofs.Told.{leaf_term, the_term, told_only}
 use Rattle.sg_select.specs.Around.{kids}
 use Rattle.sg_select.specs.RestingPlaces.{begins_resting, child_place, is_rest}
-use Rattle.sg_select.proofs.Leading.{kids_same}
 
 -- the other way round
 pub turned : (a b : Bool) → a ≡ not b → b ≡ not a

@@ -1,7 +1,7 @@
 -- The nearest resting place above a place, by a walk up that keeps the lowest good one met.
-use Rattle.std.specs.Prelude.{◌≡◌, ◌≢◌, ◌↔◌, refl, ℕ, suc, Bool, true, false, not, ◌&&◌, cond, List, [], ◌∷◌, ◌++◌, Option, Some, None, is_some, unwrap_or, option_map, nat_eq}
+use Rattle.std.specs.Prelude.{◌≡◌, ◌↔◌, refl, ℕ, Bool, true, false, ◌&&◌, cond, [], ◌∷◌, Option, Some, None, is_some, unwrap_or, option_map, nat_eq}
 use Rattle.std.specs.List.{find}
-use Rattle.std.proofs.Common.{sym, ap, ◌∙◌, subst, arith}
+use Rattle.std.proofs.Common.{sym, ap, ◌∙◌, subst}
 use Rattle.std.proofs.lemmas.Bool.{false≢true}
 use Rattle.sg_kinds.proofs.Elementary.{eq_is, eq_itself}
 use Rattle.sg_kinds.specs.Terms.{Term}

@@ -1,5 +1,5 @@
 -- The first place inside, and the sibling.
-use Rattle.std.specs.Prelude.{◌≡◌, ◌≢◌, ◌⊎◌, refl, ℕ, zero, suc, ◌+◌, Bool, true, false, not, ◌&&◌, cond, bytes_eq, List, [], ◌∷◌, ◌++◌, length, drop, Contains, Option, Some, None, slice_get, unwrap_or, option_map}
+use Rattle.std.specs.Prelude.{◌≡◌, refl, ℕ, zero, suc, ◌+◌, Bool, true, false, not, ◌&&◌, cond, bytes_eq, List, [], ◌∷◌, ◌++◌, drop, Contains, Option, Some, None, slice_get, unwrap_or, option_map}
 use Rattle.std.specs.List.{find}
 use Rattle.std.proofs.Common.{sym, ap, ◌∙◌, subst, inl, inr, arith, append_assoc}
 use Rattle.std.proofs.lemmas.Bool.{false≢true}
@@ -11,7 +11,7 @@ use Rattle.sg_kinds.proofs.Elementary.{bytes_is, bytes_itself}
 use Rattle.sg_groves.specs.Evaluated.{IsAtOrBelow, is_at_or_below}
 use Rattle.sg_groves.proofs.Below.{below_from, below_to, below_itself}
 use Rattle.sg_groves.proofs.Lists.{contains_first, contains_later, contains_none, contains_either, filter_from}
-use Rattle.sg_select.specs.RestingPlaces.{above, behind, first_from, is_below, is_open, is_same_place, leads_on, rests, resting, sibling_from, up_from}
+use Rattle.sg_select.specs.RestingPlaces.{above, first_from, is_below, is_open, is_same_place, leads_on, rests, resting, sibling_from, up_from}
 use Rattle.sg_select.specs.Around.{when, kids, inside, parts, own, before, after}
 use Rattle.sg_select.proofs.Around.{reached_from, zipped}
 use Rattle.sg_select.proofs.Climbing.{Knows, after_step}

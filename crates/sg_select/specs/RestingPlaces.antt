@@ -8,7 +8,7 @@ use Rattle.sg_kinds.specs.Sound.{is_pair}
 use Rattle.sg_kinds.specs.declared.spec.Spec.{Spec}
 use Rattle.sg_kinds.specs.declared.spec.Scheme.{Scheme}
 use Rattle.sg_kinds.specs.declared.marks.ChildPlace.{ChildPlace}
-use Rattle.sg_kinds.specs.declared.marks.ChildPlace.TheVariants.{Resting, Passed, Hidden}
+use Rattle.sg_kinds.specs.declared.marks.ChildPlace.TheVariants.{Resting, Hidden}
 use Rattle.sg_groves.specs.Evaluated.{is_at_or_below}
 use Rattle.sg_terms.specs.Told.{elided_of}
 use Rattle.sg_unparse.specs.Shown.{scheme_of}

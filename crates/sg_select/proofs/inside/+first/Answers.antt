@@ -1,8 +1,7 @@
-use Rattle.std.proofs.Common.{◌≡◌, ◌<◌, ◌+◌, length, drop, List, ◌++◌, Some, None, Option, ◌∷◌, [], sym, ap, ◌∙◌, subst, arith, refl}
+use Rattle.std.proofs.Common.{◌≡◌, ◌+◌, drop, ◌++◌, ◌∷◌, [], sym, ap, ◌∙◌, subst, arith}
 use Rattle.std.specs.List.{slice_get}
 use Rattle.std.proofs.lemmas.List.{drop_all}
 use Rattle.std.proofs.lemmas.Option.{same_Some}
-use Rattle.sg_kinds.specs.Places.{Place}
 use Rattle.sg_kinds.proofs.Elementary.{slice_get-there}
 use Rattle.sg_build.proofs.Told.{the_term}
 use Rattle.sg_select.specs.Around.{kids, part, parts, inside, when}

@@ -1,8 +1,6 @@
-use Rattle.std.proofs.Common.{◌≡◌, ◌<◌, ◌≤◌, ◌+◌, ◌-◌, length, take, List, ◌++◌, ◌∷◌, [], Some, None, Option, sym, ap, ◌∙◌, subst, arith, refl}
-use Rattle.std.specs.List.{slice_get, last_or}
+use Rattle.std.proofs.Common.{◌≡◌, ◌+◌, ◌-◌, take, ◌++◌, ◌∷◌, [], None, sym, ap, ◌∙◌, subst, arith, refl}
+use Rattle.std.specs.List.{last_or}
 use Rattle.std.proofs.lemmas.Option.{same_Some}
-use Rattle.sg_kinds.specs.Places.{Place}
-use Rattle.sg_kinds.specs.Terms.{Term}
 use Rattle.sg_kinds.proofs.Elementary.{slice_get-there}
 use Rattle.sg_build.proofs.Told.{the_term}
 use Rattle.sg_select.specs.Around.{kids, part, parts, inside, when}

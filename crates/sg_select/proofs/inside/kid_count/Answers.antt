@@ -1,4 +1,4 @@
-use Rattle.std.proofs.Common.{◌<◌, length, sym, ap, ◌∙◌, subst}
+use Rattle.std.proofs.Common.{length, sym, ap, ◌∙◌}
 use Rattle.sg_build.proofs.Told.{opened, the_term}
 use Rattle.sg_select.proofs.Leading.{kids_same}
 use Rattle.sg_select.proofs.Schemed.{kids_counted, leaf_kids, leaf_arity}

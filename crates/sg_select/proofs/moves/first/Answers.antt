@@ -1,7 +1,4 @@
-use Rattle.std.proofs.Common.{◌≡◌, ◌+◌, ◌∷◌, [], ◌++◌, drop, take, Some, None, sym, ap, ◌∙◌, subst, refl}
-use Rattle.std.specs.List.{slice_get, last_or}
-use Rattle.sg_forest.proofs.Paths.{parent_is_live}
-use Rattle.sg_groves.specs.Grove.{nodes}
+use Rattle.std.proofs.Common.{sym, ◌∙◌, subst}
 use Rattle.sg_build.proofs.Told.{the_term}
 use Rattle.sg_select.specs.Leads.{LeadsTo}
 use Rattle.sg_select.proofs.Leading.{held, no_lead, sub_there}

@@ -1,5 +1,5 @@
-use Rattle.std.proofs.Common.{◌≡◌, ◌+◌, ◌∷◌, [], ◌++◌, ◌<◌, arith, drop, take, Some, None, sym, ap, ◌∙◌, subst, refl}
-use Rattle.std.specs.List.{slice_get, last_or}
+use Rattle.std.proofs.Common.{◌+◌, arith, drop, ap, ◌∙◌, refl}
+use Rattle.std.specs.List.{slice_get}
 use Rattle.sg_forest.proofs.Paths.{parent_is_live}
 use Rattle.sg_groves.specs.Grove.{nodes}
 use Rattle.sg_build.proofs.Told.{the_term}

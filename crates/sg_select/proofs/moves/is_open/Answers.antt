@@ -1,9 +1,7 @@
-use Rattle.std.proofs.Common.{◌≡◌, ◌+◌, ◌∷◌, [], ◌++◌, drop, take, Some, None, sym, ap, ◌∙◌, subst, refl}
-use Rattle.std.specs.List.{slice_get, last_or}
+use Rattle.std.proofs.Common.{sym, ◌∙◌, refl}
 use Rattle.sg_forest.proofs.Paths.{parent_is_live}
 use Rattle.sg_groves.specs.Grove.{nodes}
 use Rattle.sg_build.proofs.Told.{the_term}
-use Rattle.sg_select.specs.RestingPlaces.{is_open}
 use Rattle.sg_select.proofs.Climbing.{IsReachedAlike, alike_up, shut_at, walk_first, walk_step, walk_up, walk_last}
 use Rattle.sg_select.proofs.moves.is_open.Goals as goal
 

@@ -1,6 +1,4 @@
-use Rattle.std.proofs.Common.{◌≡◌, ◌∷◌, [], Some, None, sym, ap, ◌∙◌, subst, refl}
-use Rattle.sg_forest.proofs.Paths.{parent_is_live}
-use Rattle.sg_groves.specs.Grove.{nodes}
+use Rattle.std.proofs.Common.{◌∷◌, Some, None, sym, ◌∙◌, subst}
 use Rattle.sg_build.proofs.Told.{the_term}
 use Rattle.sg_select.specs.Kept.{IsKept}
 use Rattle.sg_select.proofs.Leading.{held, kid_placed, sub_there}

@@ -1,9 +1,7 @@
-use Rattle.std.proofs.Common.{◌≡◌, ◌<◌, ◌≤◌, ◌+◌, ◌∷◌, [], ◌++◌, drop, take, Some, None, sym, ap, ◌∙◌, subst, refl, arith}
-use Rattle.std.specs.List.{slice_get, last_or}
+use Rattle.std.proofs.Common.{sym, ◌∙◌, refl, arith}
 use Rattle.sg_forest.proofs.Paths.{parent_is_live}
 use Rattle.sg_groves.specs.Grove.{nodes}
 use Rattle.sg_build.proofs.Told.{the_term}
-use Rattle.sg_select.specs.Around.{before, kids, parts}
 use Rattle.sg_select.proofs.Leading.{a_lead, held, leads_none, leads_some, no_lead, sub_there}
 use Rattle.sg_select.proofs.Neighbours.{prev_is, resting_open}
 use Rattle.sg_select.proofs.Around.{reached_from}

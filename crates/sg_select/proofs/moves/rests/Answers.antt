@@ -1,4 +1,3 @@
-use Rattle.std.proofs.Common.{◌≡◌}
 use Rattle.sg_select.specs.RestingPlaces.{rests}
 use Rattle.sg_select.proofs.Settling.{itself_rests, same_tests, tested}
 use Rattle.sg_select.proofs.moves.rests.Goals as goal

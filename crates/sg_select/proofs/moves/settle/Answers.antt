@@ -1,8 +1,6 @@
-use Rattle.std.proofs.Common.{◌≡◌, ◌∷◌, [], Some, None, sym, ap, ◌∙◌, subst, refl}
+use Rattle.std.proofs.Common.{None, sym, subst}
 use Rattle.sg_forest.proofs.Paths.{parent_is_live}
 use Rattle.sg_groves.specs.Grove.{nodes}
-use Rattle.sg_build.proofs.Told.{the_term}
-use Rattle.std.specs.Prelude.{unwrap_or}
 use Rattle.sg_forest.specs.Trees.{Climbs}
 use Rattle.sg_select.specs.RestingPlaces.{settled}
 use Rattle.sg_select.proofs.Climbing.{walk_first, walk_last, walk_up}

@@ -1,4 +1,4 @@
-use Rattle.std.proofs.Common.{◌≡◌, ◌-◌}
+use Rattle.std.proofs.Common.{◌-◌}
 use Rattle.std.specs.FinMap as finmap
 use Rattle.sg_forest.specs.Trees.{IsLive, room_below}
 use Rattle.sg_groves.specs.Grove.{nodes}

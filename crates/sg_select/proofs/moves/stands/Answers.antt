@@ -1,11 +1,10 @@
-use Rattle.std.proofs.Common.{◌≡◌, ◌+◌, ◌∷◌, [], ◌++◌, drop, take, Some, None, sym, ap, ◌∙◌, subst, refl}
-use Rattle.std.specs.List.{slice_get, last_or}
+use Rattle.std.proofs.Common.{◌≡◌, sym, ap, ◌∙◌, refl}
 use Rattle.sg_forest.proofs.Paths.{parent_is_live}
 use Rattle.sg_groves.specs.Grove.{nodes}
 use Rattle.sg_build.proofs.Told.{the_term}
 use Rattle.sg_select.specs.RestingPlaces.{is_open, rests}
 use Rattle.sg_select.proofs.Within.{rests_child}
-use Rattle.sg_select.proofs.Leading.{above_placed, held, sub_there, top_placed}
+use Rattle.sg_select.proofs.Leading.{top_placed}
 use Rattle.sg_select.proofs.Climbing.{walk_first, walk_step}
 use Rattle.sg_select.proofs.moves.stands.Goals as goal
 

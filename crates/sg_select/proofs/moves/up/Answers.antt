@@ -1,7 +1,6 @@
-use Rattle.std.proofs.Common.{◌≡◌, ◌∷◌, [], Some, None, sym, ap, ◌∙◌, subst, refl}
+use Rattle.std.proofs.Common.{◌≡◌, ap, ◌∙◌, refl}
 use Rattle.sg_forest.proofs.Paths.{parent_is_live}
 use Rattle.sg_groves.specs.Grove.{nodes}
-use Rattle.sg_build.proofs.Told.{the_term}
 use Rattle.sg_select.specs.RestingPlaces.{settled, up_from}
 use Rattle.sg_select.proofs.Climbing.{walk_first, walk_step}
 use Rattle.sg_select.proofs.Leading.{a_lead, no_lead, top_placed}

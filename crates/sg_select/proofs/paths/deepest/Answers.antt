@@ -1,9 +1,8 @@
-use Rattle.std.proofs.Common.{◌≡◌, ◌<◌, ◌≤◌, ◌+◌, ◌∷◌, ◌++◌, [], Some, None, true, false, length, take, drop, get_or, sym, ap, ◌∙◌, subst, refl, arith}
-use Rattle.std.specs.Prelude.{reverse, slice_get, option_and_then}
+use Rattle.std.proofs.Common.{◌+◌, take, drop, get_or, sym, ap, ◌∙◌, subst, arith}
+use Rattle.std.specs.Prelude.{reverse, option_and_then}
 use Rattle.std.proofs.lemmas.Bool.{false≢true}
 use Rattle.std.proofs.lemmas.List.{get_or_default}
-use Rattle.sg_kinds.specs.Places.{child, place_of, sub}
-use Rattle.sg_groves.specs.Grove.{nodes}
+use Rattle.sg_kinds.specs.Places.{child, place_of}
 use Rattle.sg_groves.specs.Holds.{IsPlaced}
 use Rattle.sg_build.proofs.Told.{the_term}
 use Rattle.sg_select.specs.Around.{kids}

@@ -1,4 +1,4 @@
-use Rattle.std.proofs.Common.{◌≡◌, ◌∷◌, ◌++◌, [], Some, None, sym, ap, ◌∙◌, subst, refl, arith}
+use Rattle.std.proofs.Common.{sym, ap, ◌∙◌, subst}
 use Rattle.sg_groves.specs.Grove.{nodes}
 use Rattle.sg_build.proofs.Told.{the_term}
 use Rattle.sg_kinds.specs.Places.{place_of, sub}

@@ -1,6 +1,5 @@
-use Rattle.std.proofs.Common.{◌≡◌, ◌∷◌, ◌++◌, [], Some, None, sym, ap, ◌∙◌, subst, refl, arith}
+use Rattle.std.proofs.Common.{sym, subst}
 use Rattle.sg_groves.specs.Grove.{nodes}
-use Rattle.sg_build.proofs.Told.{the_term}
 use Rattle.sg_kinds.specs.Places.{place_of}
 use Rattle.sg_forest.specs.Trees.{Climbs}
 use Rattle.sg_select.proofs.Fronts.{settled_deepest}

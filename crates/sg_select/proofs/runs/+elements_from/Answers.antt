@@ -1,6 +1,4 @@
-use Rattle.std.proofs.Common.{◌≡◌, ◌<◌, ◌≤◌, ◌+◌, ◌∷◌, [], Some, None, true, false, sym, ap, ◌∙◌, subst, refl, arith}
-use Rattle.sg_forest.proofs.Paths.{parent_is_live}
-use Rattle.sg_groves.specs.Grove.{nodes}
+use Rattle.std.proofs.Common.{◌≡◌, sym, ◌∙◌, arith}
 use Rattle.sg_build.proofs.Told.{the_term}
 use Rattle.std.specs.Prelude.{suc}
 use Rattle.sg_select.specs.Paths.{elements}

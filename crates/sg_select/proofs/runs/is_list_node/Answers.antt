@@ -1,7 +1,5 @@
-use Rattle.std.proofs.Common.{◌≡◌, ◌<◌, ◌≤◌, ◌+◌, ◌∷◌, [], Some, None, sym, ap, ◌∙◌, subst, refl, arith}
-use Rattle.sg_forest.proofs.Paths.{parent_is_live}
-use Rattle.sg_groves.specs.Grove.{nodes}
-use Rattle.sg_build.proofs.Told.{opened, the_term}
+use Rattle.std.proofs.Common.{◌<◌, sym, ap, ◌∙◌, subst}
+use Rattle.sg_build.proofs.Told.{opened}
 use Rattle.std.proofs.Common.{length}
 use Rattle.sg_kinds.specs.Sound.{is_pair}
 use Rattle.sg_kinds.specs.declared.spec.Spec.{Spec}

@@ -1,4 +1,4 @@
-use Rattle.std.proofs.Common.{◌≡◌, ◌<◌, ◌≤◌, ◌+◌, ◌∷◌, [], Some, None, true, false, sym, ap, ◌∙◌, subst, refl, arith}
+use Rattle.std.proofs.Common.{◌≡◌, ◌∷◌, sym, ap, ◌∙◌, refl}
 use Rattle.sg_forest.proofs.Paths.{parent_is_live}
 use Rattle.sg_groves.specs.Grove.{nodes}
 use Rattle.sg_build.proofs.Told.{the_term}
@@ -17,7 +17,7 @@ returns-then-is_list_node-clause-leads c = λ root t u placed.
     let up = walk_step g c.facts.ensures c.args.n c.args.n c.in-Some.above c.in-Some.k (λ root t u w. u ≡ w) live c.requires c.in-Some.ensures.child (walk_first g c.args.n (λ root t u w. u ≡ w) (λ root t u placed. refl)) root t u placed in
     a_lead g root c.in-Some.above (spine_from g.spec t u) up.place
     (ap (spine_from g.spec t) (up.known ∙ ap (λ k. k ∷ up.place) c.if-k-eq0.true)
-      ∙ spine_there g.spec t x up.place up.step.there (sym (c.is_list_node.ensures x up.step.holds) ∙ c.if-is_list_node.true))
+    ∙ spine_there g.spec t x up.place up.step.there (sym (c.is_list_node.ensures x up.step.holds) ∙ c.if-is_list_node.true))
     up.step.placed.way
 
 pub returns-else-k-eq0-clause-leads : goal.returns-else-k-eq0-clause-leads

@@ -1,4 +1,4 @@
-use Rattle.std.proofs.Common.{◌≡◌, sym, ap, ◌∙◌, subst}
+use Rattle.std.proofs.Common.{◌∙◌}
 use Rattle.std.specs.Prelude.{is_some}
 use Rattle.sg_select.proofs.Schemed.{begins_is, begins_none, turned}
 use Rattle.sg_select.proofs.schemes.begins_resting.Goals as goal

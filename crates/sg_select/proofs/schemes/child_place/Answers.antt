@@ -1,4 +1,4 @@
-use Rattle.std.proofs.Common.{sym, ap, ◌∙◌}
+use Rattle.std.proofs.Common.{ap, ◌∙◌}
 use Rattle.std.specs.Prelude.{slice_get, unwrap_or}
 use Rattle.sg_kinds.specs.declared.marks.ChildPlace.TheVariants.{Hidden}
 use Rattle.sg_unparse.specs.Unparsed.{child_places}
