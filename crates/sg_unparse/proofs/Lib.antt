@@ -1,9 +1,14 @@
 pub mod Begins
-pub mod Schemed
 pub mod Each
 pub mod Ends
+pub mod Lines
 pub mod Owners
+pub mod Put
+pub mod Runs
+pub mod Schemed
+pub mod Sheets
 pub mod Spans
 pub mod Streams
 pub mod TypedText
 pub mod Worked
+pub mod Writing

@@ -21,15 +21,13 @@ cells_of marks = take 1048576 (all_cells marks)
 abbrev pub is_cut : List Mark → Bool
 is_cut marks = nat_lt 1048576 (length (all_cells marks))
 
-abbrev pub bytes_of : List Cell → Bytes
-bytes_of cells = map (λ c. c.0) cells
+-- cells, whatever tells their owners
+module _ {N : Type 0} where
+  abbrev pub bytes_of : List (ℕ × N) → Bytes
+  bytes_of cells = map (λ c. c.0) cells
 
 abbrev pub is_newline : ℕ → Bool
 is_newline b = b == 10
-
--- one line more than there are newlines
-abbrev pub lines_of : List Cell → List Bytes
-lines_of cells = slice_split is_newline (bytes_of cells)
 
 -- where the cell of a number stands: its line is 1 plus the newlines before it, its column 1 plus the cells since the
 -- last one
@@ -37,14 +35,19 @@ pub record Position : Type 0 where
   pub line : ℕ
   pub column : ℕ
 
-abbrev pub position_at : List Cell → ℕ → Position
-position_at cells k =
-    let before = take k (bytes_of cells) in
-    record { line = 1 + count_by is_newline before; column = 1 + length (take_while (λ b. not (is_newline b)) (reverse before)) }
+module _ {N : Type 0} where
+  -- one line more than there are newlines
+  abbrev pub lines_of : List (ℕ × N) → List Bytes
+  lines_of cells = slice_split is_newline (bytes_of cells)
 
--- the position that the next cell would have
-abbrev pub position_behind : List Cell → Position
-position_behind cells = position_at cells (length cells)
+  abbrev pub position_at : List (ℕ × N) → ℕ → Position
+  position_at cells k =
+      let before = take k (bytes_of cells) in
+      record { line = 1 + count_by is_newline before; column = 1 + length (take_while (λ b. not (is_newline b)) (reverse before)) }
+
+  -- the position that the next cell would have
+  abbrev pub position_behind : List (ℕ × N) → Position
+  position_behind cells = position_at cells (length cells)
 
 -- from which cell on and up to which a node was written
 pub record Span : Type 0 where
@@ -65,7 +68,7 @@ pub record Region : Type 0 where
   pub first : Position
   pub last : Position
 
-abbrev pub region_in : List Cell → ℕ → ℕ → Region
+abbrev pub region_in : {N : Type 0} → List (ℕ × N) → ℕ → ℕ → Region
 region_in cells from to =
     record { first = position_at cells from; last = position_at cells (if nat_lt from to then to - 1 else from) }
 
@@ -75,10 +78,11 @@ region_of marks u =
     option_map (λ s. region_in cells (min s.from (length cells)) (min s.to (length cells))) (span_of marks u)
 
 -- the owner of the cell at a line and a column
-abbrev pub stands_at : List Cell → ℕ → ℕ → ℕ → Bool
-stands_at cells line column k =
-    let p = position_at cells k in nat_lt k (length cells) && p.line == line && p.column == column
+module _ {N : Type 0} where
+  abbrev pub stands_at : List (ℕ × N) → ℕ → ℕ → ℕ → Bool
+  stands_at cells line column k =
+      let p = position_at cells k in nat_lt k (length cells) && p.line == line && p.column == column
 
-abbrev pub owner_at : List Cell → ℕ → ℕ → Option Place
-owner_at cells line column =
-    option_map (λ c. c.1) (option_and_then (slice_get cells) (find (stands_at cells line column) (range_with_len 0 (length cells))))
+  abbrev pub owner_at : List (ℕ × N) → ℕ → ℕ → Option N
+  owner_at cells line column =
+      option_map (λ c. c.1) (option_and_then (slice_get cells) (find (stands_at cells line column) (range_with_len 0 (length cells))))

@@ -1,0 +1,22 @@
+use Rattle.std.proofs.Common.{◌≡◌, ◌≤◌, ◌<◌, ◌+◌, ◌-◌, ◌*◌, ℕ, suc, List, [], ◌∷◌, ◌++◌, sym, ap, ◌∙◌, subst, length, arith, get_or, refl, take, min, inl, inr, IsTrue}
+use Rattle.sg_kinds.specs.Places.{Place}
+use Rattle.sg_forest.specs.declared.node_id.NodeId.{NodeId}
+use Rattle.sg_unparse.specs.Cells.{Writing, as_they_are, plain, pieces, piece, newline, ended}
+use Rattle.sg_unparse.specs.Written.{IsWritten, Wrote, blanks_of}
+use Rattle.sg_unparse.proofs.Writing.{blanks_begun, blanks_more, blanks_written, blanks_all}
+use Rattle.sg_unparse.proofs.writer.Writer.blanks.Goals as goal
+
+pub loop-done-init : goal.loop-done-init
+loop-done-init c = record {
+  bound = omega arith;
+  written = λ at u is. blanks_begun at c.args.self.now u;
+}
+
+pub loop-done-preserved : goal.loop-done-preserved
+loop-done-preserved c = record {
+  bound = omega (arith, c.loop-done-test.true);
+  written = λ at u is. blanks_more at c.args.self.now c.loop-done.self c.put.new.self u c.loop-done.done (c.loop-done.invariant.written at u is) (c.in_ok-put.ensures at u is);
+}
+
+pub returns : goal.returns
+returns c = λ at u is. blanks_all at c.args.self.now c.loop-done.self u c.blank_count-count.result c.loop-done.done c.blank_count-count.ensures c.loop-done.invariant.bound c.loop-done-test.false (c.loop-done.invariant.written at u is)

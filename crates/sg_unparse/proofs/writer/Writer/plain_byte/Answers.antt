@@ -1,0 +1,13 @@
+use Rattle.std.proofs.Common.{◌≡◌, ◌≤◌, ◌<◌, ◌+◌, ◌-◌, ◌*◌, ℕ, suc, List, [], ◌∷◌, ◌++◌, sym, ap, ◌∙◌, subst, length, arith, get_or, refl, take, min, inl, inr, IsTrue}
+use Rattle.sg_kinds.specs.Places.{Place}
+use Rattle.sg_forest.specs.declared.node_id.NodeId.{NodeId}
+use Rattle.sg_unparse.specs.Cells.{Writing, as_they_are, plain, pieces, piece, newline, ended}
+use Rattle.sg_unparse.specs.Written.{IsWritten, Wrote, blanks_of}
+use Rattle.sg_unparse.proofs.Writing.{plain_newline, plain_other}
+use Rattle.sg_unparse.proofs.writer.Writer.plain_byte.Goals as goal
+
+pub returns-then-b-eq10 : goal.returns-then-b-eq10
+returns-then-b-eq10 c = λ at u is. plain_newline at c.args.self.now c.newline.new.self u c.args.b c.if-b-eq10.true (c.in_ok-newline.ensures at u is)
+
+pub returns : goal.returns
+returns c = λ at u is. plain_other at c.args.self.now c.put.new.self u c.args.b c.if-b-eq10.false (c.in_ok-put.ensures at u is)

@@ -1,0 +1,19 @@
+use Rattle.std.proofs.Common.{◌≡◌, ◌≤◌, ◌<◌, ◌+◌, ◌-◌, ◌*◌, ℕ, suc, List, [], ◌∷◌, ◌++◌, sym, ap, ◌∙◌, subst, length, arith, get_or, refl, take, min, inl, inr, IsTrue}
+use Rattle.sg_kinds.specs.Places.{Place}
+use Rattle.sg_forest.specs.declared.node_id.NodeId.{NodeId}
+use Rattle.sg_unparse.specs.Cells.{Writing, as_they_are, plain, pieces, piece, newline, ended}
+use Rattle.sg_unparse.specs.Written.{IsWritten, Wrote, Owns, blanks_of}
+use Rattle.sg_unparse.specs.Sheet.{starts_from}
+use Rattle.sg_unparse.proofs.Put.{full_put, put_written}
+use Rattle.sg_unparse.proofs.writer.Writer.put.Goals as goal
+
+pub returns-then-at-ge-PAGE : goal.returns-then-at-ge-PAGE
+returns-then-at-ge-PAGE c = λ at u is. full_put at c.args.self.now u c.args.b (omega (arith, c.if-at-ge-PAGE.true, c.len-at.ensures, c.args.self.now.text.ok.0))
+
+pub returns : goal.returns
+returns c =
+    let w = c.args.self.now in
+    let len : c.len-at.result ≡ length w.text.items = c.len-at.ensures ∙ w.text.ok.0 in
+    λ at u is. put_written at w _ u c.args.b c.args.owner is (omega (arith, c.if-at-ge-PAGE.false, len)) c.in_ok-push.ensures.items
+    (subst (λ n. Owns w.runs.items c.own.new.runs.items n c.args.owner) len c.in_ok-own.ensures)
+    (c.in_ok-begin_line.ensures ∙ ap (λ n. w.starts.items ++ starts_from n (c.args.b ∷ [])) len) refl refl refl

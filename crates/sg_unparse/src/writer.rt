@@ -1,0 +1,221 @@
+// What is written of a page, cell by cell.
+ghost use Rattle.std.specs.Prelude.{◌≡◌, ◌<◌, ◌≤◌, ◌+◌, ◌-◌, [], ◌∷◌, ◌++◌, min, length, OnOk, IfOk, IsTrue};
+ghost use Rattle.sg_kinds.specs.Places.{Place};
+ghost use Rattle.sg_forest.specs.declared.node_id.NodeId.{NodeId as Id};
+ghost use Rattle.sg_unparse.specs.Cells.{Writing, as_they_are, ended, newline as a_newline, piece as a_piece, pieces as all_pieces, plain as plain_text};
+ghost use Rattle.sg_unparse.specs.Page.{cells_of, is_cut};
+ghost use Rattle.sg_unparse.specs.Sheet.{starts_from, kept_cells};
+ghost use Rattle.sg_unparse.specs.Written.{Owns, IsLastOf, IsWritten, Wrote, blanks_of};
+
+use crate::page::{Run, Span};
+use sg_forest::NodeId;
+use sg_kinds::memory::NoMemory;
+use sg_kinds::spec::Piece;
+use std::alloc::Global;
+
+/// How many cells a page has at most.
+pub const PAGE: usize = 1_048_576;
+
+/// A page while it is written, and the margin in blanks.
+#[derive(Drop)]
+pub struct Writer {
+    pub text: Vec<u8>,
+    pub runs: Vec<Run>,
+    pub starts: Vec<u32>,
+    pub spans: Vec<Span>,
+    pub margin: usize,
+    pub more: bool,
+}
+
+// whether the last run is of a node
+fn is_last(runs: &[Run], owner: NodeId) -> bool
+    ensures { IsTrue result → IsLastOf runs.now owner }
+{
+    match runs.last() {
+        Some(run) => run.owner.key == owner.key,
+        None => false,
+    }
+}
+
+// lets a node own the cells from one on
+fn own(runs: &mut Vec<Run>, from: u32, owner: NodeId) -> Result<(), NoMemory>
+    ensures { OnOk result (Owns runs.old.items runs.new.items from owner) }
+{
+    if is_last(runs, owner) {
+        return Ok(());
+    }
+    runs.push(Run { from, owner })?;
+    Ok(())
+}
+
+// notes that a line begins behind a newline
+fn begin_line(starts: &mut Vec<u32>, at: u32, b: u8) -> Result<(), NoMemory>
+    requires { at < 1048576 }
+    ensures { OnOk result (starts.new.items ≡ starts.old.items ++ starts_from at (b ∷ [])) }
+{
+    if b == 10 {
+        starts.push(at + 1)?;
+    }
+    Ok(())
+}
+
+impl Writer {
+    /// Nothing is written, and the margin is 0.
+    pub fn new(alloc: Global) -> Writer
+        ensures { (at : Place → Id) → IsWritten at result [] 0 }
+    {
+        Writer {
+            text: Vec::new(alloc),
+            runs: Vec::new(alloc),
+            starts: Vec::new(alloc),
+            spans: Vec::new(alloc),
+            margin: 0,
+            more: false,
+        }
+    }
+
+    /// How many cells there are.
+    pub fn len(&self) -> u32
+        ensures { result ≡ min (length self.now.text.items) 1048576 }
+    {
+        self.text.len().min(PAGE) as u32
+    }
+
+    /// Writes a byte that a node owns; where the page is full, notes that it is cut.
+    pub fn put(&mut self, owner: NodeId, b: u8) -> Result<(), NoMemory>
+        ensures { OnOk result ((at : Place → Id) (u : Place) → at u ≡ owner →
+            Wrote at self.old self.new (as_they_are u (b ∷ []))) }
+    {
+        let at = self.text.len();
+        if at >= PAGE {
+            self.more = true;
+            return Ok(());
+        }
+        own(&mut self.runs, at as u32, owner)?;
+        begin_line(&mut self.starts, at as u32, b)?;
+        self.text.push(b)?;
+        Ok(())
+    }
+
+    /// Writes bytes as they are.
+    pub fn bytes(&mut self, owner: NodeId, text: &[u8]) -> Result<(), NoMemory>
+        ensures { OnOk result ((at : Place → Id) (u : Place) → at u ≡ owner →
+            Wrote at self.old self.new (as_they_are u text.now)) }
+    {
+        if self.more {
+            return Ok(());
+        }
+        for b in text {
+            self.put(owner, *b)?;
+        }
+        Ok(())
+    }
+
+    // as many blanks as the margin, or as the page has room for and one more
+    fn blank_count(&self) -> usize
+        ensures { result ≡ min self.now.margin ((1048576 - length self.now.text.items) + 1) }
+    {
+        let room = PAGE.saturating_sub(self.text.len());
+        self.margin.min(room + 1)
+    }
+
+    // writes as many blanks as the margin, as far as the page has room for them
+    fn blanks(&mut self, owner: NodeId) -> Result<(), NoMemory>
+        ensures { OnOk result ((at : Place → Id) (u : Place) → at u ≡ owner →
+            Wrote at self.old self.new (blanks_of u)) }
+    {
+        let count = self.blank_count();
+        let mut done = 0;
+        while done < count {
+            self.put(owner, b' ')?;
+            done += 1;
+        }
+        Ok(())
+    }
+
+    /// Writes a newline and the margin.
+    pub fn newline(&mut self, owner: NodeId) -> Result<(), NoMemory>
+        ensures { OnOk result ((at : Place → Id) (u : Place) → at u ≡ owner →
+            Wrote at self.old self.new (a_newline u)) }
+    {
+        self.put(owner, b'\n')?;
+        self.blanks(owner)?;
+        Ok(())
+    }
+
+    // writes a byte of a text
+    fn plain_byte(&mut self, owner: NodeId, b: u8) -> Result<(), NoMemory>
+        ensures { OnOk result ((at : Place → Id) (u : Place) → at u ≡ owner →
+            Wrote at self.old self.new (plain_text u (b ∷ []))) }
+    {
+        if b == 10 {
+            self.newline(owner)?;
+            return Ok(());
+        }
+        self.put(owner, b)?;
+        Ok(())
+    }
+
+    /// Writes a text, in which a byte 10 acts as a newline with its margin.
+    pub fn plain(&mut self, owner: NodeId, text: &[u8]) -> Result<(), NoMemory>
+        ensures { OnOk result ((at : Place → Id) (u : Place) → at u ≡ owner →
+            Wrote at self.old self.new (plain_text u text.now)) }
+    {
+        if self.more {
+            return Ok(());
+        }
+        for b in text {
+            self.plain_byte(owner, *b)?;
+        }
+        Ok(())
+    }
+
+    // takes 2 off the margin so many times, not below 0, and then adds 2 so many times
+    fn step(&mut self, back: u32, on: u32) -> Result<(), NoMemory>
+        ensures { OnOk result ((at : Place → Id) (u : Place) →
+            Wrote at self.old self.new (a_piece u (Piece.Margin back on))) }
+    {
+        let less = self.margin.saturating_sub(2 * back as usize);
+        match less.checked_add(2 * on as usize) {
+            Some(margin) => {
+                self.margin = margin;
+                Ok(())
+            }
+            None => Err(NoMemory),
+        }
+    }
+
+    // writes a piece of a string
+    fn piece(&mut self, owner: NodeId, piece: &Piece) -> Result<(), NoMemory>
+        ensures { OnOk result ((at : Place → Id) (u : Place) → at u ≡ owner →
+            Wrote at self.old self.new (a_piece u piece.now)) }
+    {
+        match piece {
+            Piece::Written(text) => self.bytes(owner, text.as_slice()),
+            Piece::Newline => self.newline(owner),
+            Piece::Margin(back, on) => self.step(*back, *on),
+        }
+    }
+
+    /// Writes the pieces of a string.
+    pub fn pieces(&mut self, owner: NodeId, pieces: &[Piece]) -> Result<(), NoMemory>
+        ensures { OnOk result ((at : Place → Id) (u : Place) → at u ≡ owner →
+            Wrote at self.old self.new (all_pieces u pieces.now)) }
+    {
+        for piece in pieces {
+            self.piece(owner, piece)?;
+        }
+        Ok(())
+    }
+
+    /// Ends a node before which so many cells were written.
+    pub fn close(&mut self, n: NodeId, from: u32) -> Result<(), NoMemory>
+        ensures { OnOk result ((at : Place → Id) (u : Place) (f : Writing) (before : _) → at u ≡ n →
+            from ≡ min (length before.text.items) 1048576 →
+            Wrote at before self.old f → Wrote at before self.new (ended u f)) }
+    {
+        let to = self.len();
+        self.spans.push(Span { node: n, from, to })?;
+        Ok(())
+    }
+}
