@@ -12,7 +12,7 @@ use Rattle.sg_kinds.specs.declared.spec.Spec.{Spec}
 use Rattle.sg_groves.specs.Evaluated.{IsAtOrBelow, is_at_or_below}
 use Rattle.sg_groves.proofs.Below.{below_itself, below_from, below_to}
 use Rattle.sg_unparse.specs.Cells.{Mark, Writes, Closed, cells_in, unparsed}
-use Rattle.sg_unparse.specs.Page.{Cell, Span, Position, Region, all_cells, cells_of, bytes_of, is_newline, position_behind, region_in, region_of, span_of}
+use Rattle.sg_unparse.specs.Page.{Cell, Span, Position, Region, all_cells, cells_of, bytes_of, is_newline, position_behind, region_in, region_of}
 use Rattle.sg_unparse.specs.Owned.{place_of_mark, before, AreTypedAlike}
 use Rattle.sg_unparse.proofs.Streams.{all_cells-append, length-all_cells}
 use Rattle.sg_unparse.proofs.Spans.{Away, Within, Split, span_at, split_span, split_found}

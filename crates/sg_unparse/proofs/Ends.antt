@@ -1,6 +1,6 @@
 -- The nodes that end are those that are unparsed.
-use Rattle.std.specs.Prelude.{◌≡◌, refl, ℕ, suc, Bool, true, false, ◌==◌, if◌then◌else◌, List, [], ◌∷◌, ◌++◌, map, replicate, Option, Some, None, unwrap_or}
-use Rattle.std.proofs.Common.{sym, ◌∙◌, ap}
+use Rattle.std.specs.Prelude.{◌≡◌, refl, ℕ, suc, Bool, true, false, ◌==◌, if◌then◌else◌, List, [], ◌∷◌, ◌++◌, replicate, Option, Some, None, unwrap_or}
+use Rattle.std.proofs.Common.{◌∙◌, ap}
 use Rattle.sg_kinds.specs.Values.{Bytes, Value}
 use Rattle.sg_kinds.specs.Terms.{Term, Terms, Leaf, Node, NoTerm, AndTerm}
 use Rattle.sg_kinds.specs.Places.{Place}
@@ -14,7 +14,7 @@ use Rattle.sg_kinds.specs.declared.spec.Item.{Item}
 use Rattle.sg_kinds.specs.declared.spec.Item.TheVariants.{Writes as WritesPieces, Child, Shows, Separates}
 use Rattle.sg_kinds.specs.declared.marks.ChildPlace.{ChildPlace}
 use Rattle.sg_kinds.specs.declared.marks.ChildPlace.TheVariants.{Resting, Passed, Hidden}
-use Rattle.sg_unparse.specs.Cells.{Mark, Writes, Closed, Writing, nothing, in_turn, as_they_are, newline, plain, piece, pieces, cells_in, ended, placed, goes_on, reference, items_of, shows, items, content, unparsed, unparsed_among}
+use Rattle.sg_unparse.specs.Cells.{Mark, Writes, Closed, Writing, nothing, in_turn, as_they_are, newline, plain, piece, pieces, cells_in, ended, goes_on, reference, items_of, shows, items, content, unparsed, unparsed_among}
 use Rattle.sg_unparse.specs.Shown.{value_text}
 use Rattle.sg_unparse.specs.Unparsed.{ends_of, child_places, shown_below, shows_scheme, below_scheme, unparsed_places, places_under}
 

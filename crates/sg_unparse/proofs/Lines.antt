@@ -1,12 +1,12 @@
 -- Where lines begin and end, and the positions of cells.
-use Rattle.std.specs.Prelude.{◌≡◌, refl, ℕ, zero, suc, ◌+◌, ◌-◌, ◌<◌, ◌≤◌, ◌⊎◌, Bool, true, false, cond, not, ◌&&◌, ◌==◌, nat_lt, if◌then◌else◌, List, [], ◌∷◌, ◌++◌, length, take, drop, reverse, find, slice_get, slice_range, Option, Some, None}
+use Rattle.std.specs.Prelude.{◌≡◌, refl, ℕ, zero, suc, ◌+◌, ◌-◌, ◌<◌, ◌≤◌, ◌⊎◌, Bool, true, false, cond, not, nat_lt, if◌then◌else◌, List, [], ◌∷◌, ◌++◌, length, take, drop, reverse, find, slice_get, Option, Some, None}
 use Rattle.std.specs.List.{slice_split, onto_first, count_by, take_while, range_with_len}
 use Rattle.std.specs.List.Sorted.{IsNonDecreasingBy}
 use Rattle.std.proofs.Common.{sym, ap, ◌∙◌, subst, arith, get_or, inl, inr, add-one}
 use Rattle.std.proofs.Math.Seq.{take-suc, get_or-append_seam}
 use Rattle.std.proofs.lemmas.List.{reverse-append, get_or_append_left}
 use Rattle.std.proofs.lemmas.List.Sums.{take_while-cons, sum_by-cons, count_by_more_yes, count_by_more_no}
-use Rattle.std.proofs.lemmas.Bool.{ltb-true, ltb-false, lt-ltb, le-ltb, cases_lt, and_parts, and_from, eqb-true, eq-eqb, cases_Bool, both_ways, false_from_ne_true}
+use Rattle.std.proofs.lemmas.Bool.{lt-ltb, le-ltb, cases_lt, cases_Bool, both_ways, false_from_ne_true}
 use Rattle.sg_kinds.specs.Values.{Bytes}
 use Rattle.sg_unparse.specs.Page.{is_newline}
 use Rattle.sg_unparse.specs.Sheet.{starts_from}

@@ -1,9 +1,9 @@
 -- A cell behind those that are written.
-use Rattle.std.specs.Prelude.{◌≡◌, refl, ℕ, zero, suc, ◌+◌, ◌-◌, ◌<◌, ◌≤◌, ◌⊎◌, Bool, true, false, nat_lt, min, if◌then◌else◌, List, [], ◌∷◌, ◌++◌, length, map, take, slice_get, Option, Some, None, MatchOption}
+use Rattle.std.specs.Prelude.{◌≡◌, refl, ℕ, suc, ◌+◌, ◌-◌, ◌<◌, ◌≤◌, Bool, true, false, min, if◌then◌else◌, List, [], ◌∷◌, ◌++◌, length, map, take, slice_get, Option, Some, None, MatchOption}
 use Rattle.std.specs.List.{All}
 use Rattle.std.specs.List.Sorted.{IsNonDecreasingBy}
-use Rattle.std.proofs.Common.{sym, ap, ◌∙◌, subst, arith, get_or, inl, inr, length-append}
-use Rattle.std.proofs.lemmas.Bool.{ltb-true, lt-ltb, le-ltb, cases_lt}
+use Rattle.std.proofs.Common.{sym, ap, ◌∙◌, subst, arith, inl, inr, length-append}
+use Rattle.std.proofs.lemmas.Bool.{ltb-true, lt-ltb, le-ltb}
 use Rattle.std.proofs.lemmas.Option.{get_or_from_slice_get, slice_get_within}
 use Rattle.std.proofs.lemmas.List.{take-append-le, take_all, length-take, length-map, map-append, append-nil}
 use Rattle.std.proofs.lemmas.List.Elements.{All-push}
@@ -11,14 +11,14 @@ use Rattle.std.proofs.lemmas.List.Sorted.{IsNonDecreasingBy-push}
 use Rattle.sg_kinds.specs.Values.{Bytes}
 use Rattle.sg_kinds.specs.Places.{Place}
 use Rattle.sg_forest.specs.declared.node_id.NodeId.{NodeId}
-use Rattle.sg_unparse.specs.Cells.{Mark, Writes, Closed, as_they_are, cells_in}
-use Rattle.sg_unparse.specs.Page.{Cell, all_cells, cells_of, is_cut, is_newline, spans_behind}
-use Rattle.sg_unparse.specs.Sheet.{IsKept, kept_cells, starts_from, owner_in, cells_from, no_node}
-use Rattle.sg_unparse.specs.Written.{IsWritten, Wrote, Owns, IsLastOf, by_node, on_page}
+use Rattle.sg_unparse.specs.Cells.{Mark, Writes, as_they_are, cells_in}
+use Rattle.sg_unparse.specs.Page.{all_cells, cells_of, is_cut, is_newline, spans_behind}
+use Rattle.sg_unparse.specs.Sheet.{IsKept, kept_cells, starts_from, owner_in, no_node}
+use Rattle.sg_unparse.specs.Written.{IsWritten, Wrote, Owns, by_node, on_page}
 use Rattle.sg_unparse.specs.declared.page.Run.{Run}
 use Rattle.sg_unparse.specs.declared.page.Span.{Span}
 use Rattle.sg_unparse.specs.declared.writer.Writer.{Writer}
-use Rattle.sg_unparse.proofs.Streams.{all_cells-append, spans_behind-append, length-all_cells, cells_in-append}
+use Rattle.sg_unparse.proofs.Streams.{all_cells-append, spans_behind-append}
 use Rattle.sg_unparse.proofs.Runs.{cells_append, cells_alike, cells_counted, owner_before, owner_last, owner_pushed}
 
 -- what is kept of runs

@@ -1,20 +1,20 @@
 -- What is kept of a page tells its cells.
-use Rattle.std.specs.Prelude.{◌≡◌, refl, ℕ, zero, suc, ◌+◌, ◌-◌, ◌<◌, ◌≤◌, Bool, true, nat_lt, ◌&&◌, ◌==◌, List, [], ◌∷◌, ◌++◌, length, take, drop, slice_get, find, Option, Some, None, MatchOption, option_map, if◌then◌else◌, false, cond, ◌⊎◌, unwrap_or}
+use Rattle.std.specs.Prelude.{◌≡◌, refl, ℕ, zero, suc, ◌+◌, ◌-◌, ◌<◌, ◌≤◌, Bool, true, nat_lt, ◌&&◌, ◌==◌, List, [], ◌∷◌, ◌++◌, length, take, drop, slice_get, find, Option, Some, None, if◌then◌else◌, false, cond, ◌⊎◌, unwrap_or}
 use Rattle.std.specs.List.{range_with_len, slice_split, All}
 use Rattle.std.specs.List.Sorted.{IsPartitionPoint}
 use Rattle.std.proofs.Common.{sym, ap, ◌∙◌, subst, arith, get_or, inl, inr, add-one, leb, leb-true, leb-false}
 use Rattle.std.proofs.lemmas.Bool.{and_parts, and_from, ltb-true, lt-ltb, eqb-true, eq-eqb, cases_lt}
-use Rattle.std.proofs.lemmas.Option.{slice_get-get_or, slice_get_past}
+use Rattle.std.proofs.lemmas.Option.{slice_get_past}
 use Rattle.std.proofs.lemmas.List.{drop-take, get_or_default}
 use Rattle.std.proofs.lemmas.List.Splits.{length-slice_split}
 use Rattle.sg_kinds.specs.Values.{Bytes}
 use Rattle.sg_forest.specs.declared.node_id.NodeId.{NodeId}
-use Rattle.sg_unparse.specs.Page.{Position, bytes_of, lines_of, is_newline, position_at, stands_at}
+use Rattle.sg_unparse.specs.Page.{bytes_of, lines_of, is_newline, position_at, stands_at}
 use Rattle.sg_unparse.specs.Sheet.{Sheet, IsKept, kept_cells, starts_from, owner_in, no_node, line_on}
 use Rattle.sg_unparse.specs.declared.page.Span.{Span}
 use Rattle.sg_unparse.specs.declared.page.Run.{Run}
-use Rattle.sg_unparse.proofs.Lines.{stops_from, stop_is, stop_there, stop_at_most, stops_later, line_there, passed, passed_is, passed_within, passed_below, passed_next, begun, newlines_before, cells_since, starts_counted, rising, later, within, after_within, after_last, after_begun, after_at_most, found_none, found_one}
-use Rattle.sg_unparse.proofs.Runs.{bytes_kept, cells_counted, cell_there}
+use Rattle.sg_unparse.proofs.Lines.{stops_from, stop_is, stop_there, stop_at_most, stops_later, line_there, passed, passed_is, passed_within, passed_next, begun, newlines_before, cells_since, starts_counted, rising, after_within, after_last, after_begun, after_at_most, found_none, found_one}
+use Rattle.sg_unparse.proofs.Runs.{bytes_kept, cells_counted}
 
 -- the cells of a page have these bytes, and its lines begin here
 pub record IsText (cells : List (ℕ × NodeId)) (text : Bytes) (starts : List ℕ) : Type 0 where

@@ -1,9 +1,8 @@
 -- Cells and ends of nodes among marks.
-use Rattle.std.specs.Prelude.{◌≡◌, refl, ℕ, suc, ◌+◌, ◌-◌, ◌≤◌, List, [], ◌∷◌, ◌++◌, length}
+use Rattle.std.specs.Prelude.{◌≡◌, refl, ℕ, suc, ◌+◌, ◌-◌, List, [], ◌∷◌, ◌++◌, length}
 use Rattle.std.proofs.Common.{sym, ◌∙◌, ap, arith}
-use Rattle.sg_kinds.specs.Places.{Place}
 use Rattle.sg_unparse.specs.Cells.{Mark, Writes, Closed, cells_in}
-use Rattle.sg_unparse.specs.Page.{Cell, Span, all_cells, spans_behind}
+use Rattle.sg_unparse.specs.Page.{all_cells, spans_behind}
 
 pub cells_in-append : (xs ys : List Mark) → cells_in (xs ++ ys) ≡ cells_in xs + cells_in ys
 cells_in-append [] ys = omega arith

@@ -1,5 +1,5 @@
 -- What is typed in the place of a node changes nothing before it.
-use Rattle.std.specs.Prelude.{◌≡◌, ◌⊎◌, refl, ℕ, suc, Bool, true, false, ◌==◌, if◌then◌else◌, List, [], ◌∷◌, ◌++◌, Option, Some, None}
+use Rattle.std.specs.Prelude.{◌≡◌, ◌⊎◌, refl, ℕ, suc, Bool, true, false, if◌then◌else◌, List, [], ◌∷◌, ◌++◌, Option, Some, None}
 use Rattle.std.proofs.Common.{sym, ap, ◌∙◌, subst, inl, inr, append_assoc}
 use Rattle.sg_kinds.specs.Values.{Bytes, Value}
 use Rattle.sg_kinds.specs.Terms.{Term, Terms, Leaf, Node, NoTerm, AndTerm}
@@ -12,7 +12,7 @@ use Rattle.sg_kinds.specs.declared.marks.ChildPlace.{ChildPlace}
 use Rattle.sg_kinds.specs.declared.marks.ChildPlace.TheVariants.{Resting, Passed, Hidden}
 use Rattle.sg_groves.specs.Evaluated.{IsAtOrBelow, is_at_or_below}
 use Rattle.sg_groves.proofs.Below.{below_or_not, below_to}
-use Rattle.sg_unparse.specs.Cells.{Mark, Writes, Closed, Writing, nothing, in_turn, as_they_are, plain, pieces, cells_in, ended, placed, goes_on, items_of, shows, items, content, unparsed, unparsed_among}
+use Rattle.sg_unparse.specs.Cells.{Mark, Closed, Writing, nothing, in_turn, plain, pieces, cells_in, ended, placed, goes_on, items_of, shows, items, content, unparsed, unparsed_among}
 use Rattle.sg_unparse.specs.Shown.{value_text}
 use Rattle.sg_unparse.specs.Owned.{place_of_mark, AreOwned, before, AreTypedAlike}
 use Rattle.sg_unparse.proofs.Owners.{over, unparsed_owned}

@@ -11,8 +11,6 @@ use Rattle.sg_kinds.specs.declared.spec.Phylum.{Phylum}
 use Rattle.sg_kinds.specs.declared.spec.Attr.{Attr}
 use Rattle.sg_kinds.specs.declared.spec.Operator.{Operator}
 use Rattle.sg_kinds.specs.declared.spec.Scheme.{Scheme}
-use Rattle.sg_kinds.specs.declared.spec.Occurrence.{Occurrence}
-use Rattle.sg_kinds.specs.declared.spec.Piece.{Piece}
 use Rattle.sg_kinds.specs.declared.spec.Item.{Item}
 use Rattle.sg_kinds.specs.declared.marks.Shape.{Shape}
 use Rattle.sg_kinds.specs.declared.spec.Piece.TheVariants.{Written, Newline, Margin}
@@ -23,7 +21,7 @@ use Rattle.sg_kinds.proofs.Languages.{base, syn, at}
 use Rattle.sg_kinds.specs.declared.marks.FaultKind.TheVariants.{NoMatch}
 use Rattle.sg_unparse.specs.Shown.{value_text}
 use Rattle.sg_unparse.specs.Cells.{Mark, Writes as WritesByte, reference, marks_of}
-use Rattle.sg_unparse.specs.Page.{Position, Region, Cell, all_cells, region_in, cells_of, bytes_of, lines_of, is_cut, region_of, owner_at}
+use Rattle.sg_unparse.specs.Page.{Region, Cell, all_cells, region_in, cells_of, lines_of, is_cut, region_of, owner_at}
 
 -- blocks of lines: top 3, rows 4, row 5, NAME 6; Top 0, NoRows 1, Rows 2, Word 3, Block 4, Note 5
 abbrev one : List Item → List Scheme

@@ -1,24 +1,23 @@
 -- What is written one behind another.
-use Rattle.std.specs.Prelude.{◌≡◌, refl, ℕ, zero, suc, ◌+◌, ◌-◌, ◌*◌, ◌<◌, ◌≤◌, ◌⊎◌, Bool, true, false, ◌==◌, nat_lt, min, if◌then◌else◌, List, [], ◌∷◌, ◌++◌, length, map, take, replicate, Some, None, Result, Ok, Err, OnOk}
+use Rattle.std.specs.Prelude.{◌≡◌, refl, ℕ, suc, ◌+◌, ◌-◌, ◌*◌, ◌<◌, ◌≤◌, ◌⊎◌, Bool, true, false, ◌==◌, nat_lt, min, if◌then◌else◌, List, [], ◌∷◌, ◌++◌, length, map, take, replicate, Result, Ok, Err, OnOk}
 use Rattle.std.proofs.Common.{sym, ap, ◌∙◌, subst, arith, get_or, inl, inr, append_assoc, length-append, add-one}
-use Rattle.std.proofs.lemmas.Bool.{ltb-true, lt-ltb, le-ltb, cases_lt, eq-eqb, ne_eqb}
-use Rattle.std.proofs.lemmas.List.{length-map, map-append, append-nil, replicate-append-replicate, length-replicate, take_all}
+use Rattle.std.proofs.lemmas.Bool.{lt-ltb, cases_lt, eq-eqb, ne_eqb}
+use Rattle.std.proofs.lemmas.List.{map-append, append-nil, replicate-append-replicate, length-replicate, take_all}
 use Rattle.std.proofs.Math.Seq.{take-suc}
 use Rattle.sg_kinds.specs.Values.{Bytes}
 use Rattle.sg_kinds.specs.Places.{Place}
 use Rattle.sg_kinds.specs.declared.spec.Piece.{Piece}
-use Rattle.sg_kinds.specs.declared.spec.Piece.TheVariants.{Written, Newline, Margin}
+use Rattle.sg_kinds.specs.declared.spec.Piece.TheVariants.{Margin}
 use Rattle.sg_forest.specs.declared.node_id.NodeId.{NodeId}
 use Rattle.sg_unparse.specs.Cells.{Mark, Writes, Closed, Writing, nothing, in_turn, as_they_are, newline, plain, piece, pieces, cells_in, ended}
-use Rattle.sg_unparse.specs.Page.{Span as SpanOf, all_cells, cells_of, is_cut, spans_behind}
+use Rattle.sg_unparse.specs.Page.{Span as SpanOf, all_cells, spans_behind}
 use Rattle.std.proofs.lemmas.List.Elements.{All-push}
-use Rattle.std.specs.List.{All}
 use Rattle.sg_unparse.specs.Sheet.{IsKept, kept_cells}
 use Rattle.sg_unparse.specs.declared.page.Span.{Span}
 use Rattle.sg_unparse.specs.Written.{IsWritten, Wrote, blanks_of, by_node, on_page}
 use Rattle.sg_unparse.specs.declared.writer.Writer.{Writer}
 use Rattle.sg_unparse.proofs.Streams.{all_cells-append, spans_behind-append, length-all_cells, cells_in-append}
-use Rattle.sg_unparse.proofs.Put.{cut_more, kept_length, cut_stays}
+use Rattle.sg_unparse.proofs.Put.{cut_more, kept_length}
 
 -- the cells of bytes, and that no node ends among them
 as_cells : (u : Place) (s : Bytes) → length (all_cells (map (λ b. Writes b u) s)) ≡ length s

@@ -1,5 +1,5 @@
 -- To which nodes marks belong.
-use Rattle.std.specs.Prelude.{◌≡◌, ℕ, ◌-◌, ◌≤◌, if◌then◌else◌, List, [], ◌∷◌, length, take, drop, Option}
+use Rattle.std.specs.Prelude.{◌≡◌, ◌-◌, ◌≤◌, if◌then◌else◌, List, [], ◌∷◌, length, take, drop, Option}
 use Rattle.std.specs.List.{AllByRecursion}
 use Rattle.sg_kinds.specs.Values.{Bytes}
 use Rattle.sg_kinds.specs.Places.{Place}

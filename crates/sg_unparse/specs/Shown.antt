@@ -1,5 +1,5 @@
 -- Values as they are shown, and the scheme in which a node is shown.
-use Rattle.std.specs.Prelude.{ℕ, ◌%◌, true, false, if◌then◌else◌, List, [], ◌∷◌, ◌++◌, length, codes, slice_get, Option, None, option_map, option_and_then, unwrap_or}
+use Rattle.std.specs.Prelude.{ℕ, ◌%◌, true, false, if◌then◌else◌, [], ◌∷◌, ◌++◌, length, codes, slice_get, Option, None, option_map, option_and_then, unwrap_or}
 use Rattle.std.specs.Fmt.{signed_decimal}
 use Rattle.sg_kinds.specs.Values.{Bytes, Value, Truth, Number, Chars, Tree, Fault}
 use Rattle.sg_kinds.specs.Terms.{Term, Leaf, Node}

@@ -1,6 +1,4 @@
-use Rattle.std.proofs.Common.{◌≡◌, ◌≤◌, ◌<◌, ◌+◌, ◌-◌, ℕ, suc, List, [], ◌∷◌, ◌++◌, Some, sym, ap, ◌∙◌, subst, length, arith, rules, leb, get_or, inl, inr, drop}
-use Rattle.std.specs.List.{slice_split}
-use Rattle.sg_unparse.specs.Page.{is_newline}
+use Rattle.std.proofs.Common.{Some, sym, ap, ◌∙◌, arith, drop}
 use Rattle.sg_unparse.proofs.Sheets.{line_is}
 use Rattle.sg_unparse.proofs.page.line_of.Goals as goal
 

@@ -1,4 +1,4 @@
-use Rattle.std.proofs.Common.{◌≡◌, ◌≤◌, ◌<◌, ◌-◌, ℕ, suc, sym, ap, ◌∙◌, ◌∷◌, length, leb, leb-true, leb-false, arith, rules, get_or}
+use Rattle.std.proofs.Common.{◌≡◌, ◌-◌, suc, sym, ap, ◌∙◌, ◌∷◌, leb, leb-true, leb-false, arith, rules, get_or}
 use Rattle.std.proofs.lemmas.List.Sorted.{IsPartitionPoint-from_clause, IsPartitionedBy-leb}
 use Rattle.sg_unparse.specs.Sheet.{no_node}
 use Rattle.sg_unparse.specs.declared.page.Run.{Run}

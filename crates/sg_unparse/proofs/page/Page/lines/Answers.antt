@@ -1,4 +1,4 @@
-use Rattle.std.proofs.Common.{◌≡◌, ◌≤◌, ◌<◌, ◌+◌, ◌-◌, ℕ, suc, List, [], ◌∷◌, ◌++◌, Some, sym, ap, ◌∙◌, subst, length, arith, rules, leb, get_or, inl, inr}
+use Rattle.std.proofs.Common.{arith}
 use Rattle.sg_unparse.proofs.Sheets.{text_of, lines_counted}
 use Rattle.sg_unparse.proofs.page.Page.lines.Goals as goal
 

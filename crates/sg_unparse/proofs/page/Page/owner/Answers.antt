@@ -1,6 +1,4 @@
-use Rattle.std.proofs.Common.{◌≡◌, ◌<◌, ℕ, Bool, true, Some, sym, ap, ◌∙◌, length, List, find, arith}
-use Rattle.std.specs.List.{range_with_len}
-use Rattle.sg_forest.specs.declared.node_id.NodeId.{NodeId}
+use Rattle.std.proofs.Common.{sym, length, arith}
 use Rattle.sg_unparse.specs.Page.{stands_at}
 use Rattle.sg_unparse.proofs.Sheets.{found_within}
 use Rattle.sg_unparse.proofs.page.Page.owner.Goals as goal

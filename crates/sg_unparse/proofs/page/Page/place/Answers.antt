@@ -1,4 +1,4 @@
-use Rattle.std.proofs.Common.{◌≡◌, ◌≤◌, ◌<◌, ◌+◌, ◌-◌, ℕ, suc, List, [], ◌∷◌, ◌++◌, Some, sym, ap, ◌∙◌, subst, length, arith, rules, leb, get_or, inl, inr}
+use Rattle.std.proofs.Common.{◌≡◌, ◌+◌, ◌-◌, ℕ, List, [], ◌∷◌, ◌++◌, Some, sym, ap, ◌∙◌, length, arith, get_or}
 use Rattle.sg_unparse.proofs.Sheets.{text_of, none_stands, one_stands, begins, ends}
 use Rattle.sg_unparse.proofs.page.Page.place.Goals.{then-line-eq0-via-then-line-eq0, then-line-eq0-via-else-line-eq0+then-col-eq0, then-line-eq0-via-else-line-eq0+else-col-eq0+then-line-len}
 use Rattle.sg_unparse.proofs.page.Page.place.Goals as goal

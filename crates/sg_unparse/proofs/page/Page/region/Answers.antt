@@ -1,4 +1,4 @@
-use Rattle.std.proofs.Common.{◌≡◌, ◌≤◌, ◌<◌, ◌+◌, ◌-◌, ℕ, suc, List, [], ◌∷◌, ◌++◌, Some, sym, ap, ◌∙◌, subst, length, arith, rules, leb, get_or, inl, inr, find}
+use Rattle.std.proofs.Common.{◌≤◌, sym, ap, ◌∙◌, length, arith, find}
 use Rattle.sg_unparse.specs.Sheet.{is_of}
 use Rattle.sg_unparse.specs.declared.page.Span.{Span}
 use Rattle.sg_unparse.proofs.Sheets.{text_of, found_has, last_within}

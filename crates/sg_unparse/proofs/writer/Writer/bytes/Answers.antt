@@ -1,8 +1,3 @@
-use Rattle.std.proofs.Common.{◌≡◌, ◌≤◌, ◌<◌, ◌+◌, ◌-◌, ◌*◌, ℕ, suc, List, [], ◌∷◌, ◌++◌, sym, ap, ◌∙◌, subst, length, arith, get_or, refl, take, min, inl, inr, IsTrue}
-use Rattle.sg_kinds.specs.Places.{Place}
-use Rattle.sg_forest.specs.declared.node_id.NodeId.{NodeId}
-use Rattle.sg_unparse.specs.Cells.{Writing, as_they_are, plain, pieces, piece, newline, ended}
-use Rattle.sg_unparse.specs.Written.{IsWritten, Wrote, blanks_of}
 use Rattle.sg_unparse.proofs.Writing.{cut_bytes, bytes_begun, bytes_more, bytes_done}
 use Rattle.sg_unparse.proofs.writer.Writer.bytes.Goals as goal
 

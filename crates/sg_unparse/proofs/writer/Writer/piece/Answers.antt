@@ -1,4 +1,4 @@
-use Rattle.std.proofs.Common.{◌≡◌, sym, subst}
+use Rattle.std.proofs.Common.{sym, subst}
 use Rattle.sg_unparse.specs.Cells.{piece}
 use Rattle.sg_unparse.specs.Written.{Wrote}
 use Rattle.sg_unparse.proofs.Writing.{on_ok}

@@ -1,8 +1,5 @@
-use Rattle.std.proofs.Common.{◌≡◌, ◌≤◌, ◌<◌, ◌+◌, ◌-◌, ◌*◌, ℕ, suc, List, [], ◌∷◌, ◌++◌, sym, ap, ◌∙◌, subst, length, arith, get_or, refl, take, min, inl, inr, IsTrue}
-use Rattle.sg_kinds.specs.Places.{Place}
-use Rattle.sg_forest.specs.declared.node_id.NodeId.{NodeId}
-use Rattle.sg_unparse.specs.Cells.{Writing, as_they_are, plain, pieces, piece, newline, ended}
-use Rattle.sg_unparse.specs.Written.{IsWritten, Wrote, Owns, blanks_of}
+use Rattle.std.proofs.Common.{◌≡◌, [], ◌∷◌, ◌++◌, ap, ◌∙◌, subst, length, arith, refl}
+use Rattle.sg_unparse.specs.Written.{Owns}
 use Rattle.sg_unparse.specs.Sheet.{starts_from}
 use Rattle.sg_unparse.proofs.Put.{full_put, put_written}
 use Rattle.sg_unparse.proofs.writer.Writer.put.Goals as goal
