@@ -10,3 +10,4 @@ pub mod Settling
 pub mod Siblings
 pub mod Fronts
 pub mod Elements
+pub mod Unparsing

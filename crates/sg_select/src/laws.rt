@@ -1,11 +1,21 @@
 //! Laws of resting places, each as the contract of a function without code.
-ghost use Rattle.std.specs.Prelude.{AllPairs, ◌≢◌};
+ghost use Rattle.std.specs.Prelude.{◌≡◌, ◌≢◌, [], AllPairs, Contains, None, Option, Some, true};
+ghost use Rattle.sg_kinds.specs.Values.{Bytes};
+ghost use Rattle.sg_kinds.specs.Places.{Place, sub};
 ghost use Rattle.sg_kinds.specs.Terms.{Term};
 ghost use Rattle.sg_kinds.specs.declared.spec.Spec.{Spec};
-ghost use Rattle.sg_select.specs.RestingPlaces.{resting};
+ghost use Rattle.sg_select.specs.RestingPlaces.{above, is_open, resting};
+ghost use Rattle.sg_unparse.specs.Unparsed.{unparsed_places};
 
 /// No place rests twice.
 #[tactic(auto, using(crate::proofs::Neighbours::resting_apart))]
 pub fn places_rest_once()
     ensures { (spec : Spec) (t : Term) → AllPairs (λ u v. u ≢ v) (resting spec t) }
+{}
+
+/// What can be reached is unparsed, and so has a region, where nothing is typed above it.
+pub fn reached_nodes_are_unparsed()
+    ensures { (spec : Spec) (typed : Place → Option Bytes) (t x : Term) (u : Place) → sub t u ≡ Some x
+        → is_open spec t u ≡ true → ((w : Place) → Contains (above u) w → typed w ≡ None)
+        → Contains (unparsed_places spec typed [] t) u }
 {}

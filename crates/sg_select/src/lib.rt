@@ -1,6 +1,7 @@
 //! What may be selected, and where the moves between these places lead.
 #![tactic(auto)]
 
+mod cells;
 mod inside;
 pub mod laws;
 mod moves;
@@ -8,6 +9,7 @@ mod paths;
 mod runs;
 mod schemes;
 
+pub use cells::at_cell;
 pub use moves::{first, next, prev, rests, settle, sibling, up};
 pub use paths::{node_along, path_of, settle_path};
 pub use runs::{elements_from, spine_of};
