@@ -1,8 +1,10 @@
 pub mod Begins
 pub mod Each
 pub mod Ends
+pub mod Items
 pub mod Lines
 pub mod Owners
+pub mod Placed
 pub mod Put
 pub mod Runs
 pub mod Schemed

@@ -1,3 +1,4 @@
+pub mod Along
 pub mod Cells
 pub mod Owned
 pub mod Page

@@ -5,8 +5,10 @@ pub mod laws;
 mod page;
 mod schemes;
 mod shown;
+mod unparsing;
 mod writer;
 
 pub use page::{Page, Region};
 pub use schemes::{current, scheme_count};
 pub use shown::{fault_text, scheme_of, write_text, write_value};
+pub use unparsing::cells;
