@@ -32,13 +32,13 @@ use Rattle.sg_terms.specs.Occurrences.{IsBearer, node_there}
 use Rattle.sg_terms.specs.Storable.{IsSlot, IsNoSlot, IsStorable}
 use Rattle.sg_terms.proofs.Typed as typed
 use Rattle.sg_terms.proofs.Written.{op_node}
-use Rattle.sg_trail.specs.declared.entry.Entry.{Entry}
+use Rattle.sg_trail.specs.declared.entry.WasStored.{WasStored}
 use Rattle.sg_trail.specs.Trails.{IsAnySlot, IsCovered, Way}
 use Rattle.sg_attrib.specs.Visited.{IsArgument, IsNeeded, IsStepGiven, Gives}
 use Rattle.sg_attrib.proofs.Listed.{gained_nothing}
 use Rattle.sg_work.specs.Worklist.{Worklist}
 use Rattle.sg_propagate.specs.Scenes.{Scene, term_now, AreFine, AreStale, ShowsOther}
-use Rattle.sg_propagate.specs.Moves.{AreMeant, Announces, IsWritten, IsOnStage, IsTracked, Moves, Refs, Repairs}
+use Rattle.sg_propagate.specs.Moves.{AreMeant, Announces, IsRefSlot, IsOnStage, IsTracked, Moves, Refs, Repairs}
 use Rattle.sg_propagate.proofs.Stepped.{repairs_nothing}
 use Rattle.sg_propagate.proofs.Deciding.{clean, dirty}
 use Rattle.sg_propagate.proofs.Updating.{HasOneNumber, all_calm, eval_done, eval_failed, eval_stopped}
@@ -64,7 +64,7 @@ repairs_refused plans needs whole gives top left n g w way was e = record {
   detached = refl;
   tracked = λ first is. is;
   moves = λ sc v on fine stale. record {
-    frame = only_itself g (IsWritten g sc (AreMeant sc (gives (rules_of sc.spec) (term_now sc) v)));
+    frame = only_itself g (IsRefSlot g sc (AreMeant sc (gives (rules_of sc.spec) (term_now sc) v)));
     listed = gained_nothing g sc.root (term_now sc) (AreMeant sc (gives (rules_of sc.spec) (term_now sc) v)) was;
     fine = tt;
     noted = tt;
@@ -170,7 +170,7 @@ argument_there g is n op o at vertex =
 
 -- the equation tells what it defines at a node
 pub same_entry : (g : Grove) (n : NodeId) (x : Rule) (m c : NodeId) (slot k : ℕ) → IsBearer g n x m slot → IsBearer g n x c k → (a b : ℕ) → number_at g m slot ≡ Some a → number_at g c k ≡ Some b
-    → ◌≡◌ {A = Entry} (record { node = m; slot = slot; number = a }) (record { node = c; slot = k; number = b })
+    → ◌≡◌ {A = WasStored} (record { node = m; slot = slot; number = a }) (record { node = c; slot = k; number = b })
 same_entry g n x m c slot k one two a b a_is b_is =
     let node : m ≡ c = same_Some m c (sym one.there ∙ two.there) in
     let same : slot ≡ k = one.slot_is ∙ sym two.slot_is in

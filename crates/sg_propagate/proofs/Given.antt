@@ -27,7 +27,7 @@ use Rattle.sg_attrib.proofs.Placed.{Sets, kid_placed, of_slot, one_place}
 use Rattle.sg_attrib.proofs.Listed.{gained_more, gained_same}
 use Rattle.sg_work.specs.Worklist.{Worklist}
 use Rattle.sg_propagate.specs.Scenes.{Scene, term_now, value_now, IsMeant, AreNoted, AreFine}
-use Rattle.sg_propagate.specs.Moves.{AreMeant, IsWritten, IsMore, IsOnStage, Moves}
+use Rattle.sg_propagate.specs.Moves.{AreMeant, IsRefSlot, IsMore, IsOnStage, Moves}
 use Rattle.sg_propagate.proofs.Staged.{more_itself, noted_still}
 use Rattle.sg_propagate.proofs.Composed.{moves_again}
 
@@ -49,8 +49,8 @@ given_below rules plans t u k a given =
 module _ {A E : Type 0} (sc : Scene) (old new : Grove) (is : IsGrove old) (spec_is : old.spec ≡ sc.spec) (n : NodeId) (v : Place) (placed : IsPlaced old sc.root (term_now sc) v n) (needs gives : Sets) (was now : List Instance) (r : Result A E)
     (call : Gives needs gives old new was now n r) (known : (a : Reference Place) (m : NodeId) → needs (term_now sc) v a → Climbs (nodes old) a.node m sc.root → value_there old m a.slot ≡ value_now sc a)
     (meant : (a : Reference Place) → gives (term_now sc) v a → IsMeant sc a) where
-  pub written : OnlyStored old new (IsWritten old sc (AreMeant sc (gives (term_now sc) v)))
-  written = only_more old new (IsSlotOf gives old n) (IsWritten old sc (AreMeant sc (gives (term_now sc) v))) (λ m slot s.
+  pub written : OnlyStored old new (IsRefSlot old sc (AreMeant sc (gives (term_now sc) v)))
+  written = only_more old new (IsSlotOf gives old n) (IsRefSlot old sc (AreMeant sc (gives (term_now sc) v))) (λ m slot s.
       let same = one_place old is n s.root sc.root s.term (term_now sc) s.place v s.placed placed in
       let climbs : Climbs (nodes old) s.way m sc.root = subst (Climbs (nodes old) s.way m) same.1 s.climbs in
       let given = of_slot old is gives n sc.root (term_now sc) v s.way m slot placed climbs s in
@@ -104,7 +104,7 @@ module _ {A E : Type 0} (plans : Plans) (sc : Scene) (old new : Grove) (is : IsG
   inside : (a : Reference Place) → IsGiven rules plans k t (kid ∷ v) a → IsOutside sc.place a.node → ⊥
   inside a given far = let b = given_below rules plans t (kid ∷ v) k a given in far b.0 (b.1 ∙ ap (λ w. b.0 ++ w) top_place)
 
-  top_frame : OnlyStored old new (IsWritten old sc (AreMeant sc (IsGiven rules plans k t (kid ∷ v))))
+  top_frame : OnlyStored old new (IsRefSlot old sc (AreMeant sc (IsGiven rules plans k t (kid ∷ v))))
   top_frame = written sc old new is on.staged.spec_is top (kid ∷ v) kid_here (IsKnown rules plans k) (IsGiven rules plans k) was now r call_here all_known all_meant
 
   fine_by : (x : Result A E) → OnOk x ((a : Reference Place) (m : NodeId) → IsGiven rules plans k t (kid ∷ v) a → Climbs (nodes new) a.node m sc.root → value_there new m a.slot ≡ value_now sc a) → OnOk x (AreFine sc new w (IsGiven rules plans k t (kid ∷ v)))

@@ -30,7 +30,7 @@ use Rattle.sg_attrib.specs.Visited as visited
 use Rattle.sg_attrib.specs.Visited.{IsGiven, IsGivenUpTo, IsKnown, IsNothing, HasEquation}
 use Rattle.sg_work.specs.Worklist.{Worklist}
 use Rattle.sg_propagate.specs.Scenes.{Scene, term_now, IsStaged, AreFine, AreStale}
-use Rattle.sg_propagate.specs.Moves.{AreMeant, IsWritten, IsOnStage, Moves, Refs, Repairs}
+use Rattle.sg_propagate.specs.Moves.{AreMeant, IsRefSlot, IsOnStage, Moves, Refs, Repairs}
 use Rattle.sg_propagate.proofs.Staged.{on_stage_still, staged_still, value_kept}
 use Rattle.sg_propagate.proofs.Composed.{moves_again, moves_twice}
 use Rattle.sg_propagate.proofs.Stepped.{label_here, repairs_nothing}
@@ -81,7 +81,7 @@ module _ {A B D E : Type 0} (plans : Plans) (top left root : NodeId) (old mid ne
 
     pub visit_stale : AreStale sc mid (IsGiven (rules_of sc.spec) plans k t v)
     visit_stale a m i given found far climbs =
-        let up = only_climbed old mid (IsWritten old sc (AreMeant sc (IsUpTo plans k (rules_of sc.spec) t v))) first.frame a.node m sc.root climbs in
+        let up = only_climbed old mid (IsRefSlot old sc (AreMeant sc (IsUpTo plans k (rules_of sc.spec) t v))) first.frame a.node m sc.root climbs in
         value_kept plans sc old mid is_old first_work mid_work (AreMeant sc (IsUpTo plans k (rules_of sc.spec) t v)) on.staged first.frame a m up (λ q. apart a q.0 given) ∙ stale a m i (given.site, given.found) found far up
 
     in_before : (a : Reference Place) → IsGivenUpTo (rules_of sc.spec) plans k t v a → IsGivenUpTo (rules_of sc.spec) plans (k + 1) t v a

@@ -19,7 +19,7 @@ use Rattle.sg_attrib.proofs.Placed.{placed_still}
 use Rattle.sg_work.specs.Worklist.{Worklist}
 use Rattle.sg_work.proofs.Changing as changing
 use Rattle.sg_propagate.specs.Scenes.{Scene, term_now, value_now, value_was, IsMeant, IsCalm, AreNoted, IsStaged, IsFine}
-use Rattle.sg_propagate.specs.Moves.{IsWritten, IsMore, IsOnStage}
+use Rattle.sg_propagate.specs.Moves.{IsRefSlot, IsMore, IsOnStage}
 
 -- what is not to be evaluated is outside the new subterm, has no changed argument, and keeps its value
 module _ (sc : Scene) (a : Reference Place) (c : IsCalm sc a) where
@@ -51,12 +51,12 @@ more_twice u v w one two = record { changed = λ x has. two.changed x (one.chang
 pub same_ref : (g : Grove) → IsGrove g → (root m : NodeId) → IsRoot (nodes g) root → (a b : Reference Place) → Climbs (nodes g) a.node m root → Climbs (nodes g) b.node m root → a.slot ≡ b.slot → a ≡ b
 same_ref g is root m top a b one two slot = let way = one_way g is a.node b.node m root root top top one two in λ i. record { node = way.0 i; slot = slot i }
 
-module _ (plans : Plans) (sc : Scene) (g new : Grove) (is : IsGrove g) (before after : Worklist) (refs : Reference Place → Type 0) (staged : IsStaged plans sc g before) (frame : OnlyStored g new (IsWritten g sc refs)) where
-  not_written : (a : Reference Place) (m : NodeId) → Climbs (nodes g) a.node m sc.root → (refs a → ⊥) → IsWritten g sc refs m a.slot → ⊥
+module _ (plans : Plans) (sc : Scene) (g new : Grove) (is : IsGrove g) (before after : Worklist) (refs : Reference Place → Type 0) (staged : IsStaged plans sc g before) (frame : OnlyStored g new (IsRefSlot g sc refs)) where
+  not_written : (a : Reference Place) (m : NodeId) → Climbs (nodes g) a.node m sc.root → (refs a → ⊥) → IsRefSlot g sc refs m a.slot → ⊥
   not_written a m climbs out wr = out (subst refs (same_ref g is sc.root m staged.placed.top wr.ref a wr.climbs climbs (sym wr.same)) wr.of_refs)
 
   pub value_kept : (a : Reference Place) (m : NodeId) → Climbs (nodes g) a.node m sc.root → (refs a → ⊥) → value_there new m a.slot ≡ value_there g m a.slot
-  value_kept a m climbs out = only_value g new (IsWritten g sc refs) frame is m a.slot (not_written a m climbs out)
+  value_kept a m climbs out = only_value g new (IsRefSlot g sc refs) frame is m a.slot (not_written a m climbs out)
 
   pub fine_kept : IsMore before after → (a : Reference Place) (m : NodeId) → Climbs (nodes g) a.node m sc.root → (refs a → ⊥) → IsFine sc g before a m → IsFine sc new after a m
   fine_kept more a m climbs out fine = record {
@@ -66,16 +66,16 @@ module _ (plans : Plans) (sc : Scene) (g new : Grove) (is : IsGrove g) (before a
   }
 
   pub climbed : (u : Place) (n m : NodeId) → Climbs (nodes new) u n m → Climbs (nodes g) u n m
-  climbed = only_climbed g new (IsWritten g sc refs) frame
+  climbed = only_climbed g new (IsRefSlot g sc refs) frame
 
   pub staged_still : ((a : Reference Place) → refs a → IsMeant sc a) → IsMore before after → AreNoted sc new after → IsStaged plans sc new after
   staged_still meant more noted = record {
     spec_is = frame.spec ∙ staged.spec_is;
-    placed = placed_still g new (IsWritten g sc refs) frame is sc.top sc.root (term_now sc) sc.place staged.placed;
+    placed = placed_still g new (IsRefSlot g sc refs) frame is sc.top sc.root (term_now sc) sc.place staged.placed;
     was_planned = staged.was_planned;
     planned = staged.planned;
     apart = λ inside. staged.apart (record { path = inside.path; climbs = climbed inside.path sc.left sc.root inside.climbs });
-    kept = λ X slot left attr. only_value g new (IsWritten g sc refs) frame is sc.left slot (λ wr. staged.apart (record { path = wr.ref.node; climbs = wr.climbs })) ∙ staged.kept X slot left attr;
+    kept = λ X slot left attr. only_value g new (IsRefSlot g sc refs) frame is sc.left slot (λ wr. staged.apart (record { path = wr.ref.node; climbs = wr.climbs })) ∙ staged.kept X slot left attr;
     calm = λ a m calm climbs. let up = climbed a.node m sc.root climbs in value_kept a m up (λ r. calm.still (meant a r)) ∙ staged.calm a m calm up;
     noted = noted;
     awake = λ m below. more.active m.key (staged.awake m (record { place = below.place; path = below.path; climbs = climbed (below.place ∷ below.path) sc.top m below.climbs }));
@@ -87,10 +87,10 @@ module _ (plans : Plans) (sc : Scene) (g new : Grove) (is : IsGrove g) (before a
     staged = staged_still meant more noted;
     top_is = on.top_is;
     left_is = on.left_is;
-    climbs = only_climbs g new (IsWritten g sc refs) frame v n sc.root on.climbs;
+    climbs = only_climbs g new (IsRefSlot g sc refs) frame v n sc.root on.climbs;
     outside = on.outside;
   }
 
   -- the same slots are noted
   pub noted_still : AreNoted sc g before → AreNoted sc new before
-  noted_still noted x has = let one = noted x has in record { ref = one.ref; node = one.node; is = one.is; climbs = only_climbs g new (IsWritten g sc refs) frame one.ref.node one.node sc.root one.climbs; other = one.other }
+  noted_still noted x has = let one = noted x has in record { ref = one.ref; node = one.node; is = one.is; climbs = only_climbs g new (IsRefSlot g sc refs) frame one.ref.node one.node sc.root one.climbs; other = one.other }

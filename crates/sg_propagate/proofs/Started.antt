@@ -30,7 +30,7 @@ use Rattle.sg_attrib.proofs.Listed.{gained_all_before, gained_before, gained_mor
 use Rattle.sg_attrib.proofs.Placed.{placed_still}
 use Rattle.sg_work.specs.Worklist.{Worklist}
 use Rattle.sg_propagate.specs.Scenes.{Scene, term_now, value_now, value_was, IsMeant, IsCalm, IsStaged, IsSetUp, AreFine, AreStale}
-use Rattle.sg_propagate.specs.Moves.{AreMeant, Finishes, IsSlotAt, IsTouched, IsWritten, Moves, within, meant}
+use Rattle.sg_propagate.specs.Moves.{AreMeant, Finishes, IsSlotAt, IsTouched, IsRefSlot, Moves, within, meant}
 use Rattle.sg_propagate.proofs.Staged.{calm_outside, calm_same}
 use Rattle.sg_propagate.proofs.Rooted.{IsEquation}
 
@@ -110,11 +110,11 @@ module _ (plans : Plans) (sc : Scene) (g now : Grove) (is : IsGrove g) (set : Is
   -- and ends
   pub finished : {A E : Type 0} (w after : Worklist) (new : Grove) (was is_now : List Instance) (r : Result A E) → Moves sc (IsEquation (rules_of sc.spec) (term_now sc) []) now new w after was is_now r → Finishes sc g new was is_now r
   finished {A} {E} w after new was is_now r m = record {
-    frame = only_more g new (λ c slot. IsSlotAt sc.top c slot ⊎ IsWritten now sc (AreMeant sc (IsEquation (rules_of sc.spec) (term_now sc) [])) c slot) (IsTouched g sc)
+    frame = only_more g new (λ c slot. IsSlotAt sc.top c slot ⊎ IsRefSlot now sc (AreMeant sc (IsEquation (rules_of sc.spec) (term_now sc) [])) c slot) (IsTouched g sc)
         (λ c slot either. elim either [
           | inl same ↦ within (subst (λ d. IsInside (nodes g) d sc.top) (sym same) (inside_itself (nodes g) sc.top))
           | inr s ↦ meant (record { ref = s.ref; of_refs = (let o = s.of_refs in o.1); climbs = climbed s.ref.node c s.climbs; same = s.same })
-        ]) (only_twice g now new (IsSlotAt sc.top) (IsWritten now sc (AreMeant sc (IsEquation (rules_of sc.spec) (term_now sc) []))) only m.frame);
+        ]) (only_twice g now new (IsSlotAt sc.top) (IsRefSlot now sc (AreMeant sc (IsEquation (rules_of sc.spec) (term_now sc) []))) only m.frame);
     listed = listed_by r m.listed;
     right = right_by r m.fine;
   }

@@ -38,7 +38,7 @@ use Rattle.sg_attrib.proofs.Leaves.{leaf_right}
 use Rattle.sg_work.specs.Worklist.{Worklist}
 use Rattle.sg_work.proofs.Clean.{leaf_same}
 use Rattle.sg_propagate.specs.Scenes.{Scene, term_now, IsCalm, IsStaged, IsFine, AreFine, AreStale}
-use Rattle.sg_propagate.specs.Moves.{AreMeant, IsWritten, IsOnStage, Moves, Refs, Repairs}
+use Rattle.sg_propagate.specs.Moves.{AreMeant, IsRefSlot, IsOnStage, Moves, Refs, Repairs}
 use Rattle.sg_propagate.proofs.Staged.{calm_fine, fine_kept, value_kept, staged_still, on_stage_still}
 use Rattle.sg_propagate.proofs.Composed.{moves_again, moves_err, moves_nothing, moves_ok, moves_twice}
 
@@ -110,7 +110,7 @@ module _ {A B D E : Type 0} (plans : Plans) (top left n : NodeId) (old mid new :
     mid_op op label = label_here plans sc mid is_mid mid_work top left n v on_mid op label
 
     climbed : (u : Place) (c : NodeId) → Climbs (nodes mid) u c sc.root → Climbs (nodes old) u c sc.root
-    climbed u c climbs = only_climbed old mid (IsWritten old sc (AreMeant sc (IsBefore plans k m rules t v))) first.frame u c sc.root climbs
+    climbed u c climbs = only_climbed old mid (IsRefSlot old sc (AreMeant sc (IsBefore plans k m rules t v))) first.frame u c sc.root climbs
 
     from_known : (a : Reference Place) (c : NodeId) → Climbs (nodes mid) a.node c sc.root → IsKnown rules plans k t v a → IsFine sc mid mid_work a c
     from_known a c climbs is =

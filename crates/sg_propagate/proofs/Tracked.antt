@@ -20,7 +20,7 @@ use Rattle.sg_terms.specs.Found.{op_at}
 use Rattle.sg_terms.specs.Storable.{IsStorable}
 use Rattle.sg_terms.proofs.Same.{IsTyped-grown}
 use Rattle.sg_terms.proofs.Written.{storable_again}
-use Rattle.sg_trail.specs.declared.entry.Entry.{Entry}
+use Rattle.sg_trail.specs.declared.entry.WasStored.{WasStored}
 use Rattle.sg_trail.specs.Trails.{IsCovered, Way, is_of, was_in}
 use Rattle.sg_trail.proofs.Telling.{IsOf, covered_tells, of_from, of_to, same_tells}
 use Rattle.sg_trail.proofs.Saving.{covered_more}
@@ -30,7 +30,7 @@ use Rattle.sg_propagate.specs.Moves.{IsTracked}
 use Rattle.sg_propagate.specs.Scenes.{AreTops}
 
 -- a slot is covered or not
-pub covered_or_not : (es : List Entry) (n : NodeId) (slot : ℕ) → IsCovered es n slot ⊎ (IsCovered es n slot → ⊥)
+pub covered_or_not : (es : List WasStored) (n : NodeId) (slot : ℕ) → IsCovered es n slot ⊎ (IsCovered es n slot → ⊥)
 covered_or_not [] n slot = inr (λ c. contains_none c.entry c.listed)
 covered_or_not (e ∷ es) n slot = by (is_of e n slot) refl (covered_or_not es n slot)
   where
@@ -38,7 +38,7 @@ covered_or_not (e ∷ es) n slot = by (is_of e n slot) refl (covered_or_not es n
     by true test rest = let is = of_from e n slot test in inl (record { entry = e; listed = contains_first e es; node_is = is.node_is; slot_is = is.slot_is })
     by false test (inl c) = inl (record { entry = c.entry; listed = contains_later e es c.entry c.listed; node_is = c.node_is; slot_is = c.slot_is })
     by false test (inr none) = inr (λ c. elim (contains_either e es c.entry c.listed) [
-      | inl same ↦ not_of test (record { node_is = ap (λ (z : Entry). z.node) same ∙ c.node_is; slot_is = ap (λ (z : Entry). z.slot) same ∙ c.slot_is })
+      | inl same ↦ not_of test (record { node_is = ap (λ (z : WasStored). z.node) same ∙ c.node_is; slot_is = ap (λ (z : WasStored). z.slot) same ∙ c.slot_is })
       | inr later ↦ none (record { entry = c.entry; listed = later; node_is = c.node_is; slot_is = c.slot_is })
     ])
       where
@@ -126,14 +126,14 @@ module _ (old new : Grove) (changed : NodeId → ℕ → Type 0) (only : OnlySto
 -- an entry more, with the number that its slot has
 pub tracked_push : (first g : Grove) → IsGrove g → (top : NodeId) (way to : Way) (n : NodeId) (op slot id : ℕ) → op_at g n ≡ Some op → number_at g n slot ≡ Some id → to.entries ≡ way.entries ++ record { node = n; slot = slot; number = id } ∷ [] → IsTracked first g top way → IsTracked first g top to
 tracked_push first g is top way to n op slot id at number pushed tracked =
-    let here : Entry = record { node = n; slot = slot; number = id } in
+    let here : WasStored = record { node = n; slot = slot; number = id } in
     let all : IsTracked first g top (record { at = to.at; detached = to.detached; entries = way.entries ++ here ∷ [] }) = record {
       numbers = λ m k.
           same_tells m k way.entries here (number_at g m k) (λ of. ap (λ z. number_at g z k) (sym of.node_is) ∙ ap (number_at g n) (sym of.slot_is) ∙ number) ∙ tracked.numbers m k;
       storable = λ e has. elim (Contains-append_cases way.entries (here ∷ []) e has) [
         | inl old ↦ tracked.storable e old
         | inr new ↦ elim (contains_either here [] e new) [
-          | inl same ↦ subst (λ (z : Entry). IsStorable g z.node z.slot z.number) same (storable_again g is n slot id op number at)
+          | inl same ↦ subst (λ (z : WasStored). IsStorable g z.node z.slot z.number) same (storable_again g is n slot id op number at)
           | inr none ↦ absurd (contains_none e none)
         ]
       ];
@@ -147,7 +147,7 @@ tracked_push first g is top way to n op slot id at number pushed tracked =
 
 pub pushed_covers : (way to : Way) (n : NodeId) (slot id : ℕ) → to.entries ≡ way.entries ++ record { node = n; slot = slot; number = id } ∷ [] → IsCovered to.entries n slot
 pushed_covers way to n slot id pushed =
-    let here : Entry = record { node = n; slot = slot; number = id } in
+    let here : WasStored = record { node = n; slot = slot; number = id } in
     record { entry = here; listed = subst (λ es. Contains es here) (sym pushed) (Contains-append_right way.entries (here ∷ []) here (contains_first here [])); node_is = refl; slot_is = refl }
 
 -- the tops are so still

@@ -40,7 +40,7 @@ use Rattle.sg_attrib.specs.Visited.{IsArgument, IsStepGiven, Gives}
 use Rattle.sg_attrib.proofs.Nodes.{StandsThere, op_label, stands_there}
 use Rattle.sg_work.specs.Worklist.{Worklist}
 use Rattle.sg_propagate.specs.Scenes.{Scene, term_now, value_now, value_was, IsOther, IsMeant, IsCalm, IsFine, AreFine, AreStale}
-use Rattle.sg_propagate.specs.Moves.{AreMeant, Announces, IsWritten, IsOnStage, Moves}
+use Rattle.sg_propagate.specs.Moves.{AreMeant, Announces, IsRefSlot, IsOnStage, Moves}
 use Rattle.sg_propagate.proofs.Staged.{noted_still}
 use Rattle.sg_propagate.proofs.Stepped.{placed_here}
 use Rattle.sg_propagate.proofs.Given.{written, listed, right}
@@ -125,7 +125,7 @@ module _ (plans : Plans) (sc : Scene) (old : Grove) (is : IsGrove old) (w : Work
       call_here : Gives (IsArgument rules rule) (IsStepGiven rules plans (Eval rule)) old new was now n r
       call_here = subst (λ (s : Spec). Gives (IsArgument (rules_of s) rule) (IsStepGiven (rules_of s) plans (Eval rule)) old new was now n r) on.staged.spec_is call
 
-      pub eval_frame : OnlyStored old new (IsWritten old sc (AreMeant sc gives))
+      pub eval_frame : OnlyStored old new (IsRefSlot old sc (AreMeant sc gives))
       eval_frame = written sc old new is on.staged.spec_is n v placed (IsArgument rules rule) (IsStepGiven rules plans (Eval rule)) was now r call_here known all_meant
 
     -- the evaluation was refused
@@ -141,7 +141,7 @@ module _ (plans : Plans) (sc : Scene) (old : Grove) (is : IsGrove old) (w : Work
 
     module _ {A E : Type 0} (new : Grove) (is_new : IsGrove new) (after : Worklist) (was now : List Instance) (y : A) (m : NodeId) (slot before behind : ℕ) (bears : IsBearer old n x m slot) (before_is : number_at old m slot ≡ Some before) (behind_is : number_at new m slot ≡ Some behind)
         (one : HasOneNumber new.pool) (stale : AreStale sc old gives) (call : Gives {A = A} {E = E} (IsArgument (rules_of old.spec) rule) (IsStepGiven (rules_of old.spec) plans (Eval rule)) old new was now n (Ok y)) where
-      frame_now : OnlyStored old new (IsWritten old sc (AreMeant sc gives))
+      frame_now : OnlyStored old new (IsRefSlot old sc (AreMeant sc gives))
       frame_now = eval_frame {A = A} {E = E} new was now (Ok y) call
 
       listed_now : GainedAll old sc.root t (AreMeant sc gives) was now
@@ -183,7 +183,7 @@ module _ (plans : Plans) (sc : Scene) (old : Grove) (is : IsGrove old) (w : Work
       old_is = stale ref0 m site given_here found_here on.outside defined_climbs
 
       new_climbs : Climbs (nodes new) ref0.node m sc.root
-      new_climbs = only_climbs old new (IsWritten old sc (AreMeant sc gives)) frame_now ref0.node m sc.root defined_climbs
+      new_climbs = only_climbs old new (IsRefSlot old sc (AreMeant sc gives)) frame_now ref0.node m sc.root defined_climbs
 
       new_is : value_there new m x.target.slot ≡ value_now sc ref0
       new_is = right_now ref0 m given_here new_climbs
@@ -195,10 +195,10 @@ module _ (plans : Plans) (sc : Scene) (old : Grove) (is : IsGrove old) (w : Work
       number_is = ap (number_at new m) (sym bears.slot_is) ∙ behind_is
 
       other_number : IsOther sc ref0 → before ≢ behind
-      other_number other e = other (sym new_is ∙ same_number old new is is_new (IsWritten old sc (AreMeant sc gives)) frame_now m x.target.slot before behind number_was number_is e ∙ old_is)
+      other_number other e = other (sym new_is ∙ same_number old new is is_new (IsRefSlot old sc (AreMeant sc gives)) frame_now m x.target.slot before behind number_was number_is e ∙ old_is)
 
       number_other : before ≢ behind → IsOther sc ref0
-      number_other differs e = differs (same_value old new is is_new (IsWritten old sc (AreMeant sc gives)) frame_now m x.target.slot before behind number_was number_is one (new_is ∙ e ∙ sym old_is))
+      number_other differs e = differs (same_value old new is is_new (IsRefSlot old sc (AreMeant sc gives)) frame_now m x.target.slot before behind number_was number_is one (new_is ∙ e ∙ sym old_is))
 
       given_ref : (a : Reference Place) → gives a → ref0 ≡ a
       given_ref a given = ap (bearer t) (site_is a given) ∙ found_bears rules t a given.site given.found

@@ -28,7 +28,7 @@ abbrev pub AreMeant : Scene → (Reference Place → Type 0) → Reference Place
 AreMeant sc refs a = refs a × IsMeant sc a
 
 -- a slot of a node of the tree, as one of these references
-pub record IsWritten (g : Grove) (sc : Scene) (refs : Reference Place → Type 0) (m : NodeId) (slot : ℕ) : Type 0 where
+pub record IsRefSlot (g : Grove) (sc : Scene) (refs : Reference Place → Type 0) (m : NodeId) (slot : ℕ) : Type 0 where
   pub ref : Reference Place
   pub of_refs : refs ref
   pub climbs : Climbs (nodes g) ref.node m sc.root
@@ -41,7 +41,7 @@ pub record IsMore (old new : Worklist) : Type 0 where
 
 -- a call stores and lists those of these references that are to be evaluated, each once, and then all of them are fine
 pub record Moves {A E : Type 0} (sc : Scene) (gives : Reference Place → Type 0) (old new : Grove) (before after : Worklist) (was now : List Instance) (r : Result A E) : Type 0 where
-  pub frame : OnlyStored old new (IsWritten old sc (AreMeant sc gives))
+  pub frame : OnlyStored old new (IsRefSlot old sc (AreMeant sc gives))
   pub listed : MatchResult r (λ _. GainedAll old sc.root (term_now sc) (AreMeant sc gives) was now) (λ _. Gained old sc.root (term_now sc) (AreMeant sc gives) was now)
   pub fine : OnOk r (AreFine sc new after gives)
   pub noted : OnOk r (AreNoted sc new after)
@@ -85,7 +85,7 @@ IsSlotAt top m slot = m ≡ top
 -- a slot of the new subterm, or of a reference outside it that is to be evaluated
 pub data IsTouched (g : Grove) (sc : Scene) (m : NodeId) (slot : ℕ) : Type 0 where
   within : IsInside (nodes g) m sc.top → IsTouched g sc m slot
-  meant : IsWritten g sc (IsMeant sc) m slot → IsTouched g sc m slot
+  meant : IsRefSlot g sc (IsMeant sc) m slot → IsTouched g sc m slot
 
 -- after the exchange every equation has its value, and those that are to be evaluated are listed, each once
 pub record Finishes {A E : Type 0} (sc : Scene) (old new : Grove) (was now : List Instance) (r : Result A E) : Type 0 where

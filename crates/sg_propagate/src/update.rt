@@ -19,7 +19,7 @@ use sg_kinds::memory::NoMemory;
 use sg_kinds::plans::Plans;
 use sg_kinds::row::item;
 use sg_terms::{Renewed, Terms};
-use sg_trail::{Entry, Trail};
+use sg_trail::{Trail, WasStored};
 use sg_work::Work;
 
 // what an equation defines at a node: the node at its target, and the slot
@@ -81,7 +81,7 @@ pub fn update(
     }
     let (node, slot) = bearer(terms, n, rule);
     let number = terms.stored(node, slot);
-    trail.push(Entry { node, slot, number })?;
+    trail.push(WasStored { node, slot, number })?;
     let it = terms.evaluate_at(ev, n, rule, journal)?;
     terms.facts();
     terms.pool().sound();

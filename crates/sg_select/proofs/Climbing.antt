@@ -15,6 +15,7 @@ use Rattle.sg_groves.specs.Grove.{Grove, nodes, IsGrove}
 use Rattle.sg_groves.specs.Holds.{Holds, IsPlaced}
 use Rattle.sg_select.specs.RestingPlaces.{is_open, leads_on, rests}
 use Rattle.sg_select.specs.Around.{when, kids, own, parts, earlier, later, before, after}
+use Rattle.sg_select.proofs.Within.{and_off}
 use Rattle.sg_select.proofs.Around.{reached_from}
 use Rattle.sg_select.proofs.Firsts.{last_left, last_right, one_up}
 use Rattle.sg_select.proofs.Leading.{sub_there, above_placed, top_placed, held}
@@ -100,17 +101,13 @@ module _ (spec : Spec) where
   and_true true b is = is
   and_true false b is = refl
 
-  pub and_false : (a b : Bool) → b ≡ false → (a && b) ≡ false
-  and_false true b is = is
-  and_false false b is = refl
-
   pub alike_up : (root : NodeId) (t : Term) (u : Place) (k : ℕ) (w : Place) (x : Term) → sub t w ≡ Some x → leads_on spec x k ≡ true
       → IsReachedAlike root t u (k ∷ w) → IsReachedAlike root t u w
   alike_up root t u k w x at on same = same ∙ open_steps t k w x at ∙ and_true (is_open spec t w) (leads_on spec x k) on
 
   pub shut_at : (root : NodeId) (t : Term) (u : Place) (k : ℕ) (w : Place) (x : Term) → sub t w ≡ Some x → leads_on spec x k ≡ false
       → IsReachedAlike root t u (k ∷ w) → is_open spec t u ≡ false
-  shut_at root t u k w x at off same = same ∙ open_steps t k w x at ∙ and_false (is_open spec t w) (leads_on spec x k) off
+  shut_at root t u k w x at off same = same ∙ open_steps t k w x at ∙ and_off (is_open spec t w) (leads_on spec x k) off
 
   -- what comes after a child, and before it
   pub after_step : (t : Term) (k : ℕ) (w : Place) (x : Term) → sub t w ≡ Some x → after spec t (k ∷ w) ≡ parts spec w x (k + 1) (drop (k + 1) (kids x)) ++ after spec t w

@@ -9,6 +9,8 @@ use Rattle.sg_kinds.specs.Places.{Place, child, place_of, sub}
 use Rattle.sg_kinds.specs.declared.spec.Spec.{Spec}
 use Rattle.sg_forest.specs.declared.node_id.NodeId.{NodeId}
 use Rattle.sg_groves.specs.Grove.{Grove}
+use Rattle.sg_select.proofs.Within.{and_off}
+use Rattle.sg_select.proofs.Firsts.{take_all}
 use Rattle.sg_select.specs.Kept.{nearest}
 use Rattle.sg_select.specs.Paths.{EndsAt, GoesTo, there}
 use Rattle.sg_select.specs.RestingPlaces.{above, is_open, rests, rests_under, settled, stands_resting}
@@ -18,13 +20,7 @@ pub front_more : (path : List ℕ) (i k : ℕ) → i < length path → k ≡ get
 front_more path i k low at = ap reverse (take_more path i k low at) ∙ reverse-append (take i path) (k ∷ [])
 
 pub front_all : (path : List ℕ) (i : ℕ) → length path ≤ i → place_of (take i path) ≡ place_of path
-front_all path i long = ap reverse (all path i long)
-  where
-    all : (xs : List ℕ) (n : ℕ) → length xs ≤ n → take n xs ≡ xs
-    all [] zero long = refl
-    all [] (suc n) long = refl
-    all (x ∷ xs) zero long = absurd (omega (arith, long))
-    all (x ∷ xs) (suc n) long = ap (λ l. x ∷ l) (all xs n (omega (arith, long)))
+front_all path i long = ap reverse (take_all i path long)
 
 -- the whole path behind a front and one step
 pub front_rest : (path : List ℕ) (i k : ℕ) → i < length path → k ≡ get_or path i k → place_of path ≡ reverse (drop (i + 1) path) ++ k ∷ place_of (take i path)
@@ -39,12 +35,8 @@ none_below t (j ∷ v) w none = ap (option_and_then (child j)) (none_below t v w
 
 module _ (spec : Spec) (t : Term) where
   none_rests : (k : ℕ) (u : Place) → sub t (k ∷ u) ≡ None → rests spec t (k ∷ u) ≡ false
-  none_rests k u none = no_and (is_open spec t (k ∷ u)) (stands_resting spec t k u) (by (sub t u))
+  none_rests k u none = and_off (is_open spec t (k ∷ u)) (stands_resting spec t k u) (by (sub t u))
     where
-      no_and : (a b : Bool) → b ≡ false → (a && b) ≡ false
-      no_and true b off = off
-      no_and false b off = refl
-
       by : (o : Option Term) → unwrap_or (option_and_then (λ x. option_map (rests_under spec x k) (sub t (k ∷ u))) o) false ≡ false
       by None = refl
       by (Some x) = ap (λ o. unwrap_or (option_map (rests_under spec x k) o) false) none

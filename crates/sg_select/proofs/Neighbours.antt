@@ -15,7 +15,8 @@ use Rattle.sg_select.specs.RestingPlaces.{is_open, stands_resting, rests, restin
 use Rattle.sg_select.specs.Around.{when, inside, before, after}
 use Rattle.sg_select.proofs.Around.{zipped}
 
-differ : (v u : Place) → v ≢ u → bytes_eq v u ≡ false
+-- other places differ by the test
+pub differ : (v u : Place) → v ≢ u → bytes_eq v u ≡ false
 differ v u apart = by (bytes_eq v u) refl
   where
     by : (b : Bool) → bytes_eq v u ≡ b → bytes_eq v u ≡ false

@@ -16,7 +16,8 @@ use Rattle.sg_select.specs.Around.{when, kids, inside, parts, own, before, after
 use Rattle.sg_select.proofs.Around.{reached_from, zipped}
 use Rattle.sg_select.proofs.Climbing.{Knows, after_step}
 use Rattle.sg_select.proofs.Firsts.{first_left, first_none, parts_up}
-use Rattle.sg_select.proofs.Neighbours.{behind_is, resting_open}
+use Rattle.sg_select.proofs.Neighbours.{behind_is, resting_open, differ}
+use Rattle.sg_select.proofs.Within.{and_off}
 use Rattle.sg_select.proofs.Below.{IsUnder, under_below, not_under, inside_under, after_apart, before_apart}
 
 -- the first that passes in two lists
@@ -37,13 +38,6 @@ pub find_left : (p : Place → Bool) (us vs : List Place) (v : Place) → slice_
 find_left p [] vs v at pass = absurd (none-some v at)
 find_left p (u ∷ us) vs v at pass = ap (λ b. cond b (Some u) (find p (us ++ vs))) (ap p (same_Some u v at) ∙ pass) ∙ at
 
-differs : (v u : Place) → (v ≡ u → ⊥) → bytes_eq v u ≡ false
-differs v u apart = by (bytes_eq v u) refl
-  where
-    by : (b : Bool) → bytes_eq v u ≡ b → bytes_eq v u ≡ false
-    by true same = absurd (apart (bytes_is v u same))
-    by false other = other
-
 not_at : (v u : Place) → (IsAtOrBelow v u → ⊥) → is_at_or_below v u ≡ false
 not_at v u apart = by (is_at_or_below v u) refl
   where
@@ -54,7 +48,7 @@ not_at v u apart = by (is_at_or_below v u) refl
 strictly : (u v : Place) → IsUnder 0 u v → is_below v u ≡ true
 strictly u v h =
     ap (λ b. b && not (bytes_eq v u)) (below_to v u (under_below 0 u v h))
-    ∙ ap not (differs v u (λ same. not_under 0 u (record { child = h.child; low = h.low; below = subst (λ w. IsAtOrBelow w (h.child ∷ u)) same h.below })))
+    ∙ ap not (differ v u (λ same. not_under 0 u (record { child = h.child; low = h.low; below = subst (λ w. IsAtOrBelow w (h.child ∷ u)) same h.below })))
 
 module _ (spec : Spec) (t : Term) where
   outside : (u : Place) (us : List Place) → ((v : Place) → Contains us v → IsAtOrBelow v u → ⊥) → (v : Place) → Contains us v → is_below v u ≡ false
@@ -66,13 +60,9 @@ module _ (spec : Spec) (t : Term) where
       by : (b : Bool) → Contains (when b (u ∷ [])) v → is_below v u ≡ false
       by false none = absurd (contains_none v none)
       by true here = elim (contains_either u [] v here) [
-        | inl same ↦ ap (λ w. is_below w u) (sym same) ∙ ap (λ b. is_at_or_below u u && not b) (bytes_itself u) ∙ and_false (is_at_or_below u u)
+        | inl same ↦ ap (λ w. is_below w u) (sym same) ∙ ap (λ b. is_at_or_below u u && not b) (bytes_itself u) ∙ and_off (is_at_or_below u u) false refl
         | inr none ↦ absurd (contains_none v none)
       ]
-        where
-          and_false : (a : Bool) → (a && false) ≡ false
-          and_false true = refl
-          and_false false = refl
 
   -- the first inside a node that can be reached
   pub first_is : (u : Place) (x : Term) → sub t u ≡ Some x → is_open spec t u ≡ true → first_from spec t u ≡ slice_get (inside spec u x) 0
@@ -139,18 +129,14 @@ module _ (spec : Spec) (t : Term) where
 
   other_up : (o : Option Place) (w : Place) → (o ≡ Some w → ⊥) → is_same_place o (Some w) ≡ false
   other_up None w apart = refl
-  other_up (Some v) w apart = differs v w (λ same. apart (ap Some same))
+  other_up (Some v) w apart = differ v w (λ same. apart (ap Some same))
 
   -- behind the nearest resting place above there is none
   pub no_sibling : (u w : Place) → up_from spec t u ≡ Some w → find (is_sibling u) (after spec t w) ≡ None
   no_sibling u w up = find_none (is_sibling u) (after spec t w) (λ v has.
       ap (λ o. not (is_at_or_below v u) && is_same_place (up_from spec t v) o) up
       ∙ ap (λ b. not (is_at_or_below v u) && b) (other_up (up_from spec t v) w (λ same. after_apart spec t w v has (above_below v w same)))
-      ∙ and_no (not (is_at_or_below v u)))
-    where
-      and_no : (a : Bool) → (a && false) ≡ false
-      and_no true = refl
-      and_no false = refl
+      ∙ and_off (not (is_at_or_below v u)) false refl)
 
   -- for a resting place: what comes after it, what rests above it, and the way up
   pub record IsSiblingAlike (u w : Place) : Type 0 where

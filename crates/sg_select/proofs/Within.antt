@@ -9,6 +9,11 @@ use Rattle.sg_kinds.specs.declared.spec.Spec.{Spec}
 use Rattle.sg_select.specs.Around.{when, inside, among}
 use Rattle.sg_select.specs.RestingPlaces.{child_place, is_shown, leads_on, rests_under, is_open, stands_resting, rests}
 
+-- what is false behind anything
+pub and_off : (a b : Bool) → b ≡ false → (a && b) ≡ false
+and_off true b off = off
+and_off false b off = refl
+
 when_cons : (b : Bool) (u : Place) (us : List Place) → cond b (u ∷ us) us ≡ when b (u ∷ []) ++ us
 when_cons true u us = refl
 when_cons false u us = refl

@@ -26,7 +26,7 @@ use Rattle.sg_groves.proofs.Lists.{contains_first}
 use Rattle.sg_terms.specs.Found.{op_at}
 use Rattle.sg_terms.specs.Storable.{IsStorable, IsSlot}
 use Rattle.sg_terms.proofs.Same.{IsTyped-grown}
-use Rattle.sg_trail.specs.declared.entry.Entry.{Entry}
+use Rattle.sg_trail.specs.declared.entry.WasStored.{WasStored}
 use Rattle.sg_trail.specs.Trails.{AreStorable, IsAnySlot, IsExchanged, LeadsBack, TellsNumbers, Way, is_of, was_in}
 use Rattle.sg_trail.proofs.Telling.{IsOf, last_tells, last_tells_not, of_from, of_to}
 
@@ -52,16 +52,16 @@ pub any_twice : (old mid new : Grove) → OnlyStored old mid IsAnySlot → OnlyS
 any_twice old mid new one two = only_more old new (λ n slot. IsAnySlot n slot ⊎ IsAnySlot n slot) IsAnySlot (λ n slot either. tt) (only_twice old mid new IsAnySlot IsAnySlot one two)
 
 -- entries from the end on are stored again
-pub record IsGoingBack (first now : Grove) (all rest : List Entry) : Type 0 where
+pub record IsGoingBack (first now : Grove) (all rest : List WasStored) : Type 0 where
   pub stored : OnlyStored first now IsAnySlot
   pub pool : now.pool ≡ first.pool
   pub storable : AreStorable now rest
   pub numbers : (n : NodeId) (slot : ℕ) → was_in rest n slot (number_at now n slot) ≡ was_in all n slot (number_at first n slot)
 
-pub back_first : (g : Grove) (es : List Entry) → AreStorable g es → IsGoingBack g g es es
+pub back_first : (g : Grove) (es : List WasStored) → AreStorable g es → IsGoingBack g g es es
 back_first g es storable = record { stored = only_itself g IsAnySlot; pool = refl; storable = storable; numbers = λ n slot. refl }
 
-pub back_next : (first now new : Grove) (all rest some : List Entry) (e : Entry) → some ≡ rest ++ e ∷ [] → OnlyStored now new (IsSlot e.node e.slot) → new.pool ≡ now.pool → number_at new e.node e.slot ≡ Some e.number → IsGoingBack first now all some → IsGoingBack first new all rest
+pub back_next : (first now new : Grove) (all rest some : List WasStored) (e : WasStored) → some ≡ rest ++ e ∷ [] → OnlyStored now new (IsSlot e.node e.slot) → new.pool ≡ now.pool → number_at new e.node e.slot ≡ Some e.number → IsGoingBack first now all some → IsGoingBack first new all rest
 back_next first now new all rest some e last only pool stored is =
     let was : IsGoingBack first now all (rest ++ e ∷ []) = subst (IsGoingBack first now all) last is in
     record {

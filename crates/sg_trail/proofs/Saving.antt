@@ -19,7 +19,7 @@ use Rattle.sg_groves.proofs.Lists.{contains_first, contains_either, contains_non
 use Rattle.sg_terms.specs.Found.{op_at}
 use Rattle.sg_terms.specs.Storable.{IsStorable}
 use Rattle.sg_terms.proofs.Written.{op_node, number_node, storable_again}
-use Rattle.sg_trail.specs.declared.entry.Entry.{Entry}
+use Rattle.sg_trail.specs.declared.entry.WasStored.{WasStored}
 use Rattle.sg_trail.specs.Trails.{AreCovered, IsCovered, IsSaved, AreSaved}
 
 -- what an operator's node is
@@ -58,7 +58,7 @@ pub kid_low : (g : Grove) → IsGrove g → (n : NodeId) (op k : ℕ) → op_at 
 kid_low g is n op k at low x found = let operation = operation_is g is n x op found at in let arity = operation.arity in omega (arith, low, arity)
 
 -- one entry more
-pub saved_push : (g : Grove) → IsGrove g → (es : List Entry) (n : NodeId) (op slot id : ℕ) → op_at g n ≡ Some op → number_at g n slot ≡ Some id → AreSaved g es → AreSaved g (es ++ record { node = n; slot = slot; number = id } ∷ [])
+pub saved_push : (g : Grove) → IsGrove g → (es : List WasStored) (n : NodeId) (op slot id : ℕ) → op_at g n ≡ Some op → number_at g n slot ≡ Some id → AreSaved g es → AreSaved g (es ++ record { node = n; slot = slot; number = id } ∷ [])
 saved_push g is es n op slot id at number saved e has = elim (Contains-append_cases es (record { node = n; slot = slot; number = id } ∷ []) e has) [
   | inl old ↦ saved e old
   | inr new ↦ elim (contains_either (record { node = n; slot = slot; number = id }) [] e new) [
@@ -68,21 +68,21 @@ saved_push g is es n op slot id at number saved e has = elim (Contains-append_ca
 ]
 
 -- the first slots of a node
-pub record IsSavingNode (g : Grove) (old now : List Entry) (n : NodeId) (i : ℕ) : Type 0 where
+pub record IsSavingNode (g : Grove) (old now : List WasStored) (n : NodeId) (i : ℕ) : Type 0 where
   pub saved : AreSaved g old → AreSaved g now
-  pub stay : (e : Entry) → Contains old e → Contains now e
+  pub stay : (e : WasStored) → Contains old e → Contains now e
   pub covered : (slot : ℕ) → slot < i → IsCovered now n slot
 
-pub covered_more : (old now : List Entry) (n : NodeId) (slot : ℕ) → ((e : Entry) → Contains old e → Contains now e) → IsCovered old n slot → IsCovered now n slot
+pub covered_more : (old now : List WasStored) (n : NodeId) (slot : ℕ) → ((e : WasStored) → Contains old e → Contains now e) → IsCovered old n slot → IsCovered now n slot
 covered_more old now n slot stay c = record { entry = c.entry; listed = stay c.entry c.listed; node_is = c.node_is; slot_is = c.slot_is }
 
-pub node_first : (g : Grove) (es : List Entry) (n : NodeId) → IsSavingNode g es es n 0
+pub node_first : (g : Grove) (es : List WasStored) (n : NodeId) → IsSavingNode g es es n 0
 node_first g es n = record { saved = λ s. s; stay = λ e has. has; covered = λ slot low. absurd (omega (arith, low)) }
 
-pub node_next : (g : Grove) → IsGrove g → (old now new : List Entry) (n : NodeId) (op id i : ℕ) → op_at g n ≡ Some op → number_at g n i ≡ Some id → new ≡ now ++ record { node = n; slot = i; number = id } ∷ [] → IsSavingNode g old now n i → IsSavingNode g old new n (i + 1)
+pub node_next : (g : Grove) → IsGrove g → (old now new : List WasStored) (n : NodeId) (op id i : ℕ) → op_at g n ≡ Some op → number_at g n i ≡ Some id → new ≡ now ++ record { node = n; slot = i; number = id } ∷ [] → IsSavingNode g old now n i → IsSavingNode g old new n (i + 1)
 node_next g is old now new n op id i at number pushed s =
-    let here : Entry = record { node = n; slot = i; number = id } in
-    let more : (e : Entry) → Contains now e → Contains new e = λ e has. subst (λ es. Contains es e) (sym pushed) (Contains-append_left now (here ∷ []) e has) in
+    let here : WasStored = record { node = n; slot = i; number = id } in
+    let more : (e : WasStored) → Contains now e → Contains new e = λ e has. subst (λ es. Contains es e) (sym pushed) (Contains-append_left now (here ∷ []) e has) in
     record {
       saved = λ was. subst (AreSaved g) (sym pushed) (saved_push g is now n op i id at number (s.saved was));
       stay = λ e has. more e (s.stay e has);
@@ -93,13 +93,13 @@ node_next g is old now new n op id i at number pushed s =
     }
 
 -- the first children of a node
-pub record IsSavingKids (g : Grove) (old now : List Entry) (n : NodeId) (i : ℕ) : Type 0 where
+pub record IsSavingKids (g : Grove) (old now : List WasStored) (n : NodeId) (i : ℕ) : Type 0 where
   pub saved : AreSaved g old → AreSaved g now
-  pub stay : (e : Entry) → Contains old e → Contains now e
+  pub stay : (e : WasStored) → Contains old e → Contains now e
   pub own : (slot id : ℕ) → number_at g n slot ≡ Some id → IsCovered now n slot
   pub kids : (k : ℕ) (c : NodeId) → k < i → IsChild (nodes g) c n k → AreCovered g c now
 
-pub covered_still : (g : Grove) (old now : List Entry) (c : NodeId) → ((e : Entry) → Contains old e → Contains now e) → AreCovered g c old → AreCovered g c now
+pub covered_still : (g : Grove) (old now : List WasStored) (c : NodeId) → ((e : WasStored) → Contains old e → Contains now e) → AreCovered g c old → AreCovered g c now
 covered_still g old now c stay covered n op slot id inside at number = covered_more old now n slot stay (covered n op slot id inside at number)
 
 -- a place in a tree is its top or in the tree of a child
@@ -119,13 +119,13 @@ child_low g is n c k op at hangs =
     let low = slice_get_within lists.node.kids k c lists.lists in
     omega (arith, arity, count, low)
 
-pub all_kids : (g : Grove) → IsGrove g → (old now : List Entry) (n : NodeId) (op i : ℕ) → op_at g n ≡ Some op → length (args_of g.spec.ops op) ≡ i → IsSavingKids g old now n i → AreCovered g n now
+pub all_kids : (g : Grove) → IsGrove g → (old now : List WasStored) (n : NodeId) (op i : ℕ) → op_at g n ≡ Some op → length (args_of g.spec.ops op) ≡ i → IsSavingKids g old now n i → AreCovered g n now
 all_kids g is old now n op i at all s m q slot id inside is_op number = elim (top_way g inside.path m n inside.climbs) [
   | inl same ↦ subst (λ z. IsCovered now z slot) (sym same) (s.own slot id (ap (λ z. number_at g z slot) (sym same) ∙ number))
   | inr low ↦ s.kids low.0 low.1 (let l = child_low g is n low.1 low.0 op at low.2 in omega (arith, l, all)) low.2 m q slot id low.3 is_op number
 ]
 
-pub leaf_covered : (g : Grove) → IsGrove g → (es : List Entry) (n : NodeId) → op_at g n ≡ None → AreCovered g n es
+pub leaf_covered : (g : Grove) → IsGrove g → (es : List WasStored) (n : NodeId) → op_at g n ≡ None → AreCovered g n es
 leaf_covered g is es n leaf m q slot id inside is_op number = elim (top_way g inside.path m n inside.climbs) [
   | inl same ↦ absurd (none-some q (sym leaf ∙ ap (op_at g) (sym same) ∙ is_op))
   | inr low ↦ absurd (
@@ -138,10 +138,10 @@ leaf_covered g is es n leaf m q slot id inside is_op number = elim (top_way g in
     by x found None e node count low = let none = node.arity in omega (arith, none, count, low)
     by x found (Some p) e node count low = none-some p (sym e)
 
-pub kids_first : (g : Grove) (old now : List Entry) (n : NodeId) → (AreSaved g old → AreSaved g now) → ((e : Entry) → Contains old e → Contains now e) → ((slot id : ℕ) → number_at g n slot ≡ Some id → IsCovered now n slot) → IsSavingKids g old now n 0
+pub kids_first : (g : Grove) (old now : List WasStored) (n : NodeId) → (AreSaved g old → AreSaved g now) → ((e : WasStored) → Contains old e → Contains now e) → ((slot id : ℕ) → number_at g n slot ≡ Some id → IsCovered now n slot) → IsSavingKids g old now n 0
 kids_first g old now n saved stay own = record { saved = saved; stay = stay; own = own; kids = λ k c low hangs. absurd (omega (arith, low)) }
 
-pub kids_next : (g : Grove) → IsGrove g → (old now new : List Entry) (n c : NodeId) (i : ℕ) → IsChild (nodes g) c n i → (AreSaved g now → AreSaved g new) → ((e : Entry) → Contains now e → Contains new e) → AreCovered g c new → IsSavingKids g old now n i → IsSavingKids g old new n (i + 1)
+pub kids_next : (g : Grove) → IsGrove g → (old now new : List WasStored) (n c : NodeId) (i : ℕ) → IsChild (nodes g) c n i → (AreSaved g now → AreSaved g new) → ((e : WasStored) → Contains now e → Contains new e) → AreCovered g c new → IsSavingKids g old now n i → IsSavingKids g old new n (i + 1)
 kids_next g is old now new n c i hangs saved stay covered s = record {
   saved = λ was. saved (s.saved was);
   stay = λ e has. stay e (s.stay e has);

@@ -8,48 +8,48 @@ use Rattle.sg_groves.specs.Stored.{number_at}
 use Rattle.sg_groves.specs.Unchanged.{OnlyStored}
 use Rattle.sg_terms.specs.Found.{op_at}
 use Rattle.sg_terms.specs.Storable.{IsStorable}
-use Rattle.sg_trail.specs.declared.entry.Entry.{Entry}
+use Rattle.sg_trail.specs.declared.entry.WasStored.{WasStored}
 
 -- two nodes whose trees changed places, and numbers that slots had, the oldest first
 pub record Way : Type 0 where
   pub at : NodeId
   pub detached : NodeId
-  pub entries : List Entry
+  pub entries : List WasStored
 
-abbrev pub is_of : Entry → NodeId → ℕ → Bool
+abbrev pub is_of : WasStored → NodeId → ℕ → Bool
 is_of e n slot = nat_eq e.node.key n.key && nat_eq e.slot slot
 
 -- the number that a slot had at first: that of its oldest entry, else the one that it has now
-abbrev pub was_in : List Entry → NodeId → ℕ → Option ℕ → Option ℕ
+abbrev pub was_in : List WasStored → NodeId → ℕ → Option ℕ → Option ℕ
 was_in [] n slot now = now
 was_in (e ∷ es) n slot now = cond (is_of e n slot) (Some e.number) (was_in es n slot now)
 
 -- a slot has an entry, so that no number stored there from now on matters
-pub record IsCovered (es : List Entry) (n : NodeId) (slot : ℕ) : Type 0 where
-  pub entry : Entry
+pub record IsCovered (es : List WasStored) (n : NodeId) (slot : ℕ) : Type 0 where
+  pub entry : WasStored
   pub listed : Contains es entry
   pub node_is : entry.node ≡ n
   pub slot_is : entry.slot ≡ slot
 
 -- each slot of each node of an operator in a tree has one
-abbrev pub AreCovered : Grove → NodeId → List Entry → Type 0
+abbrev pub AreCovered : Grove → NodeId → List WasStored → Type 0
 AreCovered g root es = (n : NodeId) (op slot id : ℕ) → IsInside (nodes g) n root → op_at g n ≡ Some op
     → number_at g n slot ≡ Some id → IsCovered es n slot
 
 -- each entry may be stored
-abbrev pub AreStorable : Grove → List Entry → Type 0
-AreStorable g es = (e : Entry) → Contains es e → IsStorable g e.node e.slot e.number
+abbrev pub AreStorable : Grove → List WasStored → Type 0
+AreStorable g es = (e : WasStored) → Contains es e → IsStorable g e.node e.slot e.number
 
 -- each entry has the number that its slot has, which may be stored again
-pub record IsSaved (g : Grove) (e : Entry) : Type 0 where
+pub record IsSaved (g : Grove) (e : WasStored) : Type 0 where
   pub number : number_at g e.node e.slot ≡ Some e.number
   pub storable : IsStorable g e.node e.slot e.number
 
-abbrev pub AreSaved : Grove → List Entry → Type 0
-AreSaved g es = (e : Entry) → Contains es e → IsSaved g e
+abbrev pub AreSaved : Grove → List WasStored → Type 0
+AreSaved g es = (e : WasStored) → Contains es e → IsSaved g e
 
 -- the entries tell the numbers that slots had in an earlier grove
-abbrev pub TellsNumbers : Grove → Grove → List Entry → Type 0
+abbrev pub TellsNumbers : Grove → Grove → List WasStored → Type 0
 TellsNumbers before now es = (n : NodeId) (slot : ℕ) → was_in es n slot (number_at now n slot) ≡ number_at before n slot
 
 -- any slot of any node

@@ -5,5 +5,5 @@ mod entry;
 mod saved;
 mod trail;
 
-pub use entry::Entry;
+pub use entry::WasStored;
 pub use trail::Trail;

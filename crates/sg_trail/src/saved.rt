@@ -9,7 +9,7 @@ ghost use Rattle.sg_groves.specs.Stored.{number_at};
 ghost use Rattle.sg_terms.specs.Found.{op_at};
 ghost use Rattle.sg_trail.specs.Trails.{AreCovered, AreSaved, IsCovered};
 
-use crate::entry::Entry;
+use crate::entry::WasStored;
 use sg_forest::NodeId;
 use sg_kinds::ids::OpId;
 use sg_kinds::memory::NoMemory;
@@ -38,7 +38,12 @@ fn arg_count(spec: &Spec, op: OpId) -> usize
 }
 
 // the numbers of a node of an operator, each as an entry
-fn save_node(terms: &Terms, n: NodeId, op: OpId, entries: &mut Vec<Entry>) -> Result<(), NoMemory>
+fn save_node(
+    terms: &Terms,
+    n: NodeId,
+    op: OpId,
+    entries: &mut Vec<WasStored>,
+) -> Result<(), NoMemory>
     requires op { op_at terms.now n ≡ Some op }
     ensures saved { AreSaved terms.now entries.old.items → AreSaved terms.now entries.new.items }
     ensures stay { (e : _) → Contains entries.old.items e → Contains entries.new.items e }
@@ -50,7 +55,7 @@ fn save_node(terms: &Terms, n: NodeId, op: OpId, entries: &mut Vec<Entry>) -> Re
     for k in 0..count {
         let slot = k as u32;
         let number = terms.stored(n, slot);
-        entries.push(Entry {
+        entries.push(WasStored {
             node: n,
             slot,
             number,
@@ -60,7 +65,7 @@ fn save_node(terms: &Terms, n: NodeId, op: OpId, entries: &mut Vec<Entry>) -> Re
 }
 
 // the numbers of the nodes of operators in a tree
-pub fn save_tree(terms: &Terms, n: NodeId, entries: &mut Vec<Entry>) -> Result<(), NoMemory>
+pub fn save_tree(terms: &Terms, n: NodeId, entries: &mut Vec<WasStored>) -> Result<(), NoMemory>
     requires { IsLive (nodes terms.now) n }
     ensures saved { AreSaved terms.now entries.old.items → AreSaved terms.now entries.new.items }
     ensures stay { (e : _) → Contains entries.old.items e → Contains entries.new.items e }

@@ -7,7 +7,7 @@ ghost use Rattle.sg_groves.specs.Stored.{number_at};
 ghost use Rattle.sg_groves.specs.Unchanged.{OnlyStored};
 ghost use Rattle.sg_trail.specs.Trails.{was_in, AreCovered, AreStorable, TellsNumbers, IsAnySlot, LeadsBack};
 
-use crate::entry::Entry;
+use crate::entry::WasStored;
 use crate::saved::save_tree;
 use sg_forest::NodeId;
 use sg_kinds::memory::NoMemory;
@@ -21,7 +21,7 @@ use std::marker::Model;
 pub struct Trail {
     at: NodeId,
     detached: NodeId,
-    entries: Vec<Entry>,
+    entries: Vec<WasStored>,
 }
 
 impl Model for Trail {
@@ -58,7 +58,7 @@ impl Trail {
     }
 
     /// Keeps the number that a slot has, before another is stored there. Without memory nothing changes.
-    pub fn push(&mut self, entry: Entry) -> Result<(), NoMemory>
+    pub fn push(&mut self, entry: WasStored) -> Result<(), NoMemory>
         ensures pushed { OnOk result (self.new.entries ≡ self.old.entries ++ entry ∷ []) }
         ensures at { self.new.at ≡ self.old.at }
         ensures detached { self.new.detached ≡ self.old.detached }
@@ -84,7 +84,7 @@ impl Trail {
 }
 
 // the numbers of the entries, the newest first
-fn store_back(entries: Vec<Entry>, terms: &mut Terms)
+fn store_back(entries: Vec<WasStored>, terms: &mut Terms)
     requires { AreStorable terms.old entries.items }
     ensures stored { OnlyStored terms.old terms.new IsAnySlot }
     ensures pool { terms.new.pool ≡ terms.old.pool }

@@ -18,10 +18,10 @@ use Rattle.sg_forest.specs.declared.node_id.NodeId.{NodeId}
 use Rattle.sg_groves.specs.Grove.{Grove}
 use Rattle.sg_terms.specs.Told.{elided_of}
 use Rattle.sg_unparse.specs.Shown.{scheme_of}
-use Rattle.sg_unparse.specs.Along.{node_along, stored, is_captured, typed_in, items_in, shows_in, kids_in, own_in, elided_in, content_in, unparsed_in}
+use Rattle.sg_unparse.specs.Along.{node_along, stored, is_captured, typed_in, items_in, shows_in, kids_in, own_in, content_in, unparsed_in}
 use Rattle.sg_unparse.specs.Cells.{Mark, Writes, Closed, Writing, nothing, in_turn, as_they_are, plain, pieces, placed, ended, cells_in, content, items_of, goes_on, unparsed_among}
 use Rattle.sg_unparse.specs.Page.{all_cells, cells_of, spans_behind}
-use Rattle.sg_unparse.specs.Written.{IsWritten, Wrote, by_node, on_page, sheet_of}
+use Rattle.sg_unparse.specs.Written.{HoldsMarks, Wrote, by_node, on_page, sheet_of}
 use Rattle.sg_unparse.specs.Sheet.{kept_cells}
 use Rattle.sg_unparse.specs.declared.writer.Writer.{Writer}
 use Rattle.sg_unparse.proofs.Streams.{length-all_cells}
@@ -40,18 +40,18 @@ module _ (g : Grove) (root : NodeId) (captured : Option NodeId) (text : Bytes) w
   typed_is : (u : Place) (n : NodeId) (b : Bool) → node_along g root u ≡ n → is_captured captured n ≡ b → typed_in g root captured text u ≡ (if b then Some text else None)
   typed_is u n b along is = ap (λ m. if is_captured captured m then Some text else None) along ∙ ap (λ t. if t then Some text else None) is
 
-  content_is : (u : Place) (t : Term) (o : Option Bytes) (elided : Bool) → typed_in g root captured text u ≡ o → elided_in g root captured text t ≡ elided → (m : ℕ) → content g.spec (stored g root) (typed_in g root captured text) u o elided (own_in g root captured text u t) m ≡ content_in g root captured text u t m
+  content_is : (u : Place) (t : Term) (o : Option Bytes) (elided : Bool) → typed_in g root captured text u ≡ o → elided_of t ≡ elided → (m : ℕ) → content g.spec (stored g root) (typed_in g root captured text) u o elided (own_in g root captured text u t) m ≡ content_in g root captured text u t m
   content_is u t o elided e f m =
       ap (λ x. content g.spec (stored g root) (typed_in g root captured text) u x elided (own_in g root captured text u t) m) (sym e)
       ∙ ap (λ x. content g.spec (stored g root) (typed_in g root captured text) u (typed_in g root captured text u) x (own_in g root captured text u t) m) (sym f)
 
   pub content_typed : (old new : Writer) (u : Place) (n : NodeId) (t : Term) → node_along g root u ≡ n → is_captured captured n ≡ true → Wrote (node_along g root) old new (plain u text) → Wrote (node_along g root) old new (content_in g root captured text u t)
-  content_typed old new u n t along is w = wrote_as (node_along g root) old new (plain u text) (content_in g root captured text u t) (content_is u t (Some text) (elided_in g root captured text t) (typed_is u n true along is) refl) w
+  content_typed old new u n t along is w = wrote_as (node_along g root) old new (plain u text) (content_in g root captured text u t) (content_is u t (Some text) (elided_of t) (typed_is u n true along is) refl) w
 
-  pub content_elided : (old new : Writer) (u : Place) (n : NodeId) (t : Term) → node_along g root u ≡ n → is_captured captured n ≡ false → elided_in g root captured text t ≡ true → Wrote (node_along g root) old new (as_they_are u (46 ∷ 46 ∷ 46 ∷ [])) → Wrote (node_along g root) old new (content_in g root captured text u t)
+  pub content_elided : (old new : Writer) (u : Place) (n : NodeId) (t : Term) → node_along g root u ≡ n → is_captured captured n ≡ false → elided_of t ≡ true → Wrote (node_along g root) old new (as_they_are u (46 ∷ 46 ∷ 46 ∷ [])) → Wrote (node_along g root) old new (content_in g root captured text u t)
   content_elided old new u n t along is e w = wrote_as (node_along g root) old new (as_they_are u (46 ∷ 46 ∷ 46 ∷ [])) (content_in g root captured text u t) (content_is u t None true (typed_is u n false along is) e) w
 
-  pub content_own : (old new : Writer) (u : Place) (n : NodeId) (t : Term) → node_along g root u ≡ n → is_captured captured n ≡ false → elided_in g root captured text t ≡ false → Wrote (node_along g root) old new (own_in g root captured text u t) → Wrote (node_along g root) old new (content_in g root captured text u t)
+  pub content_own : (old new : Writer) (u : Place) (n : NodeId) (t : Term) → node_along g root u ≡ n → is_captured captured n ≡ false → elided_of t ≡ false → Wrote (node_along g root) old new (own_in g root captured text u t) → Wrote (node_along g root) old new (content_in g root captured text u t)
   content_own old new u n t along is e w = wrote_as (node_along g root) old new (own_in g root captured text u t) (content_in g root captured text u t) (content_is u t None false (typed_is u n false along is) e) w
 
   -- the children that are still to come
@@ -128,7 +128,7 @@ spans_cut at n total (Closed u k ∷ xs) h =
     ∙ ap (λ b. record { node = at u; from = min (n - k) (min 1048576 total); to = b } ∷ map (on_page at 1048576) (spans_behind n xs)) to
     ∙ ap (λ ss. on_page at (min 1048576 total) (record { node = u; from = n - k; to = n }) ∷ ss) (spans_cut at n total xs h)
 
-pub sheet_written : (at : Place → NodeId) (w : Writer) (marks : List Mark) (m : ℕ) → IsWritten at w marks m → record { cells = kept_cells w.text.items w.runs.items; spans = w.spans.items; more = w.more } ≡ sheet_of at marks
+pub sheet_written : (at : Place → NodeId) (w : Writer) (marks : List Mark) (m : ℕ) → HoldsMarks at w marks m → record { cells = kept_cells w.text.items w.runs.items; spans = w.spans.items; more = w.more } ≡ sheet_of at marks
 sheet_written at w marks m h =
     let size : min 1048576 (length (all_cells marks)) ≡ length (cells_of marks) = sym (length-take 1048576 (all_cells marks)) in
     let count = length-all_cells marks in
@@ -171,7 +171,3 @@ module _ (g : Grove) (root : NodeId) (captured : Option NodeId) (text : Bytes) w
 
   pub nothing_written : (w : Writer) (u : Place) (t : Term) (op k : ℕ) (elided : Bool) (ts : Terms) → t ≡ Node op k elided ts → scheme_of g.spec op k ≡ None → Wrote (node_along g root) w w (own_in g root captured text u t)
   nothing_written w u t op k elided ts e none = scheme_written w w u t op k elided (goes_on ts) ts [] e refl (none_items op k none) (wrote_nothing (node_along g root) w)
-
-  pub elided_told : (t : Term) → elided_of t ≡ elided_in g root captured text t
-  elided_told (Leaf p v) = refl
-  elided_told (Node op k elided ts) = refl

@@ -14,7 +14,7 @@ use Rattle.sg_forest.specs.declared.node_id.NodeId.{NodeId}
 use Rattle.sg_unparse.specs.Cells.{Mark, Writes, as_they_are, cells_in}
 use Rattle.sg_unparse.specs.Page.{all_cells, cells_of, is_cut, is_newline, spans_behind}
 use Rattle.sg_unparse.specs.Sheet.{IsKept, kept_cells, starts_from, owner_in, no_node}
-use Rattle.sg_unparse.specs.Written.{IsWritten, Wrote, Owns, by_node, on_page}
+use Rattle.sg_unparse.specs.Written.{HoldsMarks, Wrote, Owns, by_node, on_page}
 use Rattle.sg_unparse.specs.declared.page.Run.{Run}
 use Rattle.sg_unparse.specs.declared.page.Span.{Span}
 use Rattle.sg_unparse.specs.declared.writer.Writer.{Writer}
@@ -105,7 +105,7 @@ cells_more text old new b owner o =
     ∙ ap (λ x. kept_cells text old ++ (b, x) ∷ []) (ap (owner_in no_node new) zero ∙ o.here)
 
 -- the page of marks has as many cells as are kept
-pub kept_length : (at : Place → NodeId) (w : Writer) (marks : List Mark) (m : ℕ) → IsWritten at w marks m → length w.text.items ≡ min 1048576 (length (all_cells marks))
+pub kept_length : (at : Place → NodeId) (w : Writer) (marks : List Mark) (m : ℕ) → HoldsMarks at w marks m → length w.text.items ≡ min 1048576 (length (all_cells marks))
 kept_length at w marks m h =
     sym (cells_counted 0 (owner_in no_node w.runs.items) w.text.items) ∙ ap length h.cells ∙ length-map (cells_of marks) (by_node at) ∙ length-take 1048576 (all_cells marks)
 
@@ -121,7 +121,7 @@ spans_stay marks xs none = spans_behind-append 0 marks xs ∙ ap (λ ss. spans_b
 
 module _ (at : Place → NodeId) where
   -- a page that is full, with or without more
-  pub full : (w : Writer) (more : Bool) (marks xs : List Mark) (m : ℕ) → IsWritten at w marks m → ((n : ℕ) → spans_behind n xs ≡ []) → 1048576 ≤ length (all_cells marks) → more ≡ is_cut (marks ++ xs) → IsWritten at (record w { more = more }) (marks ++ xs) m
+  pub full : (w : Writer) (more : Bool) (marks xs : List Mark) (m : ℕ) → HoldsMarks at w marks m → ((n : ℕ) → spans_behind n xs ≡ []) → 1048576 ≤ length (all_cells marks) → more ≡ is_cut (marks ++ xs) → HoldsMarks at (record w { more = more }) (marks ++ xs) m
   full w more marks xs m h none room e = record {
     kept = h.kept;
     cells = h.cells ∙ ap (map (by_node at)) (sym (cut_stays marks xs room));
@@ -138,7 +138,7 @@ module _ (at : Place → NodeId) where
         full w true marks (Writes b u ∷ []) m h (λ n. refl) (omega (arith, size, room)) (sym (lt-ltb 1048576 (length (all_cells (marks ++ Writes b u ∷ []))) (omega (arith, size, room, count))));
   }
 
-  pub cut_more : (w : Writer) (marks xs : List Mark) (m : ℕ) → IsWritten at w marks m → ((n : ℕ) → spans_behind n xs ≡ []) → w.more ≡ true → IsWritten at w (marks ++ xs) m
+  pub cut_more : (w : Writer) (marks xs : List Mark) (m : ℕ) → HoldsMarks at w marks m → ((n : ℕ) → spans_behind n xs ≡ []) → w.more ≡ true → HoldsMarks at w (marks ++ xs) m
   cut_more w marks xs m h none e =
       let over = ltb-true 1048576 (length (all_cells marks)) (sym h.more ∙ e) in
       let count = counted marks xs in

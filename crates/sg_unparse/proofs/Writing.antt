@@ -14,7 +14,7 @@ use Rattle.sg_unparse.specs.Page.{Span as SpanOf, all_cells, spans_behind}
 use Rattle.std.proofs.lemmas.List.Elements.{All-push}
 use Rattle.sg_unparse.specs.Sheet.{IsKept, kept_cells}
 use Rattle.sg_unparse.specs.declared.page.Span.{Span}
-use Rattle.sg_unparse.specs.Written.{IsWritten, Wrote, blanks_of, by_node, on_page}
+use Rattle.sg_unparse.specs.Written.{HoldsMarks, Wrote, blanks_of, by_node, on_page}
 use Rattle.sg_unparse.specs.declared.writer.Writer.{Writer}
 use Rattle.sg_unparse.proofs.Streams.{all_cells-append, spans_behind-append, length-all_cells, cells_in-append}
 use Rattle.sg_unparse.proofs.Put.{cut_more, kept_length}
@@ -56,15 +56,15 @@ module _ (at : Place → NodeId) where
   -- the same, said otherwise
   pub wrote_as : (old new : Writer) (f g : Writing) → ((m : ℕ) → f m ≡ g m) → Wrote at old new f → Wrote at old new g
   wrote_as old new f g e w = record {
-    behind = λ marks m h. subst (λ (p : List Mark × ℕ). IsWritten at new (marks ++ p.0) p.1) (e m) (w.behind marks m h);
+    behind = λ marks m h. subst (λ (p : List Mark × ℕ). HoldsMarks at new (marks ++ p.0) p.1) (e m) (w.behind marks m h);
   }
 
   pub wrote_nothing : (w : Writer) → Wrote at w w nothing
-  wrote_nothing w = record { behind = λ marks m h. subst (λ xs. IsWritten at w xs m) (sym (append-nil marks)) h }
+  wrote_nothing w = record { behind = λ marks m h. subst (λ xs. HoldsMarks at w xs m) (sym (append-nil marks)) h }
 
   pub wrote_turn : (old mid new : Writer) (f g : Writing) → Wrote at old mid f → Wrote at mid new g → Wrote at old new (in_turn f g)
   wrote_turn old mid new f g v w = record {
-    behind = λ marks m h. subst (λ xs. IsWritten at new xs (g (f m).1).1) (append_assoc marks (f m).0 (g (f m).1).0) (w.behind (marks ++ (f m).0) (f m).1 (v.behind marks m h));
+    behind = λ marks m h. subst (λ xs. HoldsMarks at new xs (g (f m).1).1) (append_assoc marks (f m).0 (g (f m).1).0) (w.behind (marks ++ (f m).0) (f m).1 (v.behind marks m h));
   }
 
   -- bytes
@@ -80,11 +80,11 @@ module _ (at : Place → NodeId) where
   pub blanks_written : (old new : Writer) (u : Place) (count : ℕ) → count ≡ min old.margin ((1048576 - length old.text.items) + 1) → Wrote at old new (as_they_are u (replicate count 32)) → Wrote at old new (blanks_of u)
   blanks_written old new u count e w = record { behind = λ marks m h. by marks m h (cases_lt count m) }
     where
-      by : (marks : List Mark) (m : ℕ) → IsWritten at old marks m → ((count < m) ⊎ (m ≤ count)) → IsWritten at new (marks ++ (blanks_of u m).0) m
+      by : (marks : List Mark) (m : ℕ) → HoldsMarks at old marks m → ((count < m) ⊎ (m ≤ count)) → HoldsMarks at new (marks ++ (blanks_of u m).0) m
       by marks m h (inr l) =
           let margin = h.margin in
           let same : count ≡ m = omega (arith, e, margin, l) in
-          subst (λ k. IsWritten at new (marks ++ map (λ b. Writes b u) (replicate k 32)) m) same (w.behind marks m h)
+          subst (λ k. HoldsMarks at new (marks ++ map (λ b. Writes b u) (replicate k 32)) m) same (w.behind marks m h)
       by marks m h (inl l) =
           let margin = h.margin in
           let size = kept_length at old marks m h in
@@ -96,7 +96,7 @@ module _ (at : Place → NodeId) where
           let long = length-replicate {A = ℕ} count 32 in
           let over : 1048576 < length (all_cells (marks ++ first)) = omega (arith, e, margin, l, size, cells, some, long) in
           let sum : count + (m - count) ≡ m = omega (arith, l) in
-          subst (λ xs. IsWritten at new xs m)
+          subst (λ xs. HoldsMarks at new xs m)
           (append_assoc marks first rest ∙ ap (λ xs. marks ++ xs) (sym (map-append (λ b. Writes b u) (replicate count 32) (replicate (m - count) 32)) ∙ ap (map (λ b. Writes b u)) (replicate-append-replicate count (m - count) 32 ∙ ap (λ k. replicate k 32) sum)))
           (cut_more at new (marks ++ first) rest m done (no_ends u (replicate (m - count) 32)) (done.more ∙ lt-ltb 1048576 (length (all_cells (marks ++ first))) over))
 
@@ -121,12 +121,12 @@ module _ (at : Place → NodeId) where
       joined (c ∷ s) m = step (if c == 10 then newline u else as_they_are u (c ∷ [])) (plain u s) (plain u (b ∷ [])) m ∙ ap (λ (p : List Mark × ℕ). (((if c == 10 then newline u else as_they_are u (c ∷ [])) m).0 ++ p.0, p.1)) (joined s ((if c == 10 then newline u else as_they_are u (c ∷ [])) m).1)
 
   pub cut_plain : (w : Writer) (u : Place) (s : Bytes) → w.more ≡ true → Wrote at w w (plain u s)
-  cut_plain w u s e = record { behind = λ marks m h. subst (λ k. IsWritten at w (marks ++ (plain u s m).0) k) (sym (plain_margin u s m)) (cut_more at w marks (plain u s m).0 m h (plain_ends u s m) e) }
+  cut_plain w u s e = record { behind = λ marks m h. subst (λ k. HoldsMarks at w (marks ++ (plain u s m).0) k) (sym (plain_margin u s m)) (cut_more at w marks (plain u s m).0 m h (plain_ends u s m) e) }
 
   -- the pieces of a string
   pub step_written : (w new : Writer) (u : Place) (back on : ℕ) → new.text.items ≡ w.text.items → new.runs.items ≡ w.runs.items → new.starts.items ≡ w.starts.items → new.spans.items ≡ w.spans.items → new.more ≡ w.more → new.margin ≡ (w.margin - 2 * back) + 2 * on → Wrote at w new (piece u (Margin back on))
   step_written w new u back on text runs starts spans more margin = record {
-    behind = λ marks m h. subst (λ xs. IsWritten at new xs ((m - 2 * back) + 2 * on)) (sym (append-nil marks)) (record {
+    behind = λ marks m h. subst (λ xs. HoldsMarks at new xs ((m - 2 * back) + 2 * on)) (sym (append-nil marks)) (record {
       kept = subst (λ s. IsKept s new.runs.items new.starts.items new.spans.items) (sym text) (subst (λ rs. IsKept w.text.items rs new.starts.items new.spans.items) (sym runs) (subst (λ xs. IsKept w.text.items w.runs.items xs new.spans.items) (sym starts) (subst (λ ss. IsKept w.text.items w.runs.items w.starts.items ss) (sym spans) h.kept)));
       cells = ap (λ s. kept_cells s new.runs.items) text ∙ ap (kept_cells w.text.items) runs ∙ h.cells;
       spans = spans ∙ h.spans;
@@ -165,7 +165,7 @@ module _ (at : Place → NodeId) where
         let to_is : min span.to 1048576 ≡ to = omega (arith, high, all, b, c) in
         let some : from ≤ to = omega (arith, low, high, size, all, a, b, c) in
         let within : to ≤ length old.text.items = omega (arith, high) in
-        subst (λ ys. IsWritten at new ys (f m).1) (append_assoc marks xs end) (record {
+        subst (λ ys. HoldsMarks at new ys (f m).1) (append_assoc marks xs end) (record {
           kept = kept_is (record {
             small = done.kept.small;
             lines = done.kept.lines;

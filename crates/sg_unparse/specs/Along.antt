@@ -10,6 +10,7 @@ use Rattle.sg_forest.specs.declared.node_id.NodeId.{NodeId}
 use Rattle.sg_groves.specs.Grove.{Grove, nodes}
 use Rattle.sg_groves.specs.Holds.{Holds}
 use Rattle.sg_groves.specs.Stored.{value_there}
+use Rattle.sg_terms.specs.Told.{elided_of}
 use Rattle.sg_unparse.specs.Cells.{Writing, plain, content, items, items_of, goes_on, shows, unparsed, unparsed_among}
 use Rattle.sg_unparse.specs.Shown.{value_text}
 
@@ -56,13 +57,9 @@ module _ (g : Grove) (root : NodeId) where
     own_in u (Leaf p v) = plain u (value_text g.spec p v)
     own_in u (Node op n elided ts) = items_in u op (goes_on ts) (items_of g.spec op n) (kids_in u ts)
 
-    abbrev pub elided_in : Term → Bool
-    elided_in (Leaf p v) = false
-    elided_in (Node op n elided ts) = elided
-
     abbrev pub content_in : Place → Term → Writing
     content_in u t =
-        content g.spec stored (typed_in captured text) u (typed_in captured text u) (elided_in t) (own_in u t)
+        content g.spec stored (typed_in captured text) u (typed_in captured text u) (elided_of t) (own_in u t)
 
     abbrev pub unparsed_in : Place → Term → Writing
     unparsed_in u t = unparsed g.spec stored (typed_in captured text) u t

@@ -27,7 +27,7 @@ module _ (at : Place → NodeId) where
       record { cells = map by_node cells; spans = map (on_page (length cells)) (spans_behind 0 marks); more = is_cut marks }
 
   -- a writer has written marks, and the margin behind them is m
-  pub record IsWritten (w : Writer) (marks : List Mark) (m : ℕ) : Type 0 where
+  pub record HoldsMarks (w : Writer) (marks : List Mark) (m : ℕ) : Type 0 where
     pub kept : IsKept w.text.items w.runs.items w.starts.items w.spans.items
     pub cells : kept_cells w.text.items w.runs.items ≡ map by_node (cells_of marks)
     pub spans : w.spans.items ≡ map (on_page 1048576) (spans_behind 0 marks)
@@ -36,7 +36,7 @@ module _ (at : Place → NodeId) where
 
   -- whatever was written before, what is to be written stands behind it
   pub record Wrote (old new : Writer) (f : Writing) : Type 0 where
-    pub behind : (marks : List Mark) (m : ℕ) → IsWritten old marks m → IsWritten new (marks ++ (f m).0) (f m).1
+    pub behind : (marks : List Mark) (m : ℕ) → HoldsMarks old marks m → HoldsMarks new (marks ++ (f m).0) (f m).1
 
 -- the last of runs is of a node
 pub record IsLastOf (runs : List Run) (owner : NodeId) : Type 0 where

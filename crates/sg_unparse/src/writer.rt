@@ -5,7 +5,7 @@ ghost use Rattle.sg_forest.specs.declared.node_id.NodeId.{NodeId as Id};
 ghost use Rattle.sg_unparse.specs.Cells.{Writing, as_they_are, ended, newline as a_newline, piece as a_piece, pieces as all_pieces, plain as plain_text};
 ghost use Rattle.sg_unparse.specs.Page.{cells_of, is_cut};
 ghost use Rattle.sg_unparse.specs.Sheet.{starts_from, kept_cells};
-ghost use Rattle.sg_unparse.specs.Written.{Owns, IsLastOf, IsWritten, Wrote, blanks_of};
+ghost use Rattle.sg_unparse.specs.Written.{Owns, IsLastOf, HoldsMarks, Wrote, blanks_of};
 
 use crate::page::{Run, Span};
 use sg_forest::NodeId;
@@ -62,7 +62,7 @@ fn begin_line(starts: &mut Vec<u32>, at: u32, b: u8) -> Result<(), NoMemory>
 impl Writer {
     /// Nothing is written, and the margin is 0.
     pub fn new(alloc: Global) -> Writer
-        ensures { (at : Place → Id) → IsWritten at result [] 0 }
+        ensures { (at : Place → Id) → HoldsMarks at result [] 0 }
     {
         Writer {
             text: Vec::new(alloc),

@@ -7,7 +7,7 @@ use Rattle.sg_kinds.specs.declared.plans.PlanStep.TheVariants.{Eval}
 use Rattle.sg_kinds.specs.declared.spec.Rule.{Rule}
 use Rattle.sg_eval.specs.Journal.{now_of}
 use Rattle.sg_trail.specs.Trails.{Way}
-use Rattle.sg_trail.specs.declared.entry.Entry.{Entry}
+use Rattle.sg_trail.specs.declared.entry.WasStored.{WasStored}
 use Rattle.sg_attrib.specs.Visited.{IsNeeded, IsStepGiven}
 use Rattle.sg_attrib.proofs.Evaluated.{evaluated, not_evaluated}
 use Rattle.sg_propagate.specs.Moves.{Repairs}
@@ -79,7 +79,7 @@ returns-clause-repairs c =
     let shows = (c.has_other.ensures o.0 o.1).0 c.if-not-has_other.false in
     let one = subst HasOneNumber c.pool.ensures c.sound.ensures.one_number in
     let entry = same_entry old c.args.n o.0 c.bearer-slot.result.0 it.node c.bearer-slot.result.1 it.slot (c.bearer-slot.ensures o.0 o.1) (e.bearer o.0 o.1) c.stored-number.result it.before c.stored-number.ensures.number e.before in
-    let pushed = c.in_ok-push.ensures.pushed ∙ ap (λ (x : Entry). c.args.trail.now.entries ++ x ∷ []) entry in
+    let pushed = c.in_ok-push.ensures.pushed ∙ ap (λ (x : WasStored). c.args.trail.now.entries ++ x ∷ []) entry in
     update_done plans old c.facts.ensures c.args.work.now c.args.top c.args.left c.args.n c.args.rule o.0 o.1 o.2 shows c.args.trail.now c.push.new.self it.node it.slot it.before (e.bearer o.0 o.1) e.before c.in_ok-push.ensures.at c.in_ok-push.ensures.detached pushed new was now c.facts-2.ensures it.after e.after
     e.kept one c.announce.new.work {A = Unit {0}} tt
     (evaluated old c.facts.ensures plans c.requires.valid c.args.n c.args.rule o.0 o.1 o.2 new was now tt it.node it.slot it.after (e.bearer o.0 o.1) (e.outcome o.0 o.1) e.after e.kept e.noted)

@@ -15,7 +15,7 @@ use Rattle.sg_unparse.specs.Written.{Wrote}
 use Rattle.sg_groves.specs.Holds.{Holds}
 use Rattle.sg_kinds.specs.Sound.{IsItem}
 use Rattle.std.specs.List.{All}
-use Rattle.sg_unparse.proofs.Items.{left_item, left_none, found_items, scheme_written, nothing_written, elided_told, child_past, child_hidden, child_shown, writes_item, shows_item, separates_shown, separates_hidden, content_elided, node_written}
+use Rattle.sg_unparse.proofs.Items.{left_item, left_none, found_items, scheme_written, nothing_written, child_past, child_hidden, child_shown, writes_item, shows_item, separates_shown, separates_hidden, content_elided, node_written}
 use Rattle.sg_unparse.proofs.Placed.{arity_is, kids_counted, along_kid, node_of, term_op, items_sound}
 use Rattle.sg_unparse.proofs.unparsing.+node.Goals as goal
 
@@ -159,7 +159,7 @@ content-returns-then-elided t c = λ root u s a.
     let captured = c.args.shown.now.captured in
     let text = c.args.shown.now.text.now in
     content_elided g root captured text c.args.w.now c.bytes.new.self u c.args.n s a.along (sym c.is_typed.ensures ∙ c.if-is_typed.false)
-    (sym (elided_told g root captured text s) ∙ sym (c.elided.ensures.term s a.holds) ∙ c.if-elided.true) (c.in_ok-bytes.ensures (node_along g root) u a.along)
+    (sym (c.elided.ensures.term s a.holds) ∙ c.if-elided.true) (c.in_ok-bytes.ensures (node_along g root) u a.along)
 
 pub node-returns : goal.node-returns
 node-returns t c = λ root u s a.
