@@ -72,7 +72,7 @@ module _ (g : Grove) (is : IsGrove g) (plans : Plans) (n root : NodeId) (t : Ter
           let s = node.kid k X (ap (λ q. slice_get (args_of g.spec.ops q) k) (op_in g is n root t u placed op at) ∙ arg) in
           below s.0 X s.2 (ap label_of (sym s.1) ∙ held) low
 
-      by : (k : ℕ) → o.slot < attr_count (rules_of g.spec) (phylum_there (rules_of g.spec) op k) + locals_there (rules_of g.spec) op k → label_of (sub t (nets.node_there (net_of t) u k)) ≡ Holding p v → o.slot ≡ 0
+      by : (k : ℕ) → o.slot < attr_count (rules_of g.spec) (phylum_there g.spec.ops op k) + locals_there (rules_of g.spec) op k → label_of (sub t (nets.node_there (net_of t) u k)) ≡ Holding p v → o.slot ≡ 0
       by zero low held = absurd (not_held op p v (sym held ∙ op_label g is n root t u placed op at))
       by (suc k) low held = kid k (slice_get (args_of g.spec.ops op) k) refl low held
 

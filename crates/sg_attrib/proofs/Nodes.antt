@@ -166,7 +166,7 @@ module _ (g : Grove) (is : IsGrove g) where
       kid_by k None arg low = absurd (no_attrs o.slot low)
       kid_by k (Some X) arg low = kid k X arg
 
-      by : (k : ℕ) → o.slot < attr_count (rules_of g.spec) (phylum_there (rules_of g.spec) op k) + locals_there (rules_of g.spec) op k → StandsThere n root t u k
+      by : (k : ℕ) → o.slot < attr_count (rules_of g.spec) (phylum_there g.spec.ops op k) + locals_there (rules_of g.spec) op k → StandsThere n root t u k
       by zero low = record { node = n; there = refl; climbs = placed.way }
       by (suc k) low = kid_by k (slice_get (args_of g.spec.ops op) k) refl low
 

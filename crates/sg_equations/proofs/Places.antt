@@ -5,15 +5,14 @@ use Rattle.std.proofs.lemmas.List.{length-map}
 use Rattle.std.specs.Prelude.{option_map, slice_get, unwrap_or}
 use Rattle.std.specs.List.{position, position_or_len}
 use Rattle.sg_kinds.specs.Values.{Bytes}
-use Rattle.sg_kinds.specs.Specification.{attrs_of, locals_of, phylum_of, rules_of}
+use Rattle.sg_kinds.specs.Specification.{attrs_of, locals_of, phylum_of}
 use Rattle.sg_kinds.specs.Typing.{attr_types, slots_there}
 use Rattle.sg_kinds.specs.declared.spec.Attr.{Attr}
 use Rattle.sg_kinds.specs.declared.spec.Operator.{Operator}
 use Rattle.sg_kinds.specs.declared.spec.Local.{Local}
 use Rattle.sg_names.specs.Drafted.{drafted}
 use Rattle.sg_names.specs.declared.table.Table.{Table}
-use Rattle.sg_names.specs.Lookups.{local, phylum_there}
-use Rattle.sg_kinds.specs.Dependencies as draft
+use Rattle.sg_names.specs.Lookups.{local}
 use Rattle.sg_types.specs.Bindings.{own_slots, local_slot}
 use Rattle.sg_equations.specs.Targets.{IsNarrow}
 
@@ -23,11 +22,6 @@ position_within p xs k h = by (nat_lt (position_or_len p xs) (length xs)) refl h
     by : (b : Bool) → nat_lt (position_or_len p xs) (length xs) ≡ b → cond b (Some (position_or_len p xs)) None ≡ Some k → k < length xs
     by true less is = let same : position_or_len p xs ≡ k = cc in let low : position_or_len p xs < length xs = grind (arith, nat_tests) in subst (λ n. n < length xs) same low
     by false less is = absurd (cc)
-
--- the phylum at an occurrence is that of the draft
-pub phylum_is : (t : Table) (op at : ℕ) → phylum_there t op at ≡ draft.phylum_there (rules_of (drafted t)) op at
-phylum_is t op zero = refl
-phylum_is t op (suc k) = refl
 
 -- how many slots a left side has
 slots_count : (t : Table) (op : ℕ) → length (slots_there (drafted t) op 0) ≡ own_slots t op + length (locals_of t.ops op)

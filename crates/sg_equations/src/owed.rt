@@ -11,7 +11,7 @@ use sg_kinds::spec::Occurrence;
 use sg_names::names::Names;
 
 /// How many slots an occurrence of an operator has: its attributes, and at the left side the locals behind them.
-#[tactic(auto, using(crate::proofs::Places::phylum_is, crate::proofs::Places::few_slots))]
+#[tactic(auto, using(crate::proofs::Places::few_slots))]
 pub fn slot_count(names: &Names, op: OpId, at: u32) -> usize
     requires { IsNarrow names.now }
     ensures short { result < 2 ^ 32 }
@@ -30,7 +30,6 @@ pub fn slot_count(names: &Names, op: OpId, at: u32) -> usize
 
 /// Whether the equations of an operator are to define an occurrence: a synthesized attribute or local of its left side,
 /// or an inherited attribute of an argument.
-#[tactic(auto, using(crate::proofs::Places::phylum_is))]
 pub fn owes(names: &Names, op: OpId, o: Occurrence) -> bool
     requires { IsNarrow names.now }
     ensures { result ≡ owes_by names.now op o }

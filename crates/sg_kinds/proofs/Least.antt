@@ -6,8 +6,8 @@ use Rattle.sg_kinds.specs.Dependencies.{phylum_there, IsAttr, occurrence, Direct
 module _ (rules : Rules) (R : ℕ → Occurrence → Occurrence → Type 0) (S : ℕ → ℕ → ℕ → Type 0)
     (holds : (p : ℕ) (u v : Occurrence) → Direct rules p u v → R p u v)
     (chains : (p : ℕ) (u v w : Occurrence) → R p u v → R p v w → R p u w)
-    (spreads : (p k X a b : ℕ) → phylum_there rules p k ≡ Some X → S X a b → R p (occurrence k a) (occurrence k b))
-    (joins : (p k X a b : ℕ) → phylum_there rules p k ≡ Some X → IsAttr rules X a → IsAttr rules X b → R p (occurrence k a) (occurrence k b) → S X a b) where
+    (spreads : (p k X a b : ℕ) → phylum_there rules.ops p k ≡ Some X → S X a b → R p (occurrence k a) (occurrence k b))
+    (joins : (p k X a b : ℕ) → phylum_there rules.ops p k ≡ Some X → IsAttr rules X a → IsAttr rules X b → R p (occurrence k a) (occurrence k b) → S X a b) where
   mutual
     pub least_in_operator : (p : ℕ) (u v : Occurrence) → InOperator rules p u v → R p u v
     least_in_operator _ _ _ (direct p u v d) = holds p u v d

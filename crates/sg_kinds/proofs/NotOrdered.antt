@@ -53,7 +53,7 @@ spread : (s t : ℕ) → 10 ≤ s → s < 19 → 20 ≤ t → (a b : ℕ) → Gi
 spread s t l h k a b (inl g) = rw (g.0, g.1) (inl (omega (arith, l), omega (arith, h), omega arith))
 spread s t l h k a b (inr g) = rw (g.0, g.1) (inr (omega (arith, k), omega arith))
 
-spreads : (p k X a b : ℕ) → phylum_there (rules_of meeting) p k ≡ Some X → Joins X a b → Rises p (occurrence k a) (occurrence k b)
+spreads : (p k X a b : ℕ) → phylum_there meeting.ops p k ≡ Some X → Joins X a b → Rises p (occurrence k a) (occurrence k b)
 spreads zero zero X a b is j = let e : 3 ≡ X = cc is in absurd (omega (arith, e, j.0))
 spreads zero (suc zero) X a b is j = spread 12 20 (omega arith) (omega arith) (omega arith) a b j.1
 spreads zero (suc (suc zero)) X a b is j = spread 10 22 (omega arith) (omega arith) (omega arith) a b j.1
@@ -85,7 +85,7 @@ join s t l h k (suc (suc (suc zero))) (suc (suc (suc (suc b)))) m n o = absurd (
 join s t l h k (suc (suc (suc (suc a)))) b m n o = absurd (omega (arith, m))
 
 -- a chain at an occurrence of x joins i to s or j to t
-joins : (p k X a b : ℕ) → phylum_there (rules_of meeting) p k ≡ Some X → IsAttr (rules_of meeting) X a → IsAttr (rules_of meeting) X b → Rises p (occurrence k a) (occurrence k b) → Joins X a b
+joins : (p k X a b : ℕ) → phylum_there meeting.ops p k ≡ Some X → IsAttr (rules_of meeting) X a → IsAttr (rules_of meeting) X b → Rises p (occurrence k a) (occurrence k b) → Joins X a b
 joins zero zero X a b is m n r = absurd (elim r [ inl f ↦ omega (arith, f) | inr f ↦ omega (arith, f) ])
 joins zero (suc zero) X a b is m n r = let e : X ≡ 4 = cc is in (e, join 12 20 (omega arith) (omega arith) (omega arith) a b (rw e at m) (rw e at n) r)
 joins zero (suc (suc zero)) X a b is m n r = let e : X ≡ 4 = cc is in (e, join 10 22 (omega arith) (omega arith) (omega arith) a b (rw e at m) (rw e at n) r)

@@ -56,7 +56,7 @@ holds p u v d = rw (← d.target) (rw (← d.of_operator) (each_of (λ x. Rises 
 number : (m n : ℕ) → Some m ≡ Some n → m ≡ n
 number m n e = cc e
 
-spread : (p k a b : ℕ) → phylum_there (rules_of uses) p k ≡ Some 5 → a < 2 → b ≡ 2 → Rises p (occurrence k a) (occurrence k b)
+spread : (p k a b : ℕ) → phylum_there uses.ops p k ≡ Some 5 → a < 2 → b ≡ 2 → Rises p (occurrence k a) (occurrence k b)
 spread zero zero a b is m n = absurd (let e = number 3 5 is in omega (arith, e))
 spread zero (suc zero) a b is m n = absurd (let e = number 4 5 is in omega (arith, e))
 spread zero (suc (suc zero)) zero b is m n = rw n (record { stage = omega arith; place = omega arith })
@@ -74,7 +74,7 @@ spread (suc (suc (suc zero))) (suc k) a b is m n = cc
 spread (suc (suc (suc (suc p)))) zero a b is m n = cc
 spread (suc (suc (suc (suc p)))) (suc k) a b is m n = cc
 
-spreads : (p k X a b : ℕ) → phylum_there (rules_of uses) p k ≡ Some X → Joins X a b → Rises p (occurrence k a) (occurrence k b)
+spreads : (p k X a b : ℕ) → phylum_there uses.ops p k ≡ Some X → Joins X a b → Rises p (occurrence k a) (occurrence k b)
 spreads p k X a b is j = spread p k a b (is ∙ ap (λ x. Some x) j.0) j.1 j.2
 
 join : (a b : ℕ) → a < 3 → b < 3 → stage_at a < stage_at b → (a < 2) × (b ≡ 2)
@@ -98,7 +98,7 @@ alone f zero zero m n r = omega (arith, r)
 alone f zero (suc b) m n r = omega (arith, n)
 alone f (suc a) b m n r = omega (arith, m)
 
-joins : (p k X a b : ℕ) → phylum_there (rules_of uses) p k ≡ Some X → IsAttr (rules_of uses) X a → IsAttr (rules_of uses) X b → Rises p (occurrence k a) (occurrence k b) → Joins X a b
+joins : (p k X a b : ℕ) → phylum_there uses.ops p k ≡ Some X → IsAttr (rules_of uses) X a → IsAttr (rules_of uses) X b → Rises p (occurrence k a) (occurrence k b) → Joins X a b
 joins zero zero X a b is m n r = absurd (omega (arith, r.stage))
 joins zero (suc zero) X a b is m n r = absurd (omega (arith, r.stage))
 joins zero (suc (suc zero)) X a b is m n r = let e : X ≡ 5 = sym (number 5 X is) in let j = join a b (rw e at m) (rw e at n) r.stage in (e, j.0, j.1)
@@ -217,7 +217,7 @@ early (suc (suc zero)) (suc (suc zero)) m n r = absurd (omega (arith, r))
 early (suc (suc zero)) (suc (suc (suc b))) m n r = absurd (omega (arith, n))
 early (suc (suc (suc a))) b m n r = absurd (omega (arith, m))
 
-layered_rises : (p k X a b : ℕ) → phylum_there (rules_of uses) p k ≡ Some X → IsAttr (rules_of uses) X a → IsAttr (rules_of uses) X b → layer X b < layer X a → Rises p (occurrence k a) (occurrence k b)
+layered_rises : (p k X a b : ℕ) → phylum_there uses.ops p k ≡ Some X → IsAttr (rules_of uses) X a → IsAttr (rules_of uses) X b → layer X b < layer X a → Rises p (occurrence k a) (occurrence k b)
 layered_rises p k zero a b is m n r = absurd (omega (arith, r))
 layered_rises p k (suc zero) a b is m n r = absurd (omega (arith, r))
 layered_rises p k (suc (suc zero)) a b is m n r = absurd (omega (arith, r))

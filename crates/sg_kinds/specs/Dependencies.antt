@@ -1,16 +1,16 @@
 -- The dependencies among the attributes of an operator, and those induced among the attributes of a phylum.
-use Rattle.std.specs.Prelude.{◌≡◌, ℕ, zero, suc, ◌<◌, Bool, false, length, Option, Some, slice_get, option_map, unwrap_or, Contains}
-use Rattle.sg_kinds.specs.Specification.{Rules, Rule, Occurrence, attrs_of, args_of, phylum_of, is_inherited}
+use Rattle.std.specs.Prelude.{◌≡◌, ℕ, zero, suc, ◌<◌, Bool, false, length, List, Option, Some, slice_get, option_map, unwrap_or, Contains}
+use Rattle.sg_kinds.specs.Specification.{Rules, Rule, Occurrence, Operator, attrs_of, args_of, phylum_of, is_inherited}
 
 -- the phylum at an occurrence of an operator, if there is one
-abbrev pub phylum_there : Rules → ℕ → ℕ → Option ℕ
-phylum_there rules p zero = phylum_of rules.ops p
-phylum_there rules p (suc k) = slice_get (args_of rules.ops p) k
+abbrev pub phylum_there : List Operator → ℕ → ℕ → Option ℕ
+phylum_there ops p zero = phylum_of ops p
+phylum_there ops p (suc k) = slice_get (args_of ops p) k
 
 -- whether a slot of an occurrence is an inherited attribute
 abbrev pub is_inherited_there : Rules → ℕ → ℕ → ℕ → Bool
 is_inherited_there rules p k slot = unwrap_or (option_map (λ X. is_inherited rules.phyla X slot)
-    (phylum_there rules p k)) false
+    (phylum_there rules.ops p k)) false
 
 -- a is an attribute of X
 abbrev pub IsAttr : Rules → ℕ → ℕ → Type 0
@@ -32,7 +32,7 @@ pub record Direct (rules : Rules) (p : ℕ) (u v : Occurrence) : Type 0 where
 mutual
   pub data InOperator (rules : Rules) : ℕ → Occurrence → Occurrence → Type 0 where
     direct : (p : ℕ) (u v : Occurrence) → Direct rules p u v → InOperator rules p u v
-    induced : (p k X a b : ℕ) → phylum_there rules p k ≡ Some X → InPhylum rules X a b
+    induced : (p k X a b : ℕ) → phylum_there rules.ops p k ≡ Some X → InPhylum rules X a b
         → InOperator rules p (occurrence k a) (occurrence k b)
 
   pub data Chain (rules : Rules) : ℕ → Occurrence → Occurrence → Type 0 where
@@ -40,5 +40,5 @@ mutual
     more : (p : ℕ) (u v w : Occurrence) → InOperator rules p u v → Chain rules p v w → Chain rules p u w
 
   pub data InPhylum (rules : Rules) : ℕ → ℕ → ℕ → Type 0 where
-    joined : (p k X a b : ℕ) → phylum_there rules p k ≡ Some X → IsAttr rules X a → IsAttr rules X b
+    joined : (p k X a b : ℕ) → phylum_there rules.ops p k ≡ Some X → IsAttr rules X a → IsAttr rules X b
         → Chain rules p (occurrence k a) (occurrence k b) → InPhylum rules X a b

@@ -28,5 +28,5 @@ IsEarlier layer a b = layer b < layer a
 -- the dependencies of an operator with, at each occurrence, all pairs from an earlier evaluated layer to a later one
 pub data Extended (rules : Rules) (layer : ℕ → ℕ → ℕ) : ℕ → Occurrence → Occurrence → Type 0 where
   within : (p : ℕ) (u v : Occurrence) → InOperator rules p u v → Extended rules layer p u v
-  layered : (p k X a b : ℕ) → phylum_there rules p k ≡ Some X → IsAttr rules X a → IsAttr rules X b
+  layered : (p k X a b : ℕ) → phylum_there rules.ops p k ≡ Some X → IsAttr rules X a → IsAttr rules X b
       → IsEarlier (layer X) a b → Extended rules layer p (occurrence k a) (occurrence k b)

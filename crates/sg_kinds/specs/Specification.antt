@@ -46,6 +46,10 @@ locals_of ops op = unwrap_or (option_map (λ (x : Operator). x.locals) (slice_ge
 abbrev pub phylum_of : List Operator → ℕ → Option ℕ
 phylum_of ops op = option_map (λ (x : Operator). x.phylum) (slice_get ops op)
 
+-- the name of a phylum
+abbrev pub phylum_name : List Phylum → ℕ → Bytes
+phylum_name phyla p = unwrap_or (option_map (λ (x : Phylum). x.name) (slice_get phyla p)) []
+
 -- whether a phylum has a shape that passes the test
 abbrev pub has_shape : List Phylum → (Shape → Bool) → ℕ → Bool
 has_shape phyla test p = unwrap_or (option_map (λ (x : Phylum). test x.shape) (slice_get phyla p)) false

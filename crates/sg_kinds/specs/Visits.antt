@@ -15,7 +15,7 @@ greatest (n ∷ ns) = max n (greatest ns)
 -- the number of a vertex: by occurrence from left to right, by attribute in declaration order, then the locals
 abbrev pub attrs_before : Rules → ℕ → ℕ → ℕ
 attrs_before rules p zero = 0
-attrs_before rules p (suc k) = attrs_before rules p k + attr_count rules (phylum_there rules p k)
+attrs_before rules p (suc k) = attrs_before rules p k + attr_count rules (phylum_there rules.ops p k)
 
 abbrev pub attrs_here : Rules → ℕ → ℕ
 attrs_here rules p = attrs_before rules p 1

@@ -219,7 +219,7 @@ module _ (t : Table) (spec : Spec) (h : HasTable t spec) where
   finite_kept p f =
       (subst (λ (o : Option Term). MatchOption o ⊥ IsSmall) (sym (completing_kept 1024 p)) f.0, subst (λ (o : Option Term). MatchOption o ⊥ IsSmall) (sym (placeholder_kept 1023 p)) f.1)
 
-  there_kept : (op k : ℕ) → phylum_there (rules_of spec) op k ≡ phylum_there (rules_of (drafted t)) op k
+  there_kept : (op k : ℕ) → phylum_there spec.ops op k ≡ phylum_there t.ops op k
   there_kept op zero = phylum_kept op
   there_kept op (suc k) = λ i. slice_get (args_kept op i) k
 

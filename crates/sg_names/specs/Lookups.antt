@@ -8,6 +8,7 @@ use Rattle.sg_kinds.specs.declared.spec.Operator.{Operator}
 use Rattle.sg_kinds.specs.declared.spec.Local.{Local}
 use Rattle.sg_kinds.specs.declared.spec.Occurrence.{Occurrence}
 use Rattle.sg_kinds.specs.Specification.{texts, numbers, attrs_of, args_of, locals_of, phylum_of, has_shape, is_lexical_shape}
+use Rattle.sg_kinds.specs.Dependencies.{phylum_there}
 use Rattle.sg_kinds.specs.Typing.{whitespace}
 use Rattle.sg_kinds.specs.declared.marks.Unary.{Unary}
 use Rattle.sg_kinds.specs.declared.marks.Unary.TheVariants.{TextToNumber, NumberToText, TextLength}
@@ -121,15 +122,10 @@ occurrence t op (Own place) = Some 0
 occurrence t op (Named q k) = option_and_then (λ p. option_and_then (λ o. occurrence_of o k p) (slice_get t.ops op))
     (usable_named t q.text)
 
--- the phylum at an occurrence of an operator
-abbrev pub phylum_there : Table → ℕ → ℕ → Option ℕ
-phylum_there t op zero = phylum_of t.ops op
-phylum_there t op (suc k) = slice_get (args_of t.ops op) k
-
 -- an attribute of an occurrence of an operator
 abbrev pub attribute_at : Table → ℕ → ℕ → Bytes → Option Occurrence
 attribute_at t op at a = option_and_then (λ p. option_map (λ s. record { at = at; slot = s }) (attribute t p a))
-    (phylum_there t op at)
+    (phylum_there t.ops op at)
 
 abbrev pub reference : Table → ℕ → Reference → Option Occurrence
 reference t op r = option_and_then (λ at. attribute_at t op at r.attr.text) (occurrence t op r.of)

@@ -1,5 +1,6 @@
 //! The tables of names.
 ghost use Rattle.std.specs.Prelude.{◌≡◌, ◌<◌, ◌≤◌, ◌&&◌, ℕ, List, length, slice_get, bytes_eq, position, IfOk, IfSome};
+ghost use Rattle.sg_kinds.specs.Dependencies.{phylum_there};
 ghost use Rattle.sg_kinds.specs.Specification.{attrs_of, args_of, locals_of, has_shape, is_lexical_shape, is_leaf_shape};
 ghost use Rattle.std.specs.List.{list_all};
 ghost use Rattle.sg_kinds.specs.declared.spec.Local.{Local};
@@ -398,7 +399,7 @@ impl Names {
 
     /// The phylum at an occurrence of an operator.
     pub fn phylum_there(&self, op: OpId, at: u32) -> Option<PhylumId>
-        ensures { result ≡ spec.phylum_there self.now op at }
+        ensures { result ≡ phylum_there self.now.ops op at }
     {
         if at == 0 {
             return Some(self.table.ops.place(op.number)?.phylum);

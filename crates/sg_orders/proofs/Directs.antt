@@ -31,11 +31,11 @@ op_there rules p o is = elim (cases_lt p (length rules.ops)) [ inl low ↦ low |
   where
     by : (k a : ℕ) → IsVertex rules p (occurrence k a) → slice_get rules.ops p ≡ None → ⊥
     by zero a low none =
-        let attrs : attr_count rules (phylum_there rules p zero) ≡ 0 = ap (λ o. attr_count rules (option_map (λ (x : Operator). x.phylum) o)) none in
+        let attrs : attr_count rules (phylum_there rules.ops p zero) ≡ 0 = ap (λ o. attr_count rules (option_map (λ (x : Operator). x.phylum) o)) none in
         let locals : length (locals_of rules.ops p) ≡ 0 = ap (λ o. length (unwrap_or (option_map (λ (x : Operator). x.locals) o) [])) none in
         omega (arith, low, attrs, locals)
     by (suc k) a low none =
-        let attrs : attr_count rules (phylum_there rules p (suc k)) ≡ 0 = ap (λ o. attr_count rules (slice_get (unwrap_or (option_map (λ (x : Operator). x.args) o) []) k)) none in
+        let attrs : attr_count rules (phylum_there rules.ops p (suc k)) ≡ 0 = ap (λ o. attr_count rules (slice_get (unwrap_or (option_map (λ (x : Operator). x.args) o) []) k)) none in
         omega (arith, low, attrs)
 
 pub numbered_below : (rules : Rules) (p size : ℕ) (o : Occurrence) → IsVertex rules p o → size ≡ vertices rules p → vertices rules p < 2 ^ 32 → IsNumberedBelow (frame_of rules p) size o

@@ -52,13 +52,13 @@ module _ (rules : Rules) (ranges : AreInRange rules) (p : ℕ) (op : p < length 
         to_number = to.number ∙ sym placed.to;
       }
 
-  placed_whole : (spots : List Spot) (k X a b : ℕ) → spots ≡ spots_of rules p → phylum_there rules p k ≡ Some X → IsAttr rules X a → IsAttr rules X b → layer_in layers X b < layer_in layers X a
+  placed_whole : (spots : List Spot) (k X a b : ℕ) → spots ≡ spots_of rules p → phylum_there rules.ops p k ≡ Some X → IsAttr rules X a → IsAttr rules X b → layer_in layers X b < layer_in layers X a
       → IsSpread spots later (vertex rules p (occurrence k a)) (vertex rules p (occurrence k b))
   placed_whole spots k X a b same there m n earlier =
       let low = phylum_in rules ranges p k X there in
-      let count : attr_count rules (phylum_there rules p k) ≡ attr_count rules (Some X) = ap (attr_count rules) there in
+      let count : attr_count rules (phylum_there rules.ops p k) ≡ attr_count rules (Some X) = ap (attr_count rules) there in
       let inside : k < suc (length (args_of rules.ops p)) = attr_there rules p k a (omega (arith, count, m)) in
-      let phylum : unwrap_or (phylum_there rules p k) 0 ≡ X = ap (λ o. unwrap_or o 0) there in
+      let phylum : unwrap_or (phylum_there rules.ops p k) 0 ≡ X = ap (λ o. unwrap_or o 0) there in
       let size = are.sizes X low in
       let lays = (is.holds X a b (let c = are.count in omega (arith, low, c))).1 (record { from = omega (arith, m, size); to = omega (arith, n, size); earlier = earlier }) in
       record {
@@ -90,10 +90,10 @@ module _ (rules : Rules) (ranges : AreInRange rules) (p : ℕ) (op : p < length 
       }
     where
       by : (rows : List (List Bool)) → ((u v : Occurrence) → InOperator rules p u v → Holds rows (vertex rules p u) (vertex rules p v))
-          → ((k X a b : ℕ) → phylum_there rules p k ≡ Some X → IsAttr rules X a → IsAttr rules X b → layer_in layers X b < layer_in layers X a → Holds rows (vertex rules p (occurrence k a)) (vertex rules p (occurrence k b)))
+          → ((k X a b : ℕ) → phylum_there rules.ops p k ≡ Some X → IsAttr rules X a → IsAttr rules X b → layer_in layers X b < layer_in layers X a → Holds rows (vertex rules p (occurrence k a)) (vertex rules p (occurrence k b)))
           → (q : ℕ) (u v : Occurrence) → q ≡ p → Extended rules (layer_in layers) q u v → Holds rows (vertex rules p u) (vertex rules p v)
       by rows f g _ _ _ e (within q u v d) = f u v (subst (λ r. InOperator rules r u v) e d)
-      by rows f g _ _ _ e (layered q k X a b there m n earlier) = g k X a b (subst (λ r. phylum_there rules r k ≡ Some X) e there) m n earlier
+      by rows f g _ _ _ e (layered q k X a b there m n earlier) = g k X a b (subst (λ r. phylum_there rules.ops r k ≡ Some X) e there) m n earlier
 
 -- the extended rows of all operators
 pub record AreExtendedRows (rules : Rules) (layers : List (List ℕ)) (operators : List (List (List Bool))) : Type 0 where

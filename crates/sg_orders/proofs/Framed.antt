@@ -26,36 +26,36 @@ args_are rules p x is = ap (λ o. unwrap_or (option_map (λ (y : Operator). y.ar
 pub locals_are : (rules : Rules) (p : ℕ) (x : Operator) → slice_get rules.ops p ≡ Some x → locals_of rules.ops p ≡ x.locals
 locals_are rules p x is = ap (λ o. unwrap_or (option_map (λ (y : Operator). y.locals) o) []) is
 
-pub phylum_is : (rules : Rules) (p : ℕ) (x : Operator) → slice_get rules.ops p ≡ Some x → phylum_there rules p 0 ≡ Some x.phylum
+pub phylum_is : (rules : Rules) (p : ℕ) (x : Operator) → slice_get rules.ops p ≡ Some x → phylum_there rules.ops p 0 ≡ Some x.phylum
 phylum_is rules p x is = ap (λ o. option_map (λ (y : Operator). y.phylum) o) is
 
-pub arg_is : (rules : Rules) (p : ℕ) (x : Operator) (i arg : ℕ) → slice_get rules.ops p ≡ Some x → i < length x.args → arg ≡ get_or x.args i arg → phylum_there rules p (suc i) ≡ Some arg
+pub arg_is : (rules : Rules) (p : ℕ) (x : Operator) (i arg : ℕ) → slice_get rules.ops p ≡ Some x → i < length x.args → arg ≡ get_or x.args i arg → phylum_there rules.ops p (suc i) ≡ Some arg
 arg_is rules p x i arg is low at = ap (λ xs. slice_get xs i) (args_are rules p x is) ∙ slice_get_read x.args (length x.args) i arg refl low at
 
 pub record Framed (rules : Rules) (p k : ℕ) (spots : List Spot) (next : ℕ) : Type 0 where
   pub spots_are : spots ≡ map (spot_of rules p) (below (suc k))
   pub next_is : next ≡ attrs_before rules p (suc k)
 
-pub framed_none : (rules : Rules) (p X : ℕ) → phylum_there rules p 0 ≡ Some X → Framed rules p 0 (spot_with rules (Some X) 0 ∷ []) (attr_count rules (Some X))
+pub framed_none : (rules : Rules) (p X : ℕ) → phylum_there rules.ops p 0 ≡ Some X → Framed rules p 0 (spot_with rules (Some X) 0 ∷ []) (attr_count rules (Some X))
 framed_none rules p X is = record {
   spots_are = ap (λ o. spot_with rules o 0 ∷ []) (sym is);
-  next_is = let h : attr_count rules (Some X) ≡ attr_count rules (phylum_there rules p 0) = ap (attr_count rules) (sym is) in omega (arith, h);
+  next_is = let h : attr_count rules (Some X) ≡ attr_count rules (phylum_there rules.ops p 0) = ap (attr_count rules) (sym is) in omega (arith, h);
 }
 
-pub framed_more : (rules : Rules) (p i X : ℕ) (spots : List Spot) (next : ℕ) → Framed rules p i spots next → phylum_there rules p (suc i) ≡ Some X → Framed rules p (suc i) (spots ++ spot_with rules (Some X) next ∷ []) (next + attr_count rules (Some X))
+pub framed_more : (rules : Rules) (p i X : ℕ) (spots : List Spot) (next : ℕ) → Framed rules p i spots next → phylum_there rules.ops p (suc i) ≡ Some X → Framed rules p (suc i) (spots ++ spot_with rules (Some X) next ∷ []) (next + attr_count rules (Some X))
 framed_more rules p i X spots next is there = record {
   spots_are =
       ap (λ xs. xs ++ spot_with rules (Some X) next ∷ []) is.spots_are
-      ∙ ap (λ (s : Spot). map (spot_of rules p) (below (suc i)) ++ s ∷ []) (ap (λ o. spot_with rules o next) (sym there) ∙ ap (λ n. spot_with rules (phylum_there rules p (suc i)) n) is.next_is)
+      ∙ ap (λ (s : Spot). map (spot_of rules p) (below (suc i)) ++ s ∷ []) (ap (λ o. spot_with rules o next) (sym there) ∙ ap (λ n. spot_with rules (phylum_there rules.ops p (suc i)) n) is.next_is)
       ∙ sym (map-below-more (spot_of rules p) (suc i));
   next_is =
       ap (λ n. n + attr_count rules (Some X)) is.next_is ∙ ap (λ o. attrs_before rules p (suc i) + attr_count rules o) (sym there);
 }
 
 -- the next number fits
-pub framed_fits : (rules : Rules) (p i X next n : ℕ) → vertices rules p < 2 ^ 32 → next ≡ attrs_before rules p (suc i) → phylum_there rules p (suc i) ≡ Some X → n ≡ length (args_of rules.ops p) → i < n → next + attr_count rules (Some X) < 2 ^ 32
+pub framed_fits : (rules : Rules) (p i X next n : ℕ) → vertices rules p < 2 ^ 32 → next ≡ attrs_before rules p (suc i) → phylum_there rules.ops p (suc i) ≡ Some X → n ≡ length (args_of rules.ops p) → i < n → next + attr_count rules (Some X) < 2 ^ 32
 framed_fits rules p i X next n small is there long low =
-    let h : attr_count rules (Some X) ≡ attr_count rules (phylum_there rules p (suc i)) = ap (attr_count rules) (sym there) in
+    let h : attr_count rules (Some X) ≡ attr_count rules (phylum_there rules.ops p (suc i)) = ap (attr_count rules) (sym there) in
     let u = attrs_under rules p (suc i) (omega (arith, long, low)) in
     omega (arith, small, is, h, u)
 

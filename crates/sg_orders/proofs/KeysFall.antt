@@ -291,7 +291,7 @@ module _ (spec : Spec) (ranges : AreInRange (rules_of spec)) (plans : Plans) (ti
       let arg : slice_get (args_of spec.ops (op_at u)) k ≡ Some X = b.arg ∙ ap (λ m. Some m) same in
       let is_op = op_is i live in
       let vertex : IsVertex rules i.rule.op (occurrence (suc k) slot) = All-contains (IsVertex rules i.rule.op) i.rule.args (occurrence (suc k) slot) (args_there i live) names in
-      let there : slot < attr_count rules (phylum_there rules (op_at u) (suc k)) = subst (λ m. slot < attr_count rules (phylum_there rules m (suc k))) (sym is_op) (omega (arith, vertex)) in
+      let there : slot < attr_count rules (phylum_there rules.ops (op_at u) (suc k)) = subst (λ m. slot < attr_count rules (phylum_there rules.ops m (suc k))) (sym is_op) (omega (arith, vertex)) in
       let attr : IsAttr rules X slot = omega (arith, there, ap (attr_count rules) arg) in
       let p = position_in rules plans (op_at (k ∷ u)) (occurrence 0 slot) in
       let q = position_in rules plans (op_at u) i.rule.target in

@@ -24,7 +24,7 @@ attrs_before-le rules p j (suc k) low = elim (cases_lt j (suc k)) [
 
 -- an attribute of the left side or of an argument
 pub record IsAt (rules : Rules) (p : ℕ) (o : Occurrence) : Type 0 where
-  pub slot : o.slot < attr_count rules (phylum_there rules p o.at)
+  pub slot : o.slot < attr_count rules (phylum_there rules.ops p o.at)
   pub number : vertex rules p o ≡ attrs_before rules p o.at + o.slot
 
 -- a local
@@ -34,7 +34,7 @@ pub record IsLocal (rules : Rules) (p : ℕ) (o : Occurrence) : Type 0 where
   pub under : o.slot < attrs_here rules p + length (locals_of rules.ops p)
   pub number : vertex rules p o ≡ attrs_before rules p (suc (length (args_of rules.ops p))) + (o.slot - attrs_here rules p)
 
-pub number_attr : (rules : Rules) (p k a : ℕ) → a < attr_count rules (phylum_there rules p k) → vertex rules p (occurrence k a) ≡ attrs_before rules p k + a
+pub number_attr : (rules : Rules) (p k a : ℕ) → a < attr_count rules (phylum_there rules.ops p k) → vertex rules p (occurrence k a) ≡ attrs_before rules p k + a
 number_attr rules p zero a low =
     let here : a < attrs_here rules p = omega (arith, low) in
     cond-false (nat_eq 0 0 && nat_le (attrs_here rules p) a) (attrs_before rules p (suc (length (args_of rules.ops p))) + (a - attrs_here rules p)) (attrs_before rules p 0 + a)
@@ -49,20 +49,20 @@ number_local rules p a past =
     (and_from (nat_eq 0 0) (nat_le (attrs_here rules p) a) refl (le-leb (attrs_here rules p) a past))
 
 split_at : (rules : Rules) (p k a : ℕ) → IsVertex rules p (occurrence k a) → IsAt rules p (occurrence k a) ⊎ IsLocal rules p (occurrence k a)
-split_at rules p zero a is = elim (cases_lt a (attr_count rules (phylum_there rules p zero))) [
+split_at rules p zero a is = elim (cases_lt a (attr_count rules (phylum_there rules.ops p zero))) [
   | inl low ↦ inl (record { slot = low; number = number_attr rules p zero a low })
   | inr past ↦ let far : attrs_here rules p ≤ a = omega (arith, past) in inr (record { at = refl; past = far; under = omega (arith, is); number = number_local rules p a far })
 ]
-split_at rules p (suc k) a is = let low : a < attr_count rules (phylum_there rules p (suc k)) = omega (arith, is) in inl (record { slot = low; number = number_attr rules p (suc k) a low })
+split_at rules p (suc k) a is = let low : a < attr_count rules (phylum_there rules.ops p (suc k)) = omega (arith, is) in inl (record { slot = low; number = number_attr rules p (suc k) a low })
 
 pub split_vertex : (rules : Rules) (p : ℕ) (o : Occurrence) → IsVertex rules p o → IsAt rules p o ⊎ IsLocal rules p o
 split_vertex rules p o is = split_at rules p o.at o.slot is
 
-pub attr_there : (rules : Rules) (p k a : ℕ) → a < attr_count rules (phylum_there rules p k) → k < suc (length (args_of rules.ops p))
+pub attr_there : (rules : Rules) (p k a : ℕ) → a < attr_count rules (phylum_there rules.ops p k) → k < suc (length (args_of rules.ops p))
 attr_there rules p zero a low = omega arith
 attr_there rules p (suc k) a low = elim (cases_lt k (length (args_of rules.ops p))) [
   | inl inside ↦ omega (arith, inside)
-  | inr past ↦ absurd (let none : attr_count rules (phylum_there rules p (suc k)) ≡ 0 = ap (attr_count rules) (slice_get_past (args_of rules.ops p) k past) in omega (arith, low, none))
+  | inr past ↦ absurd (let none : attr_count rules (phylum_there rules.ops p (suc k)) ≡ 0 = ap (attr_count rules) (slice_get_past (args_of rules.ops p) k past) in omega (arith, low, none))
 ]
 
 -- what has an attribute is there
@@ -81,7 +81,7 @@ vertex_there rules p o is = elim (split_vertex rules p o is) [
   | inr local ↦ let h = local.at in omega (arith, h)
 ]
 
-pub attrs_under : (rules : Rules) (p k : ℕ) → k < suc (length (args_of rules.ops p)) → attrs_before rules p k + attr_count rules (phylum_there rules p k) ≤ attrs_before rules p (suc (length (args_of rules.ops p)))
+pub attrs_under : (rules : Rules) (p k : ℕ) → k < suc (length (args_of rules.ops p)) → attrs_before rules p k + attr_count rules (phylum_there rules.ops p k) ≤ attrs_before rules p (suc (length (args_of rules.ops p)))
 attrs_under rules p k low = attrs_before-le rules p (suc k) (suc (length (args_of rules.ops p))) (omega (arith, low))
 
 pub vertex_under : (rules : Rules) (p : ℕ) (o : Occurrence) → IsVertex rules p o → vertex rules p o < vertices rules p
@@ -91,7 +91,7 @@ vertex_under rules p o is = elim (split_vertex rules p o is) [
 ]
 
 -- equal numbers are of one vertex
-same_attr : (rules : Rules) (p j a k b : ℕ) → a < attr_count rules (phylum_there rules p j) → b < attr_count rules (phylum_there rules p k) → attrs_before rules p j + a ≡ attrs_before rules p k + b → (j ≡ k) × (a ≡ b)
+same_attr : (rules : Rules) (p j a k b : ℕ) → a < attr_count rules (phylum_there rules.ops p j) → b < attr_count rules (phylum_there rules.ops p k) → attrs_before rules p j + a ≡ attrs_before rules p k + b → (j ≡ k) × (a ≡ b)
 same_attr rules p j a k b low high e = elim (cases_order j k) [
   | inl same ↦ let f : attrs_before rules p j ≡ attrs_before rules p k = ap (attrs_before rules p) same in (same, omega (arith, e, f))
   | inr (inl under) ↦ absurd (let g = attrs_before-le rules p (suc j) k (omega (arith, under)) in omega (arith, e, g, low))
@@ -135,7 +135,7 @@ number_by locals o here first = cond (nat_eq o.at 0 && nat_le here o.slot) (loca
 pub number_in-frame_of : (rules : Rules) (p : ℕ) (o : Occurrence) → IsVertex rules p o → number_in (frame_of rules p) o ≡ vertex rules p o
 unfolding number_by
 number_in-frame_of rules p o is =
-    let zeroth : (spot_at (spots_of rules p) 0).attrs ≡ attr_count rules (phylum_there rules p 0) = ap (λ (s : Spot). s.attrs) (spot_there rules p 0 no_spot (omega arith)) in
+    let zeroth : (spot_at (spots_of rules p) 0).attrs ≡ attr_count rules (phylum_there rules.ops p 0) = ap (λ (s : Spot). s.attrs) (spot_there rules p 0 no_spot (omega arith)) in
     let here : (spot_at (spots_of rules p) 0).attrs ≡ attrs_here rules p = omega (arith, zeroth) in
     let first : (spot_at (spots_of rules p) o.at).first ≡ attrs_before rules p o.at = ap (λ (s : Spot). s.first) (spot_there rules p o.at no_spot (vertex_there rules p o is)) in
     let locals = attrs_before rules p (suc (length (args_of rules.ops p))) in

@@ -105,7 +105,7 @@ module _ (rules : Rules) (ranges : AreInRange rules) (plans : Plans) (timed : Ar
   abbrev visit_in : ℕ → ℕ → ℕ
   visit_in X a = slice_index (row_at plans.visits X) a
 
-  visits_of : (k X : ℕ) → phylum_there rules p k ≡ Some X → AreVisits rules X (timed.layer X) plans
+  visits_of : (k X : ℕ) → phylum_there rules.ops p k ≡ Some X → AreVisits rules X (timed.layer X) plans
   visits_of k X there = timed.visits X (phylum_in rules ranges p k X there)
 
   -- what an equation names stands before what it defines
@@ -113,13 +113,13 @@ module _ (rules : Rules) (ranges : AreInRange rules) (plans : Plans) (timed : Ar
   named_before r u stands is names = at_p.agree u r.target (within p u r.target (direct p u r.target (record { rule = r; stands = stands; of_operator = is; names = names; target = refl })))
 
   -- attributes of one occurrence by their visits
-  pub before_by_visit : (k X a b : ℕ) → phylum_there rules p k ≡ Some X → IsAttr rules X a → IsAttr rules X b → visit_in X a < visit_in X b → place (occurrence k a) < place (occurrence k b)
+  pub before_by_visit : (k X a b : ℕ) → phylum_there rules.ops p k ≡ Some X → IsAttr rules X a → IsAttr rules X b → visit_in X a < visit_in X b → place (occurrence k a) < place (occurrence k b)
   before_by_visit k X a b there m n less = at_p.agree (occurrence k a) (occurrence k b) (layered p k X a b there m n (earlier_visit rules X (timed.layer X) plans (visits_of k X there) a b m n less))
 
-  pub before_by_way : (k X a b : ℕ) → phylum_there rules p k ≡ Some X → IsAttr rules X a → IsAttr rules X b → is_inherited rules.phyla X a ≡ true → is_inherited rules.phyla X b ≡ false → visit_in X a ≤ visit_in X b → place (occurrence k a) < place (occurrence k b)
+  pub before_by_way : (k X a b : ℕ) → phylum_there rules.ops p k ≡ Some X → IsAttr rules X a → IsAttr rules X b → is_inherited rules.phyla X a ≡ true → is_inherited rules.phyla X b ≡ false → visit_in X a ≤ visit_in X b → place (occurrence k a) < place (occurrence k b)
   before_by_way k X a b there m n way other le = at_p.agree (occurrence k a) (occurrence k b) (layered p k X a b there m n (inherited_first rules X (timed.layer X) plans (visits_of k X there) a b m n way other le))
 
-  place_low : (k X a : ℕ) → phylum_there rules p k ≡ Some X → IsAttr rules X a → place (occurrence k a) < after_all plans p
+  place_low : (k X a : ℕ) → phylum_there rules.ops p k ≡ Some X → IsAttr rules X a → place (occurrence k a) < after_all plans p
   place_low k X a there attr = position_low rules ranges plans timed.layer p at_p (occurrence k a) (attr_vertex rules p k X a there attr)
 
   -- the visit to which a position belongs

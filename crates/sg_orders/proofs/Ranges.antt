@@ -36,7 +36,7 @@ module _ (rules : Rules) (ranges : AreInRange rules) where
   attrs_before_small p zero = omega arith
   attrs_before_small p (suc k) =
       let h = attrs_before_small p k in
-      let a = attr_count_small (phylum_there rules p k) in
+      let a = attr_count_small (phylum_there rules.ops p k) in
       omega (arith, h, a)
 
   pub args_small : (p : ℕ) → length (args_of rules.ops p) < 256
@@ -71,7 +71,7 @@ module _ (rules : Rules) (ranges : AreInRange rules) where
   some_same : (m n : ℕ) → Some m ≡ Some n → m ≡ n
   some_same m n e = cc e
 
-  pub phylum_in : (p k X : ℕ) → phylum_there rules p k ≡ Some X → X < length rules.phyla
+  pub phylum_in : (p k X : ℕ) → phylum_there rules.ops p k ≡ Some X → X < length rules.phyla
   phylum_in p zero X is = elim (slice_get_cases rules.ops p).1 [
     | inl x ↦
         let low = held (λ (o : Operator). o.phylum < length rules.phyla) rules.ops p x.0 ranges.phyla.left x.1 x.3 in

@@ -66,8 +66,8 @@ bare_phyla rules phyla made =
 spot_fits : (rules : Rules) → AreInRange rules → (p k size : ℕ) (phyla : List (List (List Bool))) → p < length rules.ops → k < suc (length (args_of rules.ops p)) → size ≡ vertices rules p → AreSized rules phyla → Fits size phyla (spot_of rules p k)
 spot_fits rules ranges p k size phyla op low long sized =
     let there = phylum_at_all rules p k op low in
-    let attrs : attr_count rules (phylum_there rules p k) ≡ length (attrs_of rules.phyla there.0) = ap (attr_count rules) there.1 in
-    let same : unwrap_or (phylum_there rules p k) 0 ≡ there.0 = ap (λ o. unwrap_or o 0) there.1 in
+    let attrs : attr_count rules (phylum_there rules.ops p k) ≡ length (attrs_of rules.phyla there.0) = ap (attr_count rules) there.1 in
+    let same : unwrap_or (phylum_there rules.ops p k) 0 ≡ there.0 = ap (λ o. unwrap_or o 0) there.1 in
     let under = attrs_under rules p k low in
     let small = vertices_small rules ranges p in
     record {
@@ -77,7 +77,7 @@ spot_fits rules ranges p k size phyla op low long sized =
       small = omega (arith, under, small);
     }
   where
-    phylum_at_all : (rules : Rules) (p k : ℕ) → p < length rules.ops → k < suc (length (args_of rules.ops p)) → (X : ℕ) × (phylum_there rules p k ≡ Some X)
+    phylum_at_all : (rules : Rules) (p k : ℕ) → p < length rules.ops → k < suc (length (args_of rules.ops p)) → (X : ℕ) × (phylum_there rules.ops p k ≡ Some X)
     phylum_at_all rules p zero op low = ((get_or rules.ops p no_operator).phylum, ap (option_map (λ (x : Operator). x.phylum)) (slice_get-get_or rules.ops p no_operator op))
     phylum_at_all rules p (suc k) op low = (get_or (args_of rules.ops p) k 0, slice_get-get_or (args_of rules.ops p) k 0 (omega (arith, low)))
 

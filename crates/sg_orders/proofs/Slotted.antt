@@ -11,10 +11,10 @@ use Rattle.sg_orders.specs.Vertices.{IsVertex, locals_there}
 use Rattle.sg_orders.specs.Slots.{slots_at, HasSlot}
 use Rattle.sg_orders.proofs.Directs.{op_there}
 
-slots_are : (rules : Rules) (p k : ℕ) (x : Operator) → slice_get rules.ops p ≡ Some x → attr_count rules (phylum_there rules p k) + locals_there rules p k ≡ slots_at rules x k
+slots_are : (rules : Rules) (p k : ℕ) (x : Operator) → slice_get rules.ops p ≡ Some x → attr_count rules (phylum_there rules.ops p k) + locals_there rules p k ≡ slots_at rules x k
 slots_are rules p zero x is = ap (λ o. attr_count rules (option_map (λ (y : Operator). y.phylum) o) + length (unwrap_or (option_map (λ (y : Operator). y.locals) o) [])) is
 slots_are rules p (suc k) x is =
-    let same : attr_count rules (phylum_there rules p (suc k)) ≡ attr_count rules (slice_get x.args k) = ap (λ o. attr_count rules (slice_get (unwrap_or (option_map (λ (y : Operator). y.args) o) []) k)) is in
+    let same : attr_count rules (phylum_there rules.ops p (suc k)) ≡ attr_count rules (slice_get x.args k) = ap (λ o. attr_count rules (slice_get (unwrap_or (option_map (λ (y : Operator). y.args) o) []) k)) is in
     omega (arith, same)
 
 pub vertex_slot : (rules : Rules) (p : ℕ) (x : Operator) (o : Occurrence) → slice_get rules.ops p ≡ Some x → IsVertex rules p o ↔ HasSlot rules x o

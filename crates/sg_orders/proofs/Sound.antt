@@ -22,9 +22,9 @@ pub record AreVertices (rules : Rules) (p : ℕ) (u v : Occurrence) : Type 0 whe
   pub from : IsVertex rules p u
   pub to : IsVertex rules p v
 
-pub attr_vertex : (rules : Rules) (p k X a : ℕ) → phylum_there rules p k ≡ Some X → IsAttr rules X a → IsVertex rules p (occurrence k a)
+pub attr_vertex : (rules : Rules) (p k X a : ℕ) → phylum_there rules.ops p k ≡ Some X → IsAttr rules X a → IsVertex rules p (occurrence k a)
 attr_vertex rules p k X a is attr =
-    let count : attr_count rules (phylum_there rules p k) ≡ attr_count rules (Some X) = ap (attr_count rules) is in
+    let count : attr_count rules (phylum_there rules.ops p k) ≡ attr_count rules (Some X) = ap (attr_count rules) is in
     omega (arith, count, attr)
 
 pub direct_vertices : (rules : Rules) → AreInRange rules → (p : ℕ) (u v : Occurrence) → Direct rules p u v → AreVertices rules p u v
@@ -69,15 +69,15 @@ contained_spot rules p spots s same (k, low, at) =
 
 -- an attribute at a spot
 pub record IsAttrAt (rules : Rules) (p : ℕ) (s : Spot) (a k : ℕ) : Type 0 where
-  pub phylum : phylum_there rules p k ≡ Some s.phylum
+  pub phylum : phylum_there rules.ops p k ≡ Some s.phylum
   pub attr : IsAttr rules s.phylum a
   pub vertex_is : IsVertex rules p (occurrence k a)
   pub number : vertex rules p (occurrence k a) ≡ s.first + a
 
 pub attr_at : (rules : Rules) (p : ℕ) (s : Spot) (a k : ℕ) → s ≡ spot_of rules p k → a < s.attrs → IsAttrAt rules p s a k
 attr_at rules p s a k is low =
-    let under : a < attr_count rules (phylum_there rules p k) = omega (arith, low, ap (λ (x : Spot). x.attrs) is) in
-    let has = some_attr rules (phylum_there rules p k) a under in
+    let under : a < attr_count rules (phylum_there rules.ops p k) = omega (arith, low, ap (λ (x : Spot). x.attrs) is) in
+    let has = some_attr rules (phylum_there rules.ops p k) a under in
     let same : s.phylum ≡ has.phylum = ap (λ (x : Spot). x.phylum) is ∙ ap (λ o. unwrap_or o 0) has.is in
     record {
       phylum = has.is ∙ ap (λ X. Some X) (sym same);

@@ -36,7 +36,7 @@ types_long spec None = refl
 types_long spec (Some X) = length-map (attrs_of spec.phyla X) (λ (a : Attr). a.of)
 
 -- a slot with a type is there
-slots_long : (spec : Spec) (p k : ℕ) → length (slots_there spec p k) ≡ attr_count (rules_of spec) (phylum_there (rules_of spec) p k) + locals_there (rules_of spec) p k
+slots_long : (spec : Spec) (p k : ℕ) → length (slots_there spec p k) ≡ attr_count (rules_of spec) (phylum_there spec.ops p k) + locals_there (rules_of spec) p k
 slots_long spec p zero =
     length-append (attr_types spec (phylum_of spec.ops p)) (map (λ (l : Local). l.of) (locals_of spec.ops p))
     ∙ omega (arith, types_long spec (phylum_of spec.ops p), length-map (locals_of spec.ops p) (λ (l : Local). l.of))
@@ -64,7 +64,7 @@ owed_vertex spec p zero slot is =
     let parts = and_parts (is_some (slot_type spec p 0 slot)) (not (is_inherited_there (rules_of spec) p 0 slot)) is in
     (typed_there spec p 0 slot parts.0, parts.1)
 owed_vertex spec p (suc k) slot is =
-    let low = inherited_low spec (phylum_there (rules_of spec) p (suc k)) slot is in
+    let low = inherited_low spec (phylum_there spec.ops p (suc k)) slot is in
     (omega (arith, low), is)
 
 -- what an equation names has types, so it is there
@@ -185,7 +185,7 @@ module _ (spec : Spec) (counted : AreCounted spec) (shapes : HasShapes spec) (ru
       let few = counted.ops in
       let at = vertex_there (rules_of spec) r.op r.target is in
       let args = args_few r.op in
-      let attrs = attrs_few (phylum_there (rules_of spec) r.op r.target.at) in
+      let attrs = attrs_few (phylum_there spec.ops r.op r.target.at) in
       let locals = locals_few r.op r.target.at in
       record { op = omega (arith, op, few); at = omega (arith, at, args); slot = omega (arith, is, attrs, locals) }
 

@@ -32,12 +32,12 @@ module _ (rules : Rules) (ranges : AreInRange rules) (operators phyla : List (Li
   record SpotOf (p k X : ℕ) : Type 0 where
     op : p < length rules.ops
     stands : Contains (spots_of rules p) (spot_of rules p k)
-    phylum : unwrap_or (phylum_there rules p k) 0 ≡ X
-    attrs : attr_count rules (phylum_there rules p k) ≡ attr_count rules (Some X)
+    phylum : unwrap_or (phylum_there rules.ops p k) 0 ≡ X
+    attrs : attr_count rules (phylum_there rules.ops p k) ≡ attr_count rules (Some X)
 
-  spot_is : (p k X a : ℕ) → phylum_there rules p k ≡ Some X → IsAttr rules X a → SpotOf p k X
+  spot_is : (p k X a : ℕ) → phylum_there rules.ops p k ≡ Some X → IsAttr rules X a → SpotOf p k X
   spot_is p k X a is attr =
-      let count : attr_count rules (phylum_there rules p k) ≡ attr_count rules (Some X) = ap (attr_count rules) is in
+      let count : attr_count rules (phylum_there rules.ops p k) ≡ attr_count rules (Some X) = ap (attr_count rules) is in
       let low : k < suc (length (args_of rules.ops p)) = attr_there rules p k a (omega (arith, count, attr)) in
       record {
         op = op_there rules p (occurrence k a) (omega (arith, count, attr));
@@ -46,10 +46,10 @@ module _ (rules : Rules) (ranges : AreInRange rules) (operators phyla : List (Li
         attrs = count;
       }
 
-  number_is : (p k X a : ℕ) → phylum_there rules p k ≡ Some X → IsAttr rules X a → vertex rules p (occurrence k a) ≡ attrs_before rules p k + a
-  number_is p k X a is attr = let count : attr_count rules (phylum_there rules p k) ≡ attr_count rules (Some X) = ap (attr_count rules) is in number_attr rules p k a (omega (arith, count, attr))
+  number_is : (p k X a : ℕ) → phylum_there rules.ops p k ≡ Some X → IsAttr rules X a → vertex rules p (occurrence k a) ≡ attrs_before rules p k + a
+  number_is p k X a is attr = let count : attr_count rules (phylum_there rules.ops p k) ≡ attr_count rules (Some X) = ap (attr_count rules) is in number_attr rules p k a (omega (arith, count, attr))
 
-  spread_whole : (p k X a b : ℕ) → phylum_there rules p k ≡ Some X → Related X a b → Holds (relation_at operators p) (vertex rules p (occurrence k a)) (vertex rules p (occurrence k b))
+  spread_whole : (p k X a b : ℕ) → phylum_there rules.ops p k ≡ Some X → Related X a b → Holds (relation_at operators p) (vertex rules p (occurrence k a)) (vertex rules p (occurrence k b))
   spread_whole p k X a b is r =
       let s = spot_is p k X a is r.from in
       (settled p s.op).spread (vertex rules p (occurrence k a)) (vertex rules p (occurrence k b))
@@ -67,7 +67,7 @@ module _ (rules : Rules) (ranges : AreInRange rules) (operators phyla : List (Li
         };
       })
 
-  joined_whole : (p k X a b : ℕ) → phylum_there rules p k ≡ Some X → IsAttr rules X a → IsAttr rules X b → Leading p (occurrence k a) (occurrence k b) → Related X a b
+  joined_whole : (p k X a b : ℕ) → phylum_there rules.ops p k ≡ Some X → IsAttr rules X a → IsAttr rules X b → Leading p (occurrence k a) (occurrence k b) → Related X a b
   joined_whole p k X a b is m n path =
       let s = spot_is p k X a is m in
       record {

@@ -13,9 +13,9 @@ pub use Rattle.sg_orders.specs.declared.frame.Frame.{Frame}
 -- the left side of an operator, or an argument
 abbrev pub spot_of : Rules → ℕ → ℕ → Spot
 spot_of rules p k = record {
-  phylum = unwrap_or (phylum_there rules p k) 0;
+  phylum = unwrap_or (phylum_there rules.ops p k) 0;
   first = attrs_before rules p k;
-  attrs = attr_count rules (phylum_there rules p k);
+  attrs = attr_count rules (phylum_there rules.ops p k);
 }
 
 unfoldable pub spots_of : Rules → ℕ → List Spot

@@ -19,7 +19,7 @@ locals_there rules p (suc k) = 0
 
 -- an attribute occurrence or a local that is there
 abbrev pub IsVertex : Rules → ℕ → Occurrence → Type 0
-IsVertex rules p o = o.slot < attr_count rules (phylum_there rules p o.at) + locals_there rules p o.at
+IsVertex rules p o = o.slot < attr_count rules (phylum_there rules.ops p o.at) + locals_there rules p o.at
 
 -- so few operators, attributes, arguments, locals and equations that vertices and equations have small numbers
 pub record AreFew (rules : Rules) : Type 0 where

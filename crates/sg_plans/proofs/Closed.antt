@@ -160,7 +160,7 @@ module _ (spec : Spec) (plans : Plans) (t : Term) (planned : IsPlanned spec plan
     argument : (k slot : ℕ) → Contains i.rule.args (occurrence (suc k) slot) → IsOf i (occurrence (suc k) slot)
     argument k slot names =
         let vertex = named_vertex (occurrence (suc k) slot) names in
-        let has = some_attr rules (phylum_there rules op (suc k)) slot (omega (arith, vertex)) in
+        let has = some_attr rules (phylum_there rules.ops op (suc k)) slot (omega (arith, vertex)) in
         let kid = (node i.node is_node).kid k has.phylum has.is in
         elim (leaf_or_node t (k ∷ i.node) kid.0 kid.1) [
           | inl is ↦ leaf (record { phylum = is.0; value = is.1; label = is.3 })

@@ -49,7 +49,7 @@ module _ (g : Grove) (is : IsGrove g) (top left n : NodeId) (w : Worklist) (op :
         let lists = is.forest.linked.upward n k m hangs in
         let operation = operation_is g is n lists.node op lists.found at in
         let arg : slice_get (args_of g.spec.ops op) k ≡ Some x.label.phylum = operation.kids k m x lists.lists (ap (nodes g) same ∙ found) in
-        let low : o.slot < attr_count (rules_of g.spec) (phylum_there (rules_of g.spec) op (suc k)) + locals_there (rules_of g.spec) op (suc k) = subst (λ j. o.slot < attr_count (rules_of g.spec) (phylum_there (rules_of g.spec) op j) + locals_there (rules_of g.spec) op j) e vertex in
+        let low : o.slot < attr_count (rules_of g.spec) (phylum_there g.spec.ops op (suc k)) + locals_there (rules_of g.spec) op (suc k) = subst (λ j. o.slot < attr_count (rules_of g.spec) (phylum_there g.spec.ops op j) + locals_there (rules_of g.spec) op j) e vertex in
         let here : o.slot < attr_count (rules_of g.spec) (Some x.label.phylum) + 0 = subst (λ p. o.slot < attr_count (rules_of g.spec) p + 0) arg low in
         omega (arith, here)
 

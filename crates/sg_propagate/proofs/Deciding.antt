@@ -76,7 +76,7 @@ module _ (plans : Plans) (sc : Scene) (g : Grove) (is : IsGrove g) (w : Worklist
 
       top_kept : value_there g left o.slot ≡ value_was sc (ref o)
       top_kept =
-          let vertex : o.slot < attr_count (rules_of g.spec) (slice_get (args_of g.spec.ops x.op) k) + 0 = subst (λ j. o.slot < attr_count (rules_of g.spec) (phylum_there (rules_of g.spec) x.op j) + locals_there (rules_of g.spec) x.op j) e (argument_vertex g is r x at o names) in
+          let vertex : o.slot < attr_count (rules_of g.spec) (slice_get (args_of g.spec.ops x.op) k) + 0 = subst (λ j. o.slot < attr_count (rules_of g.spec) (phylum_there g.spec.ops x.op j) + locals_there (rules_of g.spec) x.op j) e (argument_vertex g is r x at o names) in
           by (slice_get (args_of g.spec.ops x.op) k) refl vertex
         where
           by : (a : Option ℕ) → slice_get (args_of g.spec.ops x.op) k ≡ a → o.slot < attr_count (rules_of g.spec) a + 0 → value_there g left o.slot ≡ value_was sc (ref o)

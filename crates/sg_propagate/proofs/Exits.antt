@@ -151,7 +151,7 @@ types_long : (spec : Spec) (o : Option ℕ) → length (attr_types spec o) ≡ a
 types_long spec None = refl
 types_long spec (Some X) = length-map (attrs_of spec.phyla X) (λ (a : Attr). a.of)
 
-slots_long : (spec : Spec) (p k : ℕ) → length (slots_there spec p k) ≡ attr_count (rules_of spec) (phylum_there (rules_of spec) p k) + locals_there (rules_of spec) p k
+slots_long : (spec : Spec) (p k : ℕ) → length (slots_there spec p k) ≡ attr_count (rules_of spec) (phylum_there spec.ops p k) + locals_there (rules_of spec) p k
 slots_long spec p zero =
     length-append (attr_types spec (phylum_of spec.ops p)) (map (λ (l : Local). l.of) (locals_of spec.ops p))
     ∙ omega (arith, types_long spec (phylum_of spec.ops p), length-map (locals_of spec.ops p) (λ (l : Local). l.of))

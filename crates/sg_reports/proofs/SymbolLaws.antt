@@ -8,7 +8,7 @@ use Rattle.std.proofs.lemmas.List.Elements.{Contains-append_cases}
 use Rattle.std.proofs.lemmas.Option.{none-some, same_Some, slice_get_within, get_or_from_slice_get}
 use Rattle.std.proofs.lemmas.Slice.Eq.{bytes_eq-Decides}
 use Rattle.sg_kinds.specs.Values.{Bytes}
-use Rattle.sg_kinds.specs.Specification.{is_lexical_shape}
+use Rattle.sg_kinds.specs.Specification.{is_lexical_shape, phylum_name}
 use Rattle.sg_kinds.specs.Instances.{below}
 use Rattle.sg_kinds.specs.Sound.{HasShapes, HasNames, IsNumbered, IsNamed, lexeme_place}
 use Rattle.sg_kinds.specs.declared.marks.Shape.{Shape}
@@ -24,7 +24,7 @@ use Rattle.sg_kinds.proofs.Elementary.{slice_get-seam}
 use Rattle.sg_patterns.specs.Lexemes.{literals_of}
 use Rattle.sg_grammar.specs.Numbered.{first_literal, first_lexeme, first_nonterminal, lexeme_number, symbol_number}
 use Rattle.sg_orders.proofs.Below.{length-below, get_or-below}
-use Rattle.sg_reports.specs.Symbols.{phylum_name, marker_of, lexeme_symbols, nonterminal_symbols, printed_symbols, symbol_in}
+use Rattle.sg_reports.specs.Symbols.{marker_of, lexeme_symbols, nonterminal_symbols, printed_symbols, symbol_in}
 use Rattle.sg_reports.proofs.VertexLaws.{mapped_there}
 
 -- the first of the texts that is a text

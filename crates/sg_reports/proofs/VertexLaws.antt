@@ -3,7 +3,7 @@ use Rattle.std.specs.Prelude.{◌≡◌, ℕ, zero, suc, ◌+◌, ◌-◌, ◌�
 use Rattle.std.proofs.Common.{refl, sym, ap, ◌∙◌, subst, get_or, arith}
 use Rattle.std.proofs.lemmas.List.{append-nil, append_assoc, length-append, length-map, get_or_append_left, get_or-append_right}
 use Rattle.std.proofs.lemmas.Option.{none-some, same_Some, slice_get-map, slice_get_within, get_or_from_slice_get}
-use Rattle.sg_kinds.specs.Specification.{attrs_of, args_of, rules_of}
+use Rattle.sg_kinds.specs.Specification.{attrs_of, args_of, rules_of, phylum_name}
 use Rattle.sg_kinds.specs.declared.spec.Attr.{Attr}
 use Rattle.sg_kinds.specs.declared.spec.Phylum.{Phylum}
 use Rattle.sg_kinds.specs.declared.spec.Operator.{Operator}
@@ -16,7 +16,6 @@ use Rattle.sg_kinds.specs.Dependencies.{phylum_there, occurrence}
 use Rattle.sg_kinds.specs.Visits.{attrs_before, attrs_here, vertex}
 use Rattle.sg_orders.proofs.Framed.{args_are, phylum_is}
 use Rattle.sg_orders.proofs.Numbers.{number_attr, number_local}
-use Rattle.sg_reports.specs.Symbols.{phylum_name}
 use Rattle.sg_reports.specs.Vertices.{occurrence_vertices, argument_vertices, vertices_of, printed_vertices, vertex_in}
 
 -- what stands in a list stands in its picture
@@ -107,18 +106,18 @@ module _ (spec : Spec) (p : ℕ) (o : Operator) (is : slice_get spec.ops p ≡ S
   args_same = args_are (rules_of spec) p o is
 
   before_arguments : (k : ℕ) → attrs_before (rules_of spec) p (suc k) ≡ length (attrs_of spec.phyla o.phylum) + counted spec.phyla o.args k
-  before_arguments zero = let left : attr_count (rules_of spec) (phylum_there (rules_of spec) p 0) ≡ length (attrs_of spec.phyla o.phylum) = ap (attr_count (rules_of spec)) (phylum_is (rules_of spec) p o is) in omega (arith, left)
+  before_arguments zero = let left : attr_count (rules_of spec) (phylum_there spec.ops p 0) ≡ length (attrs_of spec.phyla o.phylum) = ap (attr_count (rules_of spec)) (phylum_is (rules_of spec) p o is) in omega (arith, left)
   before_arguments (suc k) =
       let rest = before_arguments k in
       let next = counted-suc spec.phyla o.args k in
-      let here : attr_count (rules_of spec) (phylum_there (rules_of spec) p (suc k)) ≡ count_at spec.phyla (slice_get o.args k) = ap (λ xs. attr_count (rules_of spec) (slice_get xs k)) args_same ∙ same_count (slice_get o.args k) in
+      let here : attr_count (rules_of spec) (phylum_there spec.ops p (suc k)) ≡ count_at spec.phyla (slice_get o.args k) = ap (λ xs. attr_count (rules_of spec) (slice_get xs k)) args_same ∙ same_count (slice_get o.args k) in
       omega (arith, rest, next, here)
     where
       same_count : (x : Option ℕ) → attr_count (rules_of spec) x ≡ count_at spec.phyla x
       same_count None = refl
       same_count (Some q) = refl
 
-  left_count : attr_count (rules_of spec) (phylum_there (rules_of spec) p 0) ≡ length (attrs_of spec.phyla o.phylum)
+  left_count : attr_count (rules_of spec) (phylum_there spec.ops p 0) ≡ length (attrs_of spec.phyla o.phylum)
   left_count = ap (attr_count (rules_of spec)) (phylum_is (rules_of spec) p o is)
 
   pub own_vertex : (slot : ℕ) (a : Attr) → slice_get (attrs_of spec.phyla o.phylum) slot ≡ Some a → vertex_in (printed_vertices spec p) (vertex (rules_of spec) p (occurrence 0 slot)) ≡ Own a.name
@@ -139,7 +138,7 @@ module _ (spec : Spec) (p : ℕ) (o : Operator) (is : slice_get spec.ops p ≡ S
   argument_vertex k q slot a at there =
       let low = slice_get_within (attrs_of spec.phyla q) slot a there in
       let inside = slice_get_within o.args k q at in
-      let count : attr_count (rules_of spec) (phylum_there (rules_of spec) p (suc k)) ≡ length (attrs_of spec.phyla q) = ap (attr_count (rules_of spec)) (ap (λ xs. slice_get xs k) args_same ∙ at) in
+      let count : attr_count (rules_of spec) (phylum_there spec.ops p (suc k)) ≡ length (attrs_of spec.phyla q) = ap (attr_count (rules_of spec)) (ap (λ xs. slice_get xs k) args_same ∙ at) in
       let place = length (attrs_of spec.phyla o.phylum) + counted spec.phyla o.args k + slot in
       let number : vertex (rules_of spec) p (occurrence (suc k) slot) ≡ place = let n = number_attr (rules_of spec) p (suc k) slot (omega (arith, low, count)) in let b = before_arguments k in omega (arith, n, b) in
       let long = own_length in

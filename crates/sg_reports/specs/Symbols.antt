@@ -1,7 +1,7 @@
 -- The symbols of the grammar as they are printed.
 use Rattle.std.specs.Prelude.{ℕ, suc, if◌then◌else◌, nat_eq, List, [], ◌∷◌, ◌++◌, map, slice_get, slice_index_or, option_map, unwrap_or}
 use Rattle.sg_kinds.specs.Values.{Bytes}
-use Rattle.sg_kinds.specs.Specification.{is_lexical_shape}
+use Rattle.sg_kinds.specs.Specification.{is_lexical_shape, phylum_name}
 use Rattle.sg_kinds.specs.declared.spec.Phylum.{Phylum}
 use Rattle.sg_kinds.specs.declared.spec.Production.{Production}
 use Rattle.sg_kinds.specs.declared.spec.Entry.{Entry}
@@ -9,10 +9,6 @@ use Rattle.sg_kinds.specs.declared.spec.Spec.{Spec}
 use Rattle.sg_kinds.specs.declared.fault.PrintedSymbol.{PrintedSymbol}
 use Rattle.sg_kinds.specs.declared.fault.PrintedSymbol.TheVariants.{End, Marker, Literal, Name}
 use Rattle.sg_patterns.specs.Lexemes.{literals_of}
-
--- the name of a phylum
-abbrev pub phylum_name : List Phylum → ℕ → Bytes
-phylum_name phyla p = unwrap_or (option_map (λ (x : Phylum). x.name) (slice_get phyla p)) []
 
 -- the marker of an entry has its phylum's name
 abbrev pub marker_of : List Phylum → Entry → PrintedSymbol

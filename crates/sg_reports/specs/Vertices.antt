@@ -1,7 +1,7 @@
 -- The vertices of operators as they are printed.
 use Rattle.std.specs.Prelude.{ℕ, suc, nat_eq, count_by, List, [], ◌∷◌, ◌++◌, map, slice_get, slice_index_or, option_map, unwrap_or}
 use Rattle.sg_kinds.specs.Values.{Bytes}
-use Rattle.sg_kinds.specs.Specification.{attrs_of}
+use Rattle.sg_kinds.specs.Specification.{attrs_of, phylum_name}
 use Rattle.sg_kinds.specs.declared.spec.Attr.{Attr}
 use Rattle.sg_kinds.specs.declared.spec.Phylum.{Phylum}
 use Rattle.sg_kinds.specs.declared.spec.Operator.{Operator}
@@ -9,7 +9,6 @@ use Rattle.sg_kinds.specs.declared.spec.Spec.{Spec}
 use Rattle.sg_kinds.specs.declared.spec.Local.{Local as LocalOf}
 use Rattle.sg_kinds.specs.declared.fault.PrintedVertex.{PrintedVertex}
 use Rattle.sg_kinds.specs.declared.fault.PrintedVertex.TheVariants.{Own, Argument, Local}
-use Rattle.sg_reports.specs.Symbols.{phylum_name}
 
 -- the attributes of the k-th occurrence of a phylum
 abbrev pub occurrence_vertices : List Phylum → ℕ → ℕ → List PrintedVertex

@@ -3,7 +3,7 @@ ghost use Rattle.std.specs.Prelude.{◌≡◌, ℕ, suc, ◌+◌, ◌∷◌, len
 ghost use Rattle.sg_grammar.specs.Numbered.{symbol_number};
 ghost use Rattle.sg_kinds.specs.Dependencies.{occurrence};
 ghost use Rattle.sg_kinds.specs.Sound.{HasNames, HasShapes};
-ghost use Rattle.sg_kinds.specs.Specification.{attrs_of, rules_of};
+ghost use Rattle.sg_kinds.specs.Specification.{attrs_of, rules_of, phylum_name};
 ghost use Rattle.sg_kinds.specs.Values.{Bytes};
 ghost use Rattle.sg_kinds.specs.Visits.{vertex};
 ghost use Rattle.sg_kinds.specs.declared.fault.PrintedSymbol.TheVariants as printed_symbol;
@@ -18,7 +18,7 @@ ghost use Rattle.sg_kinds.specs.declared.spec.Production.{Production};
 ghost use Rattle.sg_kinds.specs.declared.spec.Spec.{Spec};
 ghost use Rattle.sg_kinds.specs.declared.spec.Symbol.TheVariants as symbol;
 ghost use Rattle.sg_patterns.specs.Lexemes.{literals_of};
-ghost use Rattle.sg_reports.specs.Symbols.{phylum_name, printed_symbols, symbol_in};
+ghost use Rattle.sg_reports.specs.Symbols.{printed_symbols, symbol_in};
 ghost use Rattle.sg_reports.specs.Vertices.{printed_vertices, vertex_in};
 
 /// A vertex is printed as what has its number: an attribute of the left side; an attribute of an argument, with how

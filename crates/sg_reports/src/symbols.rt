@@ -1,7 +1,8 @@
 //! The symbols of the grammar as they are printed.
 ghost use Rattle.std.specs.Prelude.{◌≡◌, ◌++◌, map, IfOk, OnOk};
 ghost use Rattle.sg_patterns.specs.Lexemes.{literals_of};
-ghost use Rattle.sg_reports.specs.Symbols.{phylum_name, marker_of, lexeme_symbols, nonterminal_symbols, printed_symbols, symbol_in, name_of};
+ghost use Rattle.sg_kinds.specs.Specification.{phylum_name};
+ghost use Rattle.sg_reports.specs.Symbols.{marker_of, lexeme_symbols, nonterminal_symbols, printed_symbols, symbol_in, name_of};
 
 use sg_kinds::fault::PrintedSymbol;
 use sg_kinds::ids::PhylumId;

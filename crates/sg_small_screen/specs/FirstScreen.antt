@@ -1,16 +1,15 @@
 -- The first screen: the root's completing term, selected, in a window of 80 columns and 24 lines.
-use Rattle.std.specs.Prelude.{ℕ, ◌∷◌, [], ◌++◌, length, take, flat_map, codes, slice_get, option_map, unwrap_or}
+use Rattle.std.specs.Prelude.{ℕ, ◌∷◌, [], ◌++◌, length, take, flat_map, codes}
 use Rattle.std.specs.Fmt.{decimal}
 use Rattle.sg_kinds.specs.Values.{Bytes, Value}
 use Rattle.sg_kinds.specs.Terms.{Term}
 use Rattle.sg_kinds.specs.Places.{Place}
 use Rattle.sg_kinds.specs.Nets.{referred, net_of}
-use Rattle.sg_kinds.specs.Specification.{rules_of}
+use Rattle.sg_kinds.specs.Specification.{rules_of, phylum_name}
 use Rattle.sg_kinds.specs.Completing.{completing}
 use Rattle.sg_kinds.specs.Instances.{instances}
 use Rattle.sg_kinds.specs.FromScratch.{value_in}
 use Rattle.sg_kinds.specs.declared.spec.Spec.{Spec}
-use Rattle.sg_kinds.specs.declared.spec.Phylum.{Phylum}
 use Rattle.sg_kinds.specs.declared.spec.Occurrence.{Occurrence}
 use Rattle.sg_small_screen.specs.Cells.{term_text}
 use Rattle.sg_small_screen.specs.Page.{Position, page_of, lines_of, position_after, last_position}
@@ -30,13 +29,10 @@ first_cells spec = let t = completing spec spec.root in term_text spec (value_th
 abbrev pub position_text : Position → Bytes
 position_text p = decimal p.line ++ codes ":" ++ decimal p.column
 
-abbrev pub phylum_name : Spec → ℕ → Bytes
-phylum_name spec p = unwrap_or (option_map (λ (x : Phylum). x.name) (slice_get spec.phyla p)) []
-
 -- `= B L:C-L:C PHYLUM top T ev N MESSAGE`: the region of the selected root is the whole page
 abbrev pub header : Spec → Bytes → ℕ → Bytes
 header spec page evs = codes "= main " ++ position_text (position_after []) ++ codes "-" ++ position_text (last_position page)
-    ++ codes " " ++ phylum_name spec spec.root ++ codes " top 1 ev " ++ decimal evs ++ codes " ok" ++ 10 ∷ []
+    ++ codes " " ++ phylum_name spec.phyla spec.root ++ codes " top 1 ev " ++ decimal evs ++ codes " ok" ++ 10 ∷ []
 
 -- a line of the window
 abbrev pub shown_line : Bytes → Bytes

@@ -1,8 +1,9 @@
 // The page and the block.
 ghost use Rattle.std.specs.Prelude.{◌≡◌, ◌≤◌, ◌++◌, length, take, map, flat_map, OnOk, IfOk};
 ghost use Rattle.std.specs.Fmt.{decimal};
+ghost use Rattle.sg_kinds.specs.Specification.{phylum_name as name_of};
 ghost use Rattle.sg_small_screen.specs.Page.{page_of, lines_of, position_after as after, last_position as last};
-ghost use Rattle.sg_small_screen.specs.FirstScreen.{position_text, phylum_name as name_of, header, shown_line, block};
+ghost use Rattle.sg_small_screen.specs.FirstScreen.{position_text, header, shown_line, block};
 
 use sg_kinds::ids::PhylumId;
 use sg_kinds::memory::NoMemory;
@@ -87,7 +88,7 @@ fn write_position(alloc: Global, out: &mut Vec<u8>, p: Position) -> Result<(), N
 
 // writes a phylum's name
 fn write_name(out: &mut Vec<u8>, spec: &Spec, p: PhylumId) -> Result<(), NoMemory>
-    ensures { OnOk result (out.new.items ≡ out.old.items ++ name_of spec.now p) }
+    ensures { OnOk result (out.new.items ≡ out.old.items ++ name_of spec.now.phyla p) }
 {
     if let Some(phylum) = spec.phyla.place(p.number) {
         out.extend_from_slice(phylum.name.as_slice())?;

@@ -247,7 +247,7 @@ module _ (g : Grove) (held : IsGrove g) where
             }
         by (suc k) e =
             let owed : is_owed g.spec r.op (suc k) r.target.slot ≡ true = subst (λ j. is_owed g.spec r.op j r.target.slot ≡ true) e is_owed_rule in
-            let arg = mapped_parts (phylum_there (rules_of g.spec) r.op (suc k)) (λ X. is_inherited g.spec.phyla X r.target.slot) owed in
+            let arg = mapped_parts (phylum_there g.spec.ops r.op (suc k)) (λ X. is_inherited g.spec.phyla X r.target.slot) owed in
             let kid = kid_of n x r.op k arg.0 found is arg.1 in
             let same : kid.kid ≡ m = let h : Some kid.kid ≡ Some m = sym kid.lists ∙ ap (node_there g.trees n) (sym e) ∙ is_there in cc h in
             let at_m : nodes g m ≡ Some kid.node = ap (nodes g) (sym same) ∙ kid.found in

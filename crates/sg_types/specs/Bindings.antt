@@ -4,6 +4,7 @@ use Rattle.std.specs.List.{position}
 use Rattle.sg_kinds.specs.Values.{Bytes}
 use Rattle.sg_kinds.specs.declared.spec.Occurrence.{Occurrence}
 use Rattle.sg_kinds.specs.Specification.{phylum_of, attrs_of}
+use Rattle.sg_kinds.specs.Dependencies.{phylum_there}
 use Rattle.sg_kinds.specs.declared.spec.Attr.{Attr}
 use Rattle.sg_kinds.specs.Typing.{slot_type, attr_types}
 use Rattle.sg_ast.specs.FirstFault.{or_else}
@@ -12,7 +13,7 @@ use Rattle.sg_ast.specs.declared.decl.Part.{Part}
 use Rattle.sg_ast.specs.declared.decl.Part.TheVariants as part
 use Rattle.sg_names.specs.declared.table.Table.{Table}
 use Rattle.sg_names.specs.declared.table.Operand.{Operand}
-use Rattle.sg_names.specs.Lookups.{local, reference, operand, phylum_there}
+use Rattle.sg_names.specs.Lookups.{local, reference, operand}
 use Rattle.sg_types.specs.declared.scope.Variable.{Variable}
 use Rattle.sg_names.specs.Drafted.{drafted}
 use Rattle.sg_types.specs.Scopes.{found}
@@ -26,7 +27,7 @@ pub data Owner : Type 0 where
 
 -- the attributes at an occurrence of an operator
 abbrev pub attrs_there : Table → ℕ → ℕ → List Attr
-attrs_there t op at = unwrap_or (option_map (attrs_of t.phyla) (phylum_there t op at)) []
+attrs_there t op at = unwrap_or (option_map (attrs_of t.phyla) (phylum_there t.ops op at)) []
 
 -- a slot of an occurrence among the arguments of an equation
 abbrev pub is_at : ℕ → ℕ → Occurrence → Bool

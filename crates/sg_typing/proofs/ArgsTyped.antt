@@ -5,6 +5,7 @@ use Rattle.std.specs.List.{position}
 use Rattle.std.proofs.lemmas.Option.{slice_get-map}
 use Rattle.sg_kinds.specs.Values.{Bytes}
 use Rattle.sg_kinds.specs.Specification.{attrs_of, locals_of, phylum_of}
+use Rattle.sg_kinds.specs.Dependencies.{phylum_there}
 use Rattle.sg_kinds.specs.Typing.{attr_types, slot_type, types_at}
 use Rattle.sg_kinds.specs.declared.spec.Attr.{Attr}
 use Rattle.sg_kinds.specs.declared.spec.Local.{Local}
@@ -13,7 +14,7 @@ use Rattle.sg_kinds.proofs.Elementary.{slice_get-before, slice_get-behind}
 use Rattle.sg_ast.specs.Expressions.{Expr, Exprs, Cases, Amount, Chars, Truth, Variable, Attribute, MadeOf, Paren, Single, Binary, Choice, Call, Let, With, NoExpr, AndExpr, NoCase, Default, Case}
 use Rattle.sg_ast.specs.declared.name.Reference.{Reference}
 use Rattle.sg_names.specs.Drafted.{drafted}
-use Rattle.sg_names.specs.Lookups.{attribute, attribute_at, local, occurrence, phylum_there, reference}
+use Rattle.sg_names.specs.Lookups.{attribute, attribute_at, local, occurrence, reference}
 use Rattle.sg_names.specs.declared.table.Table.{Table}
 use Rattle.sg_types.specs.Bindings.{is_at, own_slots}
 use Rattle.sg_typing.specs.Arguments.{added, local_of, args_from, args_from_all, args_from_cases, args_in}
@@ -27,7 +28,7 @@ abbrev HaveTypes : Table → ℕ → List Occurrence → Type 0
 HaveTypes t op os = (ps : List ℕ) × (types_at (drafted t) op os ≡ Some ps)
 
 -- the slot of an attribute
-attr_there : (t : Table) (op at p s : ℕ) (a : Bytes) → phylum_there t op at ≡ Some p → attribute t p a ≡ Some s → HasType t op (record { at = at; slot = s })
+attr_there : (t : Table) (op at p s : ℕ) (a : Bytes) → phylum_there t.ops op at ≡ Some p → attribute t p a ≡ Some s → HasType t op (record { at = at; slot = s })
 attr_there t op at p s a there named = by at there
   where
     x : (y : Attr) × (slice_get (attrs_of t.phyla p) s ≡ Some y) × (bytes_eq a y.name ≡ true)
@@ -36,24 +37,24 @@ attr_there t op at p s a there named = by at there
     slot : slice_get (map (λ (y : Attr). y.of) (attrs_of t.phyla p)) s ≡ Some x.0.of
     slot = slice_get-map (λ (y : Attr). y.of) (attrs_of t.phyla p) s ∙ ap (option_map (λ (y : Attr). y.of)) x.1
 
-    by : (at : ℕ) → phylum_there t op at ≡ Some p → HasType t op (record { at = at; slot = s })
+    by : (at : ℕ) → phylum_there t.ops op at ≡ Some p → HasType t op (record { at = at; slot = s })
     by zero h = (x.0.of, ap (λ o. slice_get (attr_types (drafted t) o ++ map (λ (l : Local). l.of) (locals_of t.ops op)) s) h ∙ slice_get-before (map (λ (y : Attr). y.of) (attrs_of t.phyla p)) (map (λ (l : Local). l.of) (locals_of t.ops op)) s x.0.of slot)
     by (suc k) h = (x.0.of, ap (λ o. slice_get (attr_types (drafted t) o) s) h ∙ slot)
 
 reference_typed : (t : Table) (op : ℕ) (r : Reference) (o : Occurrence) → reference t op r ≡ Some o → HasType t op o
 reference_typed t op r o h = by (occurrence t op r.of) h
   where
-    slotted : (at p : ℕ) → phylum_there t op at ≡ Some p → (s : Option ℕ) → attribute t p r.attr.text ≡ s → option_map (λ s. record { at = at; slot = s }) s ≡ Some o → HasType t op o
+    slotted : (at p : ℕ) → phylum_there t.ops op at ≡ Some p → (s : Option ℕ) → attribute t p r.attr.text ≡ s → option_map (λ s. record { at = at; slot = s }) s ≡ Some o → HasType t op o
     slotted at p there None named f = cc
     slotted at p there (Some s) named f = let same : record { at = at; slot = s } ≡ o = cc in subst (HasType t op) same (attr_there t op at p s r.attr.text there named)
 
-    placed : (at : ℕ) (p : Option ℕ) → phylum_there t op at ≡ p → option_and_then (λ p. option_map (λ s. record { at = at; slot = s }) (attribute t p r.attr.text)) p ≡ Some o → HasType t op o
+    placed : (at : ℕ) (p : Option ℕ) → phylum_there t.ops op at ≡ p → option_and_then (λ p. option_map (λ s. record { at = at; slot = s }) (attribute t p r.attr.text)) p ≡ Some o → HasType t op o
     placed at None there f = cc
     placed at (Some p) there f = slotted at p there (attribute t p r.attr.text) refl f
 
     by : (at : Option ℕ) → option_and_then (λ at. attribute_at t op at r.attr.text) at ≡ Some o → HasType t op o
     by None f = cc
-    by (Some at) f = placed at (phylum_there t op at) refl f
+    by (Some at) f = placed at (phylum_there t.ops op at) refl f
 
 -- the slot of a local
 pub local_typed : (t : Table) (op k : ℕ) (n : Bytes) → local t op n ≡ Some k → HasType t op (record { at = 0; slot = own_slots t op + k })

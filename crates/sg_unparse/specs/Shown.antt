@@ -3,7 +3,7 @@ use Rattle.std.specs.Prelude.{ℕ, ◌%◌, true, false, if◌then◌else◌, []
 use Rattle.std.specs.Fmt.{signed_decimal}
 use Rattle.sg_kinds.specs.Values.{Bytes, Value, Truth, Number, Chars, Tree, Fault}
 use Rattle.sg_kinds.specs.Terms.{Term, Leaf, Node}
-use Rattle.sg_kinds.specs.Specification.{has_shape, is_lexical_shape}
+use Rattle.sg_kinds.specs.Specification.{has_shape, is_lexical_shape, phylum_name}
 use Rattle.sg_kinds.specs.declared.spec.Spec.{Spec}
 use Rattle.sg_kinds.specs.declared.spec.Phylum.{Phylum}
 use Rattle.sg_kinds.specs.declared.spec.Operator.{Operator}
@@ -22,12 +22,9 @@ fault_text NoMatch = codes "<nomatch>"
 fault_text Convert = codes "<convert>"
 
 -- a text of a phylum: the empty text of a lexeme phylum is shown as the phylum's name in angle brackets
-abbrev pub phylum_name : Spec → ℕ → Bytes
-phylum_name spec p = unwrap_or (option_map (λ (x : Phylum). x.name) (slice_get spec.phyla p)) []
-
 abbrev pub text_shown : Spec → ℕ → Bytes → Bytes
 text_shown spec p [] =
-    if has_shape spec.phyla is_lexical_shape p then codes "<" ++ phylum_name spec p ++ codes ">" else []
+    if has_shape spec.phyla is_lexical_shape p then codes "<" ++ phylum_name spec.phyla p ++ codes ">" else []
 text_shown spec p (b ∷ s) = b ∷ s
 
 -- a value of a phylum; a tree shows nothing

@@ -1,8 +1,8 @@
 // Values as they are shown, and the schemes in which nodes are shown.
 ghost use Rattle.std.specs.Prelude.{◌≡◌, ◌%◌, ◌<◌, ◌++◌, length, slice_get, None, Some, MatchOption, OnOk};
-ghost use Rattle.sg_kinds.specs.Specification.{has_shape, is_lexical_shape};
+ghost use Rattle.sg_kinds.specs.Specification.{has_shape, is_lexical_shape, phylum_name};
 ghost use Rattle.sg_pool.specs.Pools.{value_at};
-ghost use Rattle.sg_unparse.specs.Shown.{fault_text, phylum_name, text_shown, value_text, scheme_of};
+ghost use Rattle.sg_unparse.specs.Shown.{fault_text, text_shown, value_text, scheme_of};
 
 use sg_kinds::ids::{OpId, PhylumId, ValueId};
 use sg_kinds::marks::{FaultKind, Shape};
@@ -62,7 +62,7 @@ fn is_lexical(spec: &Spec, p: PhylumId) -> bool
 
 // the name of a phylum
 fn phylum_name(spec: &Spec, p: PhylumId) -> &[u8]
-    ensures { result.now ≡ phylum_name spec.now p }
+    ensures { result.now ≡ phylum_name spec.now.phyla p }
 {
     match spec.phyla.place(p.number) {
         Some(phylum) => phylum.name.as_slice(),

@@ -12,12 +12,12 @@ pub loop-i-init : goal.loop-i-init
 loop-i-init c =
     let rules = rules_of c.args.spec.now in
     let is : slice_get rules.ops c.args.op ≡ Some c.item-operator.result.now = ap (λ xs. slice_get xs c.args.op) (sym c.as_slice.ensures) ∙ c.item-operator.ensures in
-    let here : attr_count rules (phylum_there rules c.args.op 0) ≡ attr_count rules (Some c.item-operator.result.now.phylum) = ap (attr_count rules) (phylum_is rules c.args.op c.item-operator.result.now is) in
+    let here : attr_count rules (phylum_there rules.ops c.args.op 0) ≡ attr_count rules (Some c.item-operator.result.now.phylum) = ap (attr_count rules) (phylum_is rules c.args.op c.item-operator.result.now is) in
     let count : c.attrs_in-count.result ≡ attr_count rules (Some c.item-operator.result.now.phylum) = c.attrs_in-count.ensures in
     omega (arith, here, count)
 
 -- the argument that the loop stands at
-there : (c : goal.After-attrs_in-count-in-loop-i) → phylum_there (rules_of c.args.spec.now) c.args.op (suc c.loop-i.i) ≡ Some c.item.result.now
+there : (c : goal.After-attrs_in-count-in-loop-i) → phylum_there c.args.spec.now.ops c.args.op (suc c.loop-i.i) ≡ Some c.item.result.now
 there c =
     let rules = rules_of c.args.spec.now in
     let x = c.item-operator.result.now in
@@ -36,7 +36,7 @@ pub loop-i-preserved : goal.loop-i-preserved
 loop-i-preserved c =
     let rules = rules_of c.args.spec.now in
     let op = c.args.op in
-    let next : attr_count rules (phylum_there rules op (suc c.loop-i.i)) ≡ attr_count rules (Some c.item.result.now) = ap (attr_count rules) (there c) in
+    let next : attr_count rules (phylum_there rules.ops op (suc c.loop-i.i)) ≡ attr_count rules (Some c.item.result.now) = ap (attr_count rules) (there c) in
     let count : c.attrs_in-count-in-loop-i.result ≡ attr_count rules (Some c.item.result.now) = c.attrs_in-count-in-loop-i.ensures in
     let before : c.loop-i.count ≡ attrs_before rules op (suc c.loop-i.i) = c.loop-i.invariant in
     rw add-one (ap (λ n. n + c.attrs_in-count-in-loop-i.result) before ∙ ap (λ n. attrs_before rules op (suc c.loop-i.i) + n) (count ∙ sym next))

@@ -22,12 +22,12 @@ of_argument rules p o is pos = elim (split_vertex rules p o is) [
 ]
 
 -- that of a local is below the count of vertices
-of_local : (rules : Rules) (p : ℕ) (o : Occurrence) (here : ℕ) → IsVertex rules p o → o.at ≤ 0 → here ≡ attr_count rules (phylum_there rules p 0) → here ≤ o.slot
+of_local : (rules : Rules) (p : ℕ) (o : Occurrence) (here : ℕ) → IsVertex rules p o → o.at ≤ 0 → here ≡ attr_count rules (phylum_there rules.ops p 0) → here ≤ o.slot
     → attrs_before rules p (suc (length (args_of rules.ops p))) + (o.slot - here) < vertices rules p
 of_local rules p o here is left count past = elim (split_vertex rules p o is) [
   | inl at ↦ absurd (
       let zeroth : o.at ≡ 0 = omega (arith, left) in
-      let low : o.slot < attr_count rules (phylum_there rules p 0) = subst (λ k. o.slot < attr_count rules (phylum_there rules p k)) zeroth at.slot in
+      let low : o.slot < attr_count rules (phylum_there rules.ops p 0) = subst (λ k. o.slot < attr_count rules (phylum_there rules.ops p k)) zeroth at.slot in
       omega (arith, low, count, past))
   | inr local ↦ let under = local.under in omega (arith, under, count, past)
 ]
@@ -69,7 +69,7 @@ overflow_add-result-else-slot-here c =
     let x = c.item-operator.result.now in
     let is : slice_get rules.ops c.args.op ≡ Some x = ap (slice_get rules.ops) (sym op) ∙ ap (λ xs. slice_get xs c.op.inside.number) (sym c.as_slice.ensures) ∙ c.item-operator.ensures in
     let long : c.len.result ≡ length (args_of rules.ops c.args.op) = c.len.ensures ∙ ap length (sym (args_are rules c.args.op x is)) in
-    let here : c.attrs_in-here.result ≡ attr_count rules (phylum_there rules c.args.op 0) = c.attrs_in-here.ensures ∙ ap (attr_count rules) (sym (phylum_is rules c.args.op x is)) in
+    let here : c.attrs_in-here.result ≡ attr_count rules (phylum_there rules.ops c.args.op 0) = c.attrs_in-here.ensures ∙ ap (attr_count rules) (sym (phylum_is rules c.args.op x is)) in
     let total : c.attrs_up_to-else-slot-here.result ≡ attrs_before rules c.args.op (suc (length (args_of rules.ops c.args.op))) =
     count ∙ ap (λ p. attrs_before rules p (suc c.len.result)) op ∙ ap (λ n. attrs_before rules c.args.op (suc n)) long in
     let under = of_local rules c.args.op c.args.o c.attrs_in-here.result c.requires.there c.if-o-gt0.false here c.if-slot-here.false in
