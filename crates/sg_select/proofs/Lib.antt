@@ -11,3 +11,4 @@ pub mod Siblings
 pub mod Fronts
 pub mod Elements
 pub mod Unparsing
+pub mod Typing
