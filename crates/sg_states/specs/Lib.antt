@@ -1,0 +1,5 @@
+pub mod Selections
+pub mod Seen
+pub mod Turned
+pub mod States
+pub mod Paged

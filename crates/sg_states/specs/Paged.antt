@@ -1,0 +1,35 @@
+-- What is seen of the term that a root holds.
+use Rattle.std.specs.Prelude.{◌≡◌, ℕ, false, Option}
+use Rattle.sg_kinds.specs.Values.{Bytes}
+use Rattle.sg_kinds.specs.Terms.{Term}
+use Rattle.sg_kinds.specs.Places.{Place}
+use Rattle.sg_kinds.specs.Specification.{is_inherited}
+use Rattle.sg_changes.specs.declared.spot.Spot.{Spot}
+use Rattle.sg_forest.specs.declared.node_id.NodeId.{NodeId}
+use Rattle.sg_forest.specs.Trees.{Climbs, IsRoot}
+use Rattle.sg_groves.specs.Grove.{Grove, nodes}
+use Rattle.sg_groves.specs.Holds.{Holds}
+use Rattle.sg_groves.specs.IsRight.{IsRight}
+use Rattle.sg_unparse.specs.Along.{node_along}
+use Rattle.sg_unparse.specs.Sheet.{Sheet}
+use Rattle.sg_unparse.specs.Written.{sheet_of}
+use Rattle.sg_states.specs.Selections.{place_in}
+use Rattle.sg_states.specs.Seen.{nothing_typed, marks_seen}
+use Rattle.sg_states.specs.declared.looks.Look.{Look}
+
+-- a right tree, whose root holds a term and inherits nothing
+pub record IsWhole (g : Grove) (root : NodeId) (t : Term) : Type 0 where
+  pub top : IsRoot (nodes g) root
+  pub holds : Holds g root t
+  pub right : IsRight g root
+  pub free : (slot : ℕ) → is_inherited g.spec.phyla top.node.label.phylum slot ≡ false
+
+-- its page with its from-scratch values, by the numbers of its nodes, and with a text typed at a place
+unfoldable pub page_seen : Grove → NodeId → Term → (Place → Option Bytes) → Sheet
+page_seen g root t typed = sheet_of (node_along g root) (marks_seen g.spec t typed)
+
+-- a spot, its node, and the page without a typed text
+pub record IsLook (g : Grove) (root : NodeId) (t : Term) (spot : Spot) (l : Look) : Type 0 where
+  pub selected : Climbs (nodes g) (place_in spot.selection) l.selected root
+  pub spot_is : l.spot ≡ spot
+  pub page : l.page ≡ page_seen g root t nothing_typed

@@ -1,0 +1,9 @@
+//! The state of a buffer, and what each call does to it.
+#![tactic(auto)]
+
+pub mod laws;
+mod looks;
+mod marks;
+
+pub use looks::{Look, elements_at, line_on, look_at, page_of, page_with, target, top_at};
+pub use marks::{Extended, Mark, Move};
