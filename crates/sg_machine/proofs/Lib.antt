@@ -8,3 +8,8 @@ pub mod Keeping
 pub mod Goes
 pub mod Ends
 mod Worked
+pub mod Stacks
+pub mod Completion
+pub mod Exit
+pub mod Halts
+pub mod Inputs

@@ -5,11 +5,11 @@ use Rattle.std.proofs.lemmas.List.{append-nil}
 use Rattle.std.proofs.lemmas.Option.{none-some, same_Some}
 use Rattle.sg_machine.specs.Machine.{pushed}
 
-pub head_or : {A : Type 0} → A → List A → A
+head_or : {A : Type 0} → A → List A → A
 head_or a [] = a
 head_or a (x ∷ xs) = x
 
-pub tail_of : {A : Type 0} → List A → List A
+tail_of : {A : Type 0} → List A → List A
 tail_of [] = []
 tail_of (x ∷ xs) = xs
 

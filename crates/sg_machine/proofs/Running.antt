@@ -16,7 +16,7 @@ same-shift u w e = cc
 pub same-reduce : (p q : ℕ) → Reduce p ≡ Reduce q → p ≡ q
 same-reduce p q e = cc
 
-shift-reduce : (u p : ℕ) → Shift u ≡ Reduce p → ⊥
+pub shift-reduce : (u p : ℕ) → Shift u ≡ Reduce p → ⊥
 shift-reduce u p e = cc
 
 -- where the machine goes no further

@@ -1,5 +1,5 @@
--- The machine over the tables of a small grammar: 4 ::= 2 4, and 4 ::= nothing; 2 and 3 are its terminals, and 1 is the
--- marker of its entry.
+-- The machine over the tables of a small grammar: 4 ::= 2 4, and 4 ::= nothing; 2 and 3 are its terminals, and 1 is
+-- the marker of its entry.
 use Rattle.std.proofs.Common.{◌≡◌, ℕ, zero, List, [], ◌∷◌, refl, Some}
 use Rattle.std.specs.Prelude.{slice_get}
 use Rattle.sg_grammar.specs.declared.grammar.Made.TheVariants.{Same}

@@ -11,8 +11,8 @@ cells_of m w [] bs = []
 cells_of m w (X ∷ Xs) [] = []
 cells_of m w (X ∷ Xs) (b ∷ bs) = (state_behind m (X ∷ w), b) ∷ cells_of m (X ∷ w) Xs bs
 
--- over the marker of entry k stand the cells of a string that derives the tokens so far, with its results; some item is
--- valid for it; and over every rest with this lookahead the machine comes from the beginning to this stack
+-- over the marker of entry k stand the cells of a string that derives the tokens so far, with its results; some item
+-- is valid for it; and over every rest with this lookahead the machine comes from the beginning to this stack
 pub record Kept {A : Type 0} {v : View} (alg : Algebra A) (m : Decided v) (k : ℕ) (a : A) (us : List Token) (t : ℕ)
     (s : List (ℕ × A)) : Type 0 where
   pub string : List ℕ

@@ -29,8 +29,8 @@ pushed (c ∷ cs) s = pushed cs (c ∷ s)
 abbrev pub results_in : {A : Type 0} → List (ℕ × A) → List A
 results_in cells = map (λ c. c.1) cells
 
--- in so many steps the machine goes from one stack and rest of the tokens to another: a shift pushes a token's cell, and
--- a reduction pops a cell for each symbol of the right side and pushes that of the left side
+-- in so many steps the machine goes from one stack and rest of the tokens to another: a shift pushes a token's cell,
+-- and a reduction pops a cell for each symbol of the right side and pushes that of the left side
 pub data Run {A : Type 0} {v : View} (alg : Algebra A) (m : Decided v) : ℕ → List (ℕ × A) → List Token
     → List (ℕ × A) → List Token → Type 0 where
   stay : (s : List (ℕ × A)) (ts : List Token) → Run alg m zero s ts s ts
