@@ -1,0 +1,6 @@
+pub mod Editable
+pub mod Listed
+pub mod Placed
+pub mod Shaped
+pub mod Smaller
+pub mod Transformed

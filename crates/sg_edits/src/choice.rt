@@ -1,0 +1,59 @@
+// Choices.
+ghost use Rattle.std.specs.Prelude.{◌≡◌, ◌∷◌, if◌then◌else◌, IfOk};
+ghost use Rattle.sg_kinds.specs.Places.{Place, place_of};
+ghost use Rattle.sg_kinds.specs.Terms.{Term as IsTerm};
+ghost use Rattle.sg_forest.specs.Trees.{IsLive};
+ghost use Rattle.sg_groves.specs.Grove.{nodes};
+ghost use Rattle.sg_groves.specs.Holds.{IsPlaced};
+ghost use Rattle.sg_edits.specs.Choice.{choice_of, Put};
+
+use sg_forest::NodeId;
+use sg_kinds::memory::NoMemory;
+use sg_kinds::row::{Path, Row};
+use sg_kinds::term::Term;
+use sg_screen::Message;
+use sg_select::path_of;
+use sg_terms::Terms;
+use std::alloc::Global;
+
+/// What an editing command makes of a term: it is refused, or one term is to stand in a place.
+#[derive(Drop)]
+pub enum Choice {
+    Refused(Message),
+    /// the path of the place, the term that is to stand there, and the path of the node that is selected then
+    Put { at: Path, term: Term, select: Path },
+}
+
+// the path of a node, or of its first child
+fn path_below(alloc: Global, terms: &Terms, n: NodeId, first: bool) -> Result<Path, NoMemory>
+    requires { IsLive (nodes terms.now) n }
+    ensures { IfOk result (λ path. (root : _) (t : IsTerm) (u : Place) → IsPlaced terms.now root t u n
+        → place_of path ≡ (if first then 0 ∷ u else u)) }
+{
+    let path = path_of(alloc, terms, n)?;
+    if !first {
+        return Ok(path);
+    }
+    let mut way = path.into_vec();
+    way.push(0)?;
+    Ok(Row::new(way))
+}
+
+/// A term in the place of a node; selected is a node, or its first child.
+pub fn put(
+    alloc: Global,
+    terms: &Terms,
+    at: NodeId,
+    term: Term,
+    select: NodeId,
+    first: bool,
+) -> Result<Choice, NoMemory>
+    requires at { IsLive (nodes terms.now) at }
+    requires select { IsLive (nodes terms.now) select }
+    ensures { IfOk result (λ c. (root : _) (t : IsTerm) (u v : Place) → IsPlaced terms.now root t u at
+        → IsPlaced terms.now root t v select → choice_of c ≡ Put u term (if first then 0 ∷ v else v)) }
+{
+    let select = path_below(alloc, terms, select, first)?;
+    let at = path_of(alloc, terms, at)?;
+    Ok(Choice::Put { at, term, select })
+}
