@@ -1,0 +1,156 @@
+-- The first term of a buffer.
+use Rattle.std.specs.Prelude.{◌≡◌, refl, ℕ, ◌+◌, ◌≤◌, true, false, not, ◌&&◌, if◌then◌else◌, nat_lt, List, [], ◌∷◌, Contains, Option, None, Some}
+use Rattle.std.specs.Option.{option_map_or}
+use Rattle.std.proofs.Common.{sym, ap, ◌∙◌, subst, arith, inr, append-nil}
+use Rattle.sg_kinds.specs.Terms.{Term, nodes_of}
+use Rattle.sg_kinds.specs.Fits.{Fits}
+use Rattle.sg_kinds.specs.FromScratch.{value_in}
+use Rattle.sg_kinds.specs.Instances.{instances}
+use Rattle.sg_kinds.specs.Sound.{IsSmall}
+use Rattle.sg_kinds.specs.Specification.{is_inherited, rules_of}
+use Rattle.sg_kinds.specs.declared.spec.Spec.{Spec}
+use Rattle.sg_eval.specs.declared.journal.Instance.{Instance}
+use Rattle.sg_forest.specs.declared.node_id.NodeId.{NodeId}
+use Rattle.sg_forest.specs.Node as forest
+use Rattle.sg_forest.specs.Trees.{IsInside}
+use Rattle.sg_groves.specs.declared.kind.Kind.{Kind}
+use Rattle.sg_groves.specs.declared.part.Part.{Part}
+use Rattle.sg_groves.specs.Grove.{Grove, nodes, IsGrove}
+use Rattle.sg_groves.specs.Holds.{Holds}
+use Rattle.sg_groves.specs.IsRight.{IsRight}
+use Rattle.sg_groves.specs.Unchanged.{OnlyStored}
+use Rattle.sg_groves.proofs.Below.{below_to}
+use Rattle.sg_groves.proofs.Frames.{only_root, only_was_root}
+use Rattle.sg_groves.proofs.Held.{held_fits}
+use Rattle.sg_terms.specs.Entries.{Gained, GainedAll}
+use Rattle.sg_build.specs.Grown.{GrewBy}
+use Rattle.sg_build.proofs.Roots.{one_phylum}
+use Rattle.sg_plans.proofs.Solved.{root_inherits_nothing}
+use Rattle.sg_buffer.proofs.Entering.{gained_all_after}
+use Rattle.sg_unparse.specs.Cells.{Mark}
+use Rattle.sg_unparse.specs.Owned.{place_of_mark, before}
+use Rattle.sg_unparse.specs.Page.{Region, cells_of, position_behind, region_of}
+use Rattle.sg_unparse.proofs.Begins.{region_begins}
+use Rattle.sg_states.specs.Seen.{first_line, is_spot, marks_seen, nothing_typed}
+use Rattle.sg_states.specs.States.{begun}
+use Rattle.sg_states.specs.Paged.{IsWhole, page_seen}
+use Rattle.sg_states.proofs.Selecting.{alone_selected}
+use Rattle.sg_kinds.proofs.Elementary.{and_true}
+use Rattle.sg_undo.specs.Timeline.{Timeline, timeline}
+use Rattle.sg_changes.specs.declared.step.Step.{Step}
+use Rattle.sg_unparse.specs.Sheet.{Sheet}
+use Rattle.sg_buffer.specs.Held.{Held, state_of}
+use Rattle.sg_buffer.specs.Noted.{Noted}
+use Rattle.sg_buffer.specs.Roots.{AreTheRoots}
+use Rattle.sg_buffer.specs.Buffers.{StandsFor, IsBuffer}
+use Rattle.sg_buffer.proofs.Closing.{closes}
+use Rattle.sg_buffer.proofs.Times.{grown_roots, no_roots}
+
+-- a root of the root's phylum inherits nothing
+pub root_free : (g : Grove) → IsGrove g → (root : NodeId) (t : Term) → Holds g root t → Fits g.spec t g.spec.root → (x : forest.Node Kind Part) → nodes g root ≡ Some x
+    → (slot : ℕ) → is_inherited g.spec.phyla x.label.phylum slot ≡ false
+root_free g is root t holds fits x found slot =
+    let same : x.label.phylum ≡ g.spec.root = one_phylum g.spec t x.label.phylum g.spec.root (held_fits g is root x t found holds) fits in
+    ap (λ p. is_inherited g.spec.phyla p slot) same ∙ root_inherits_nothing g.spec is.sound slot
+
+module _ (empty built new : Grove) (spec : Spec) (root : NodeId) (t : Term) (spec_is : empty.spec ≡ spec) (none : (n : NodeId) → nodes empty n ≡ None) (grew : GrewBy empty built (root ∷ [])) where
+  built_spec : built.spec ≡ spec
+  built_spec = grew.spec ∙ spec_is
+
+  module _ (frame : OnlyStored built new (λ n slot. IsInside (nodes built) n root)) where
+    pub new_spec : new.spec ≡ spec
+    new_spec = frame.spec ∙ built_spec
+
+    pub whole : IsGrove new → Fits spec t spec.root → Holds new root t → IsRight new root → IsWhole new root t
+    whole is fits holds right =
+        let top = only_root built new (λ n slot. IsInside (nodes built) n root) frame root (grew.tops 0 root refl) in
+        record {
+          top = top;
+          holds = holds;
+          right = right;
+          free = root_free new is root t holds (subst (λ (s : Spec). Fits s t s.root) (sym new_spec) fits) top.node top.found;
+        }
+
+    pub roots : AreTheRoots new (root ∷ [])
+    roots =
+        let were = grown_roots empty built root grew [] (no_roots empty none) in
+        record {
+          once = were.once;
+          are = λ m. (
+            (λ r. (were.are m).0 (only_was_root built new (λ n slot. IsInside (nodes built) n root) frame m r)),
+            (λ one. only_root built new (λ n slot. IsInside (nodes built) n root) frame m ((were.are m).1 one)),
+          );
+        }
+
+    pub evaluated : (was now : List Instance) → GainedAll built root t (Contains (instances (rules_of built.spec) t)) was now → GainedAll new root t (Contains (instances (rules_of spec) t)) was now
+    evaluated was now all =
+        gained_all_after built new (λ n slot. IsInside (nodes built) n root) frame root t (Contains (instances (rules_of spec) t)) was now
+        (subst (λ (s : Spec). GainedAll built root t (Contains (instances (rules_of s) t)) was now) built_spec all)
+
+  pub refused : (was now : List Instance) → Gained built root t (Contains (instances (rules_of built.spec) t)) was now → Noted spec t (Contains (instances (rules_of spec) t)) was now
+  refused was now some = inr (record {
+    grove = built;
+    same = built_spec;
+    root = root;
+    gained = subst (λ (s : Spec). Gained built root t (Contains (instances (rules_of s) t)) was now) built_spec some;
+  })
+
+-- the root begins in the first line
+nothing_before : (marks : List Mark) → before [] marks ≡ []
+nothing_before [] = refl
+nothing_before (x ∷ marks) = ap (λ b. if b then [] else x ∷ before [] marks) (below_to (place_of_mark x) [] (record { below = place_of_mark x; is = sym (append-nil (place_of_mark x)) }))
+
+pub root_line : (spec : Spec) (t : Term) → first_line spec t [] ≡ 1
+unfolding first_line
+root_line spec t = by (region_of (marks_seen spec t nothing_typed) []) refl
+  where
+    by : (o : Option Region) → region_of (marks_seen spec t nothing_typed) [] ≡ o → option_map_or (λ r. r.first.line) o 1 ≡ 1
+    by None e = refl
+    by (Some r) e =
+        ap (λ p. p.line) (region_begins spec (value_in spec t) nothing_typed [] t 0 [] r e)
+        ∙ ap (λ ms. (position_behind (cells_of ms)).line) (nothing_before (marks_seen spec t nothing_typed))
+
+begins_seen : (height line : ℕ) → 1 ≤ height → line ≡ 1 → (not (nat_lt line 1) && nat_lt line (1 + height)) ≡ true
+begins_seen height line tall first = grind arith
+
+pub begun_spot : (spec : Spec) (height : ℕ) (t : Term) → 1 ≤ height → is_spot spec height t (begun t).spot ≡ true
+begun_spot spec height t tall = and_true _ _ (alone_selected spec t [] refl) (begins_seen height (first_line spec t []) tall (root_line spec t))
+
+pub begun_stands : (g : Grove) (root : NodeId) (height : ℕ) (t : Term) → IsGrove g → IsWhole g root t → Fits g.spec t g.spec.root → IsSmall t → 1 ≤ height → AreTheRoots g (root ∷ [])
+    → StandsFor (record { grove = g; root = root; selected = root; count = 1; top = 1; height = height; past = []; future = []; capture = None }) (begun t)
+begun_stands g root height t is whole fits small tall roots = record {
+  grove = is;
+  whole = whole;
+  fits = fits;
+  small = small;
+  tall = omega (arith, tall);
+  selected = refl;
+  count = refl;
+  top = refl;
+  spot = begun_spot g.spec height t tall;
+  past = refl;
+  future = refl;
+  undoes = tt;
+  redoes = tt;
+  roots = roots;
+  capture = refl;
+  alone = tt;
+}
+
+-- all entries are some of them
+pub noted_all : (new : Grove) (spec : Spec) (root : NodeId) (t : Term) (was now : List Instance) → new.spec ≡ spec → GainedAll new root t (Contains (instances (rules_of spec) t)) was now
+    → Noted spec t (Contains (instances (rules_of spec) t)) was now
+noted_all new spec root t was now same all = inr (record { grove = new; same = same; root = root; gained = all.gained })
+
+-- a new buffer
+abbrev begun_held : Grove → NodeId → ℕ → Held
+begun_held g root height = record { grove = g; root = root; selected = root; count = 1; top = 1; height = height; past = []; future = []; capture = None }
+
+pub begun_closes : (g : Grove) (spec : Spec) (root : NodeId) (height : ℕ) (t : Term) (count : ℕ) (h : Timeline Step) (page : Sheet) → g.spec ≡ spec → IsGrove g → IsWhole g root t → Fits spec t spec.root → IsSmall t
+    → count ≡ nodes_of t → 1 ≤ height → AreTheRoots g (root ∷ []) → h ≡ timeline [] [] 256 → page ≡ page_seen g root t nothing_typed
+    → IsBuffer (record { grove = g; root = root; selected = root; count = 1; top = 1; height = height; past = h.past; future = h.future; capture = None }) count h.room page
+    × (state_of (record { grove = g; root = root; selected = root; count = 1; top = 1; height = height; past = h.past; future = h.future; capture = None }) ≡ begun t)
+begun_closes g spec root height t count h page same is whole fits small counted tall roots empty paged =
+    subst (λ (z : Timeline Step). IsBuffer (record { grove = g; root = root; selected = root; count = 1; top = 1; height = height; past = z.past; future = z.future; capture = None }) count z.room page
+    × (state_of (record { grove = g; root = root; selected = root; count = 1; top = 1; height = height; past = z.past; future = z.future; capture = None }) ≡ begun t)) (sym empty)
+    (let c = closes (begun_held g root height) (begun t) count 256 page (begun_stands g root height t is whole (subst (λ (s : Spec). Fits s t s.root) (sym same) fits) small tall roots) counted refl (omega arith) paged in (c.is, c.told))

@@ -1,0 +1,297 @@
+-- What each call makes of a buffer.
+use Rattle.std.specs.Prelude.{◌≡◌, ◌≢◌, refl, ℕ, ◌+◌, ◌-◌, ◌<◌, ◌≤◌, true, min, List, [], ◌∷◌, length, Option, None, Some, option_map, unwrap_or, MatchOption, ⊤, Result, Ok, Err, IfOk}
+use Rattle.std.proofs.Common.{sym, ap, ◌∙◌, subst}
+use Rattle.sg_kinds.specs.Terms.{Term}
+use Rattle.sg_kinds.specs.Places.{Place, place_of}
+use Rattle.sg_forest.specs.declared.node_id.NodeId.{NodeId}
+use Rattle.sg_forest.specs.Trees.{Climbs, IsInside, IsLive}
+use Rattle.sg_forest.proofs.Paths.{root_is_live}
+use Rattle.sg_groves.specs.Grove.{nodes}
+use Rattle.sg_groves.specs.Holds.{Holds, IsPlaced}
+use Rattle.sg_changes.specs.Captured.{Captured, captured, put_in, taken_out}
+use Rattle.sg_changes.specs.Top.{topped}
+use Rattle.sg_select.specs.Leads.{LeadsTo}
+use Rattle.sg_select.specs.RestingPlaces.{rests, settled}
+use Rattle.sg_select.specs.Paths.{elements, spine_from}
+use Rattle.sg_select.proofs.Leading.{leads_none}
+use Rattle.sg_select.proofs.Settling.{settled_rests}
+use Rattle.sg_unparse.specs.Page.{cells_of, owner_at}
+use Rattle.sg_unparse.specs.Sheet.{Sheet}
+use Rattle.sg_states.specs.Selections.{elements_at, path_to, place_in}
+use Rattle.sg_states.specs.Seen.{first_line, marks_seen, nothing_typed, typed_at}
+use Rattle.sg_states.specs.States as states
+use Rattle.sg_states.specs.States.{State, extension, selected_place, target}
+use Rattle.sg_states.specs.Paged.{IsWhole, page_seen}
+use Rattle.sg_states.specs.declared.marks.Extended.TheVariants.{Done, NotInList, NoPlace}
+use Rattle.sg_states.specs.declared.marks.Move.{Move}
+use Rattle.sg_states.proofs.Selecting.{path_back, selection_rests}
+use Rattle.sg_states.proofs.Spotted.{spot_selects}
+use Rattle.sg_buffer.specs.Held.{Held, state_of, typed_by}
+use Rattle.sg_buffer.specs.Buffers.{IsBuffer}
+use Rattle.sg_buffer.specs.declared.buffers.Buffer.TheInside.{Inside}
+use Rattle.sg_buffer.proofs.Closing.{Closes, captured_closes, counted_closes, stood_closes}
+use Rattle.sg_buffer.proofs.Extending.{full_told, more_there, more_told, none_told}
+use Rattle.sg_buffer.proofs.Going.{Reached, cell_leads, cell_live, cell_rests, move_rests, reached, settled_there}
+use Rattle.sg_buffer.proofs.Standing.{capturing, counted, longer, shorter, stood}
+use Rattle.sg_buffer.proofs.Standing as standing
+
+-- what the fields hold
+abbrev pub held : Inside → Held
+held b = record {
+  grove = b.terms;
+  root = b.root;
+  selected = b.selected;
+  count = b.count;
+  top = b.top;
+  height = b.height;
+  past = b.history.past;
+  future = b.history.future;
+  capture = b.capture;
+}
+
+module _ (b : Held) (count room : ℕ) (page : Sheet) (is : IsBuffer b count room page) where
+  abbrev pub now : State
+  now = state_of b
+
+  pub placed_now : IsPlaced b.grove b.root now.term (selected_place now) b.selected
+  placed_now = standing.placed b now is.stands
+
+  pub rests_now : rests b.grove.spec now.term (selected_place now) ≡ true
+  rests_now = selection_rests b.grove.spec now.term (selected_place now) now.spot.selection.count (spot_selects b.grove.spec b.height now.term now.spot is.stands.spot)
+
+  -- a node that settles where it is
+  pub stand_closes : (n : NodeId) (top : ℕ) → b.capture ≡ None → ((u : Place) → Climbs (nodes b.grove) u n b.root → settled b.grove.spec now.term u ≡ u)
+      → ((u : Place) → IsWhole b.grove b.root now.term → Climbs (nodes b.grove) u n b.root → page ≡ page_seen b.grove b.root now.term nothing_typed → top ≡ topped b.height (first_line b.grove.spec now.term u) b.top)
+      → (u : Place) → Climbs (nodes b.grove) u n b.root → Closes (stood b n top) (states.selected b.grove.spec b.height u now) count room page
+  stand_closes n top none still seen u way =
+      let rest : rests b.grove.spec now.term u ≡ true = subst (λ z. rests b.grove.spec now.term z ≡ true) (still u way) (settled_rests b.grove.spec now.term u) in
+      stood_closes b count room page is u n top none way rest (seen u is.stands.whole way (plain none))
+    where
+      plain : b.capture ≡ None → page ≡ page_seen b.grove b.root now.term nothing_typed
+      plain none = is.page_is ∙ ap (λ o. page_seen b.grove b.root now.term (typed_by o (place_in now.spot.selection))) none
+
+  -- a move that leads to a node
+  pub go_reaches : (to : Move) (n : NodeId) → LeadsTo b.grove b.root (target to b.grove.spec now.term (selected_place now)) (Some n)
+      → Reached b.grove is.stands.grove b.root now.term is.stands.whole (target to b.grove.spec now.term (selected_place now)) n
+  go_reaches to n leads = reached b.grove is.stands.grove b.root now.term is.stands.whole (target to b.grove.spec now.term (selected_place now)) n (move_rests b.grove is.stands.grove b.root now.term is.stands.whole to (selected_place now)) leads
+
+  pub still_there : (o : Option Place) (n : NodeId) → Reached b.grove is.stands.grove b.root now.term is.stands.whole o n → (u : Place) → Climbs (nodes b.grove) u n b.root → settled b.grove.spec now.term u ≡ u
+  still_there o n r u way = settled_there b.grove is.stands.grove b.root now.term is.stands.whole u r.place n r.way r.rest way
+
+  pub inside_there : (o : Option Place) (n : NodeId) → Reached b.grove is.stands.grove b.root now.term is.stands.whole o n → IsInside (nodes b.grove) n b.root
+  inside_there o n r = record { path = r.place; climbs = r.way }
+
+  -- counts
+  pub longer_closes : b.capture ≡ None → now.spot.selection.count < elements_at b.grove.spec now.term (selected_place now) → Closes (counted b (b.count + 1)) (states.extended now) count room page
+  longer_closes none more =
+      subst (λ n. Closes (counted b (n + 1)) (states.extended now) count room page) (sym is.stands.count)
+      (counted_closes b count room page is (now.spot.selection.count + 1) none (longer b now is.stands more))
+
+  pub shorter_closes : b.capture ≡ None → now.spot.selection.count ≢ 1 → Closes (counted b (b.count - 1)) (states.shrunk now) count room page
+  shorter_closes none many =
+      subst (λ n. Closes (counted b (n - 1)) (states.shrunk now) count room page) (sym is.stands.count)
+      (counted_closes b count room page is (now.spot.selection.count - 1) none (shorter b now is.stands many))
+
+  -- captures
+  pub typed_closes : (bytes : List ℕ) (c : Captured) (p : Sheet) → b.count ≡ 1 → c ≡ put_in (unwrap_or b.capture (captured [] 0)) bytes
+      → p ≡ page_seen b.grove b.root now.term (typed_at (selected_place now) c.text) → Closes (capturing b (Some c)) (states.typed bytes now) count room p
+  typed_closes bytes c p one made seen =
+      subst (λ o. Closes (capturing b (Some c)) (record now { capture = o }) count room p) (ap (λ z. Some z) (made ∙ ap (λ o. put_in (unwrap_or o (captured [] 0)) bytes) is.stands.capture))
+      (captured_closes b count room page is (Some c) p one seen)
+
+  pub erased_closes : (c : Captured) (p : Sheet) → option_map taken_out b.capture ≡ Some c → MatchOption b.capture ⊤ (λ _. b.count ≡ 1)
+      → p ≡ page_seen b.grove b.root now.term (typed_at (selected_place now) c.text) → Closes (capturing b (Some c)) (states.erased now) count room p
+  erased_closes c p made one seen =
+      subst (λ o. Closes (capturing b (Some c)) (record now { capture = o }) count room p) (sym made ∙ ap (option_map taken_out) is.stands.capture)
+      (captured_closes b count room page is (Some c) p (alone b.capture made one) seen)
+    where
+      alone : (o : Option Captured) → option_map taken_out o ≡ Some c → MatchOption o ⊤ (λ _. b.count ≡ 1) → b.count ≡ 1
+      alone None e h = absurd (let IsNone : Option Captured → Type 0 = λ o. elim o [ None ↦ Unit {0} | Some y ↦ ⊥ ] in subst IsNone e tt)
+      alone (Some x) e h = h
+
+  pub ended_closes : (p : Sheet) → p ≡ page_seen b.grove b.root now.term nothing_typed → Closes (capturing b None) (states.ended now) count room p
+  ended_closes p seen = captured_closes b count room page is None p tt seen
+
+-- the same, where the fields are seen as another value
+module _ (b v : Held) (view : b ≡ v) (count room : ℕ) (page : Sheet) (is : IsBuffer b count room page) where
+  pub stood_here : (n : NodeId) (top : ℕ) → IsInside (nodes v.grove) n v.root → v.capture ≡ None
+      → ((u : Place) → Climbs (nodes v.grove) u n v.root → settled v.grove.spec (state_of v).term u ≡ u)
+      → ((root : NodeId) (t : Term) (u : Place) → IsWhole b.grove root t → Climbs (nodes b.grove) u n root → page ≡ page_seen b.grove root t nothing_typed → top ≡ topped b.height (first_line b.grove.spec t u) b.top)
+      → IsBuffer (stood b n top) count room page × ((u : Place) → Climbs (nodes v.grove) u n v.root → state_of (stood b n top) ≡ states.selected v.grove.spec v.height u (state_of v))
+  stood_here n top node none still seen =
+      let here : IsInside (nodes b.grove) n b.root = subst (λ (z : Held). IsInside (nodes z.grove) n z.root) (sym view) node in
+      let free : b.capture ≡ None = ap (λ (z : Held). z.capture) view ∙ none in
+      let stays : (u : Place) → Climbs (nodes b.grove) u n b.root → settled b.grove.spec (state_of b).term u ≡ u =
+      subst (λ (z : Held). (u : Place) → Climbs (nodes z.grove) u n z.root → settled z.grove.spec (state_of z).term u ≡ u) (sym view) still in
+      let all = stand_closes b count room page is n top free stays (λ u whole way paged. seen b.root (state_of b).term u whole way paged) in (
+        (all here.path here.climbs).is,
+        subst (λ (z : Held). (u : Place) → Climbs (nodes z.grove) u n z.root → state_of (stood b n top) ≡ states.selected z.grove.spec z.height u (state_of z)) view (λ u way. (all u way).told),
+      )
+
+  -- a place to which a move or a cell leads, with its node
+  pub record Found (o : Option Place) (n : NodeId) : Type 0 where
+    pub place : Place
+    pub at : o ≡ Some place
+    pub way : Climbs (nodes v.grove) place n v.root
+    pub still : (u : Place) → Climbs (nodes v.grove) u n v.root → settled v.grove.spec (state_of v).term u ≡ u
+
+  pub found : (o : Option Place) (n : NodeId) → Reached b.grove is.stands.grove b.root (state_of b).term is.stands.whole o n → Found o n
+  found o n r = record {
+    place = r.place;
+    at = r.at;
+    way = subst (λ (z : Held). Climbs (nodes z.grove) r.place n z.root) view r.way;
+    still = subst (λ (z : Held). (u : Place) → Climbs (nodes z.grove) u n z.root → settled z.grove.spec (state_of z).term u ≡ u) view (still_there b count room page is o n r);
+  }
+
+  abbrev pub goes : Held → Move → Option Place
+  goes z to = target to z.grove.spec (state_of z).term (selected_place (state_of z))
+
+  pub gone : (to : Move) (n : NodeId) → ((root : NodeId) (t : Term) (u : Place) → IsPlaced b.grove root t u b.selected → rests b.grove.spec t u ≡ true → LeadsTo b.grove root (target to b.grove.spec t u) (Some n)) → Found (goes v to) n
+  gone to n leads =
+      subst (λ (z : Held). Found (goes z to) n) view
+      (found (goes b to) n (go_reaches b count room page is to n (leads b.root (state_of b).term (selected_place (state_of b)) (placed_now b count room page is) (rests_now b count room page is))))
+
+  pub stays : (to : Move) → ((root : NodeId) (t : Term) (u : Place) → IsPlaced b.grove root t u b.selected → rests b.grove.spec t u ≡ true → LeadsTo b.grove root (target to b.grove.spec t u) None) → goes v to ≡ None
+  stays to leads =
+      subst (λ (z : Held). goes z to ≡ None) view
+      (leads_none b.grove b.root (goes b to) (leads b.root (state_of b).term (selected_place (state_of b)) (placed_now b count room page is) (rests_now b count room page is)))
+
+  -- cells
+  abbrev pub picks : Held → ℕ → ℕ → Option Place
+  picks z line col = owner_at (cells_of (marks_seen z.grove.spec (state_of z).term nothing_typed)) line col
+
+  abbrev pub picks_to : Held → ℕ → ℕ → Option Place
+  picks_to z line col = option_map (settled z.grove.spec (state_of z).term) (picks z line col)
+
+  plain : v.capture ≡ None → page ≡ page_seen b.grove b.root (state_of b).term nothing_typed
+  plain none = is.page_is ∙ ap (λ o. page_seen b.grove b.root (state_of b).term (typed_by o (place_in (state_of b).spot.selection))) (ap (λ (z : Held). z.capture) view ∙ none)
+
+  pub cell_there : v.capture ≡ None → (line col : ℕ) (n : NodeId) → owner_at page.cells line col ≡ Some n → IsLive (nodes b.grove) n
+  cell_there none line col n e = cell_live b.grove is.stands.grove b.root (state_of b).term is.stands.whole page (plain none) line col n e
+
+  pub picked_at : v.capture ≡ None → (line col : ℕ) (n : NodeId) → (owner_at page.cells line col ≡ None → Some n ≡ None)
+      → ((m root : NodeId) (t : Term) (u : Place) → owner_at page.cells line col ≡ Some m → IsPlaced b.grove root t u m → LeadsTo b.grove root (Some (settled b.grove.spec t u)) (Some n)) → Found (picks_to v line col) n
+  picked_at none line col n no_cell leads =
+      subst (λ (z : Held). Found (picks_to z line col) n) view
+      (found (picks_to b line col) n
+      (reached b.grove is.stands.grove b.root (state_of b).term is.stands.whole (picks_to b line col) n (cell_rests b.grove is.stands.grove b.root (state_of b).term is.stands.whole (picks b line col))
+      (cell_leads b.grove is.stands.grove b.root (state_of b).term is.stands.whole page (plain none) line col (Some n) no_cell (λ m u e placed. leads m b.root (state_of b).term u e placed))))
+
+  pub picked_none : v.capture ≡ None → (line col : ℕ)
+      → ((m root : NodeId) (t : Term) (u : Place) → owner_at page.cells line col ≡ Some m → IsPlaced b.grove root t u m → LeadsTo b.grove root (Some (settled b.grove.spec t u)) None) → picks v line col ≡ None
+  picked_none none line col leads =
+      subst (λ (z : Held). picks z line col ≡ None) view
+      (nothing (picks b line col) (cell_leads b.grove is.stands.grove b.root (state_of b).term is.stands.whole page (plain none) line col None (λ e. refl) (λ m u e placed. leads m b.root (state_of b).term u e placed)))
+    where
+      nothing : (o : Option Place) → LeadsTo b.grove b.root (option_map (settled b.grove.spec (state_of b).term) o) None → o ≡ None
+      nothing None h = refl
+      nothing (Some w) h = absurd h
+
+  -- a node of the term that settles
+  pub inside_of : (n : NodeId) → IsInside (nodes v.grove) n v.root → IsInside (nodes b.grove) n b.root
+  inside_of n inside = subst (λ (z : Held). IsInside (nodes z.grove) n z.root) (sym view) inside
+
+  pub live_of : (n : NodeId) → IsInside (nodes v.grove) n v.root → IsLive (nodes b.grove) n
+  live_of n inside = (let i = inside_of n inside in by i.path i.climbs)
+    where
+      by : (w : Place) → Climbs (nodes b.grove) w n b.root → IsLive (nodes b.grove) n
+      by [] e = subst (IsLive (nodes b.grove)) (sym e) (root_is_live (nodes b.grove) b.root is.stands.whole.top)
+      by (k ∷ w) c = record { node = c.1.node; found = c.1.found }
+
+  pub settles : (n m : NodeId) (u : Place) → Climbs (nodes v.grove) u n v.root
+      → ((root : NodeId) (t : Term) (u : Place) → IsPlaced b.grove root t u n → Climbs (nodes b.grove) (settled b.grove.spec t u) m root) → Found (Some (settled v.grove.spec (state_of v).term u)) m
+  settles n m u way settle =
+      let here : Climbs (nodes b.grove) u n b.root = subst (λ (z : Held). Climbs (nodes z.grove) u n z.root) (sym view) way in
+      let at = settle b.root (state_of b).term u (record { top = is.stands.whole.top; holds = is.stands.whole.holds; way = here }) in
+      subst (λ (z : Held). Found (Some (settled z.grove.spec (state_of z).term u)) m) view
+      (found (Some (settled b.grove.spec (state_of b).term u)) m (record { place = settled b.grove.spec (state_of b).term u; at = refl; way = at; rest = settled_rests b.grove.spec (state_of b).term u }))
+
+  -- counts
+  pub longer_here : v.capture ≡ None → (state_of b).spot.selection.count < elements_at b.grove.spec (state_of b).term (selected_place (state_of b))
+      → IsBuffer (counted b (b.count + 1)) count room page × (state_of (counted b (b.count + 1)) ≡ states.extended (state_of v))
+  longer_here none more =
+      let c = longer_closes b count room page is (ap (λ (z : Held). z.capture) view ∙ none) more in
+      (c.is, subst (λ (z : Held). state_of (counted b (b.count + 1)) ≡ states.extended (state_of z)) view c.told)
+
+  pub shorter_here : v.capture ≡ None → b.count ≢ 1 → IsBuffer (counted b (b.count - 1)) count room page × (state_of (counted b (b.count - 1)) ≡ states.shrunk (state_of v))
+  shorter_here none many =
+      let c = shorter_closes b count room page is (ap (λ (z : Held). z.capture) view ∙ none) (λ e. many (is.stands.count ∙ e)) in
+      (c.is, subst (λ (z : Held). state_of (counted b (b.count - 1)) ≡ states.shrunk (state_of z)) view c.told)
+
+  -- captures
+  abbrev pub typing : Option Captured → Sheet → Type 0
+  typing o p = IsBuffer (capturing b o) count room p
+
+  pub typed_here : (bytes : List ℕ) (c : Captured) (p : Sheet) → v.count ≡ 1 → c ≡ put_in (unwrap_or b.capture (captured [] 0)) bytes
+      → ((t : Term) (u : Place) → IsWhole b.grove b.root t → Climbs (nodes b.grove) u b.selected b.root → p ≡ page_seen b.grove b.root t (typed_at u c.text))
+      → typing (Some c) p × (state_of (capturing b (Some c)) ≡ states.typed bytes (state_of v))
+  typed_here bytes c p one made seen =
+      let d = typed_closes b count room page is bytes c p (ap (λ (z : Held). z.count) view ∙ one) made (seen (state_of b).term (selected_place (state_of b)) is.stands.whole is.stands.selected) in
+      (d.is, subst (λ (z : Held). state_of (capturing b (Some c)) ≡ states.typed bytes (state_of z)) view d.told)
+
+  pub erased_here : (c : Captured) (p : Sheet) → option_map taken_out b.capture ≡ Some c
+      → ((t : Term) (u : Place) → IsWhole b.grove b.root t → Climbs (nodes b.grove) u b.selected b.root → p ≡ page_seen b.grove b.root t (typed_at u c.text))
+      → typing (Some c) p × (state_of (capturing b (Some c)) ≡ states.erased (state_of v))
+  erased_here c p made seen =
+      let d = erased_closes b count room page is c p made is.stands.alone (seen (state_of b).term (selected_place (state_of b)) is.stands.whole is.stands.selected) in
+      (d.is, subst (λ (z : Held). state_of (capturing b (Some c)) ≡ states.erased (state_of z)) view d.told)
+
+  pub ended_here : (p : Sheet) → ((t : Term) → IsWhole b.grove b.root t → p ≡ page_seen b.grove b.root t nothing_typed)
+      → typing None p × (state_of (capturing b None) ≡ states.ended (state_of v))
+  ended_here p seen =
+      let d = ended_closes b count room page is p (seen (state_of b).term is.stands.whole) in
+      (d.is, subst (λ (z : Held). state_of (capturing b None) ≡ states.ended (state_of z)) view d.told)
+
+  -- lists
+  pub none_here : LeadsTo b.grove b.root (spine_from b.grove.spec (state_of b).term (selected_place (state_of b))) None → NotInList ≡ extension v.grove.spec (state_of v)
+  none_here leads =
+      subst (λ (z : Held). NotInList ≡ extension z.grove.spec (state_of z)) view (none_told b.grove is.stands.grove b.root (state_of b) is.stands.whole.holds is.stands.small leads)
+
+  module _ (spine : NodeId) (r most : ℕ) (leads : (root : NodeId) (t : Term) (u : Place) → IsPlaced b.grove root t u b.selected → LeadsTo b.grove root (spine_from b.grove.spec t u) (Some spine))
+      (elements_are : (s : Term) → Holds b.grove spine s → r ≡ min (elements b.grove.spec s) most) (wide : 65536 ≤ most) where
+    leads_now : LeadsTo b.grove b.root (spine_from b.grove.spec (state_of b).term (selected_place (state_of b))) (Some spine)
+    leads_now = leads b.root (state_of b).term (selected_place (state_of b)) (placed_now b count room page is)
+
+    pub full_here : r ≤ b.count → NoPlace ≡ extension v.grove.spec (state_of v)
+    full_here h =
+        subst (λ (z : Held). NoPlace ≡ extension z.grove.spec (state_of z)) view
+        (full_told b.grove is.stands.grove b.root (state_of b) is.stands.whole.holds is.stands.small spine b.count r most leads_now elements_are wide is.stands.count h)
+
+    pub more_here : b.count < r → Done ≡ extension v.grove.spec (state_of v)
+    more_here h =
+        subst (λ (z : Held). Done ≡ extension z.grove.spec (state_of z)) view
+        (more_told b.grove is.stands.grove b.root (state_of b) is.stands.whole.holds is.stands.small spine b.count r most leads_now elements_are wide is.stands.count h)
+
+    pub room_here : b.count < r → (state_of b).spot.selection.count < elements_at b.grove.spec (state_of b).term (selected_place (state_of b))
+    room_here h = more_there b.grove is.stands.grove b.root (state_of b) is.stands.whole.holds is.stands.small spine b.count r most leads_now elements_are wide is.stands.count h
+
+  -- the path of the selected node
+  pub path_here : {E : Type 0} (r : Result (List ℕ) E) → IfOk r (λ path. (root : NodeId) (t : Term) (u : Place) → IsPlaced b.grove root t u b.selected → place_of path ≡ u) → IfOk r (λ path. path ≡ (state_of v).spot.selection.path)
+  path_here (Ok path) named =
+      subst (λ (z : Held). path ≡ (state_of z).spot.selection.path) view
+      (sym (path_back path) ∙ ap path_to (named b.root (state_of b).term (selected_place (state_of b)) (placed_now b count room page is)) ∙ path_back (state_of b).spot.selection.path)
+  path_here (Err e) named = tt
+
+  -- the point
+  pub pointed_here : (k : ℕ) (c : Captured) → b.capture ≡ Some c → IsBuffer (capturing b (Some (record c { point = k }))) count room page × (state_of (capturing b (Some (record c { point = k }))) ≡ states.pointed k (state_of v))
+  pointed_here k c one =
+      let d : Closes (capturing b (Some (record c { point = k }))) (record (state_of b) { capture = Some (record c { point = k }) }) count room page =
+      captured_closes b count room page is (Some (record c { point = k })) page
+      (subst (λ (o : Option Captured). MatchOption o ⊤ (λ _. b.count ≡ 1)) one is.stands.alone)
+      (is.page_is ∙ ap (λ o. page_seen b.grove b.root (state_of b).term (typed_by o (selected_place (state_of b)))) one) in
+      let same : Some (record c { point = k }) ≡ option_map (λ (x : Captured). record x { point = k }) (state_of b).capture =
+      sym (ap (option_map (λ (x : Captured). record x { point = k })) (sym is.stands.capture ∙ one)) in (
+        d.is,
+        subst (λ (z : Held). state_of (capturing b (Some (record c { point = k }))) ≡ states.pointed k (state_of z)) view (d.told ∙ ap (λ o. let st : State = record (state_of b) { capture = o } in st) same),
+      )
+
+-- another point
+pub moved_point : (i : Inside) (v : Held) → held i ≡ v → IsBuffer (held i) i.nodes i.history.room i.page → (k : ℕ) (c new : Captured) → i.capture ≡ Some c → new ≡ record c { point = k } → (then : Inside) → then ≡ record i { capture = Some new }
+    → IsBuffer (held then) then.nodes then.history.room then.page × (state_of (held then) ≡ states.pointed k (state_of v))
+moved_point i v view is k c new one made then after =
+    subst (λ (z : Inside). IsBuffer (held z) z.nodes z.history.room z.page × (state_of (held z) ≡ states.pointed k (state_of v))) (sym after)
+    (subst (λ (z : Captured). IsBuffer (capturing (held i) (Some z)) i.nodes i.history.room i.page × (state_of (capturing (held i) (Some z)) ≡ states.pointed k (state_of v))) (sym made)
+    (pointed_here (held i) v view i.nodes i.history.room i.page is k c one))
+
+pub none_open : (i : Inside) (v : Held) → held i ≡ v → (k : ℕ) → MatchOption v.capture ⊥ (λ (c : Captured). k ≤ length c.text) → i.capture ≡ None → ⊥
+none_open i v view k there none = subst (λ (o : Option Captured). MatchOption o ⊥ (λ (c : Captured). k ≤ length c.text)) (sym (ap (λ (z : Held). z.capture) view) ∙ none) there

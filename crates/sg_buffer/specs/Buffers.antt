@@ -1,0 +1,48 @@
+-- When a buffer is one.
+use Rattle.std.specs.Prelude.{◌≡◌, ℕ, ◌+◌, ◌<◌, ◌≤◌, true, ◌∷◌, length, MatchOption, ⊤}
+use Rattle.sg_kinds.specs.Terms.{nodes_of}
+use Rattle.sg_kinds.specs.Fits.{Fits}
+use Rattle.sg_kinds.specs.Sound.{IsSmall}
+use Rattle.sg_forest.specs.Trees.{Climbs}
+use Rattle.sg_groves.specs.Grove.{nodes, IsGrove}
+use Rattle.sg_groves.specs.TermAt.{term_at}
+use Rattle.sg_changes.specs.Chain.{AllUndo, AllRedo, Passes}
+use Rattle.sg_changes.specs.Told.{told_past, told_future, tops}
+use Rattle.sg_unparse.specs.Sheet.{Sheet}
+use Rattle.sg_states.specs.Selections.{place_in}
+use Rattle.sg_states.specs.Seen.{is_spot}
+use Rattle.sg_states.specs.States.{State}
+use Rattle.sg_states.specs.Paged.{IsWhole, page_seen}
+use Rattle.sg_buffer.specs.Held.{Held, state_of, typed_by}
+use Rattle.sg_buffer.specs.Roots.{AreTheRoots}
+
+-- what is held stands for a state: a right tree holds its term, which fits the root's phylum and is in the limits; a
+-- selection of the term is selected, and its first line is seen; the past changes can be undone and the future ones
+-- done again, one after another; each root of the forest is the term's or hangs for one step; and a run is no capture's
+pub record StandsFor (b : Held) (st : State) : Type 0 where
+  pub grove : IsGrove b.grove
+  pub whole : IsWhole b.grove b.root st.term
+  pub fits : Fits b.grove.spec st.term b.grove.spec.root
+  pub small : IsSmall st.term
+  pub tall : 0 < b.height
+  pub selected : Climbs (nodes b.grove) (place_in st.spot.selection) b.selected b.root
+  pub count : b.count ≡ st.spot.selection.count
+  pub top : b.top ≡ st.spot.top
+  pub spot : is_spot b.grove.spec b.height st.term st.spot ≡ true
+  pub past : told_past (term_at b.grove) st.term b.past ≡ st.past
+  pub future : told_future (term_at b.grove) st.term b.future ≡ st.future
+  pub undoes : AllUndo b.grove.spec (Passes (is_spot b.grove.spec b.height)) st.term st.past
+  pub redoes : AllRedo b.grove.spec (Passes (is_spot b.grove.spec b.height)) st.term st.future
+  pub roots : AreTheRoots b.grove (b.root ∷ tops b.past b.future)
+  pub capture : b.capture ≡ st.capture
+  pub alone : MatchOption b.capture ⊤ (λ _. b.count ≡ 1)
+
+-- a buffer besides knows how many nodes its term has, and keeps the page that shows the term and what is being typed; its
+-- history has room for 256 steps
+pub record IsBuffer (b : Held) (count room : ℕ) (page : Sheet) : Type 0 where
+  pub stands : StandsFor b (state_of b)
+  pub counted : count ≡ nodes_of (state_of b).term
+  pub room_is : room ≡ 256
+  pub few : length b.past + length b.future ≤ 256
+  pub page_is :
+      page ≡ page_seen b.grove b.root (state_of b).term (typed_by b.capture (place_in (state_of b).spot.selection))

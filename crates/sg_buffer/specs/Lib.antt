@@ -1,0 +1,4 @@
+pub mod Held
+pub mod Roots
+pub mod Noted
+pub mod Buffers

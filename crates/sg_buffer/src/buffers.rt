@@ -1,0 +1,448 @@
+//! Buffers.
+ghost use Rattle.std.specs.Prelude.{◌≡◌, ◌<◌, ◌≤◌, ◌↔◌, ◌⊎◌, ℕ, [], true, false, length, Contains, IfOk, IsErrOf, IsErrAnd, OnErr, IsTrue, MatchOption, ⊤, None, Some, Option, option_map, nat_lt, if◌then◌else◌};
+ghost use Rattle.sg_kinds.specs.Values.{is_text};
+ghost use Rattle.sg_kinds.specs.Fits.{Fits};
+ghost use Rattle.sg_kinds.specs.Instances.{instances};
+ghost use Rattle.sg_kinds.specs.Places.{Place};
+ghost use Rattle.sg_kinds.specs.Sound.{IsSmall, IsSound};
+ghost use Rattle.sg_kinds.specs.Specification.{rules_of};
+ghost use Rattle.sg_kinds.specs.Terms.{nodes_of};
+ghost use Rattle.sg_kinds.specs.ValidPlans.{AreValid};
+ghost use Rattle.sg_eval.specs.Journal.{now_of, total_of};
+ghost use Rattle.sg_forest.specs.Trees.{Climbs, IsInside};
+ghost use Rattle.sg_groves.specs.Grove.{nodes};
+ghost use Rattle.sg_terms.specs.Entries.{GainedAll};
+ghost use Rattle.sg_build.specs.Counted.{AreCounts};
+ghost use Rattle.sg_select.specs.RestingPlaces.{settled};
+ghost use Rattle.sg_states.specs.Selections.{place_in};
+ghost use Rattle.sg_states.specs.Paged.{page_seen};
+ghost use Rattle.sg_states.specs.States as states;
+ghost use Rattle.sg_states.specs.States.{begun, selected_place, moved, picked, extension};
+ghost use Rattle.sg_buffer.specs.Held.{state_of, typed_by};
+ghost use Rattle.sg_buffer.specs.Buffers.{StandsFor};
+ghost use Rattle.sg_buffer.specs.Noted.{Noted};
+
+use crate::fault::BufferFault;
+use crate::fresh::{attributed, within};
+use crate::typing::{erased, typed};
+use sg_build::Counts;
+use sg_changes::{Capture, Step};
+use sg_eval::{Evaluator, Journal};
+use sg_forest::NodeId;
+use sg_kinds::memory::NoMemory;
+use sg_kinds::plans::Plans;
+use sg_kinds::row::Path;
+use sg_kinds::spec::Spec;
+use sg_kinds::term::Term;
+use sg_select::{at_cell, elements_from, path_of, settle, spine_of};
+use sg_states::{Extended, Move, page_of, page_with, target, top_at};
+use sg_terms::Terms;
+use sg_undo::History;
+use sg_unparse::Page;
+use std::alloc::Global;
+use std::marker::Model;
+
+/// How many changes can be undone.
+pub const STEPS: usize = 256;
+
+/// A term in a forest, with its values and its page: a selection of it, the first line that a window shows, the changes
+/// that can be undone and done again, whose other subtrees hang in the forest, and a text that is being typed.
+///
+/// Each call takes its state to that of one definition, or leaves everything as it was.
+#[derive(Drop)]
+pub struct Buffer {
+    alloc: Global,
+    terms: Terms,
+    root: NodeId,
+    selected: NodeId,
+    count: usize,
+    top: usize,
+    height: usize,
+    nodes: usize,
+    history: History<Step>,
+    capture: Option<Capture>,
+    page: Page,
+}
+
+impl Model for Buffer {
+    ghost use Rattle.sg_buffer.specs.Held.{Held, held_code};
+
+    ghost Value = { Held };
+
+    ghost coded = { held_code };
+
+    ghost use Rattle.sg_buffer.specs.Buffers.{IsBuffer};
+
+    ghost view = { λ b. record {
+      grove = b.terms;
+      root = b.root;
+      selected = b.selected;
+      count = b.count;
+      top = b.top;
+      height = b.height;
+      past = b.history.past;
+      future = b.history.future;
+      capture = b.capture;
+    } };
+
+    ghost invariant = { λ b. IsBuffer (record {
+      grove = b.terms;
+      root = b.root;
+      selected = b.selected;
+      count = b.count;
+      top = b.top;
+      height = b.height;
+      past = b.history.past;
+      future = b.history.future;
+      capture = b.capture;
+    }) b.nodes b.history.room b.page };
+}
+
+impl Buffer {
+    /// A buffer of a term of the root's phylum, whose root is selected, with a window of a height from 1 to 1,024.
+    /// `Size` says exactly that the term is over a limit, and nothing is evaluated then; without memory some of the
+    /// equations may be.
+    pub fn new(
+        alloc: Global,
+        spec: &Spec,
+        t: &Term,
+        height: usize,
+        plans: &Plans,
+        ev: &Evaluator,
+        journal: &mut Journal,
+    ) -> Result<Buffer, BufferFault>
+        requires sound { IsSound spec.now }
+        requires valid { AreValid (rules_of spec.now) plans.now }
+        requires same { ev.now ≡ spec.now }
+        requires fits { Fits spec.now t.now spec.now.root }
+        requires low { 1 ≤ height }
+        requires high { height ≤ 1024 }
+        ensures state { IfOk result (λ b. state_of b ≡ begun t.now) }
+        ensures spec { IfOk result (λ b. b.grove.spec ≡ spec.now) }
+        ensures height { IfOk result (λ b. b.height ≡ height) }
+        ensures evaluated { IfOk result (λ b. GainedAll b.grove b.root t.now
+            (Contains (instances (rules_of spec.now) t.now)) (now_of journal.old) (now_of journal.new)) }
+        ensures size { (c : Counts) → IsErrOf result (BufferFault.Size c) → (IsSmall t.now → ⊥) × AreCounts t.now c }
+        ensures large { (IsSmall t.now → ⊥) → IsErrAnd result (λ e. (c : Counts) × (e ≡ BufferFault.Size c)) }
+        ensures kept { (c : Counts) → IsErrOf result (BufferFault.Size c) → now_of journal.new ≡ now_of journal.old }
+        ensures noted { IsErrOf result BufferFault.NoMemory → Noted spec.now t.now
+            (Contains (instances (rules_of spec.now) t.now)) (now_of journal.old) (now_of journal.new) }
+        ensures total { total_of journal.new ≡ total_of journal.old }
+    {
+        match within(t) {
+            Ok(nodes) => Ok(Buffer::of_small(alloc, spec, t, nodes, height, plans, ev, journal)?),
+            Err(size) => Err(BufferFault::Size(size)),
+        }
+    }
+
+    // the same of a term in the limits, of so many nodes
+    fn of_small(
+        alloc: Global,
+        spec: &Spec,
+        t: &Term,
+        nodes: usize,
+        height: usize,
+        plans: &Plans,
+        ev: &Evaluator,
+        journal: &mut Journal,
+    ) -> Result<Buffer, NoMemory>
+        requires sound { IsSound spec.now }
+        requires valid { AreValid (rules_of spec.now) plans.now }
+        requires same { ev.now ≡ spec.now }
+        requires fits { Fits spec.now t.now spec.now.root }
+        requires small { IsSmall t.now }
+        requires nodes { nodes ≡ nodes_of t.now }
+        requires low { 1 ≤ height }
+        ensures state { IfOk result (λ b. state_of b ≡ begun t.now) }
+        ensures spec { IfOk result (λ b. b.grove.spec ≡ spec.now) }
+        ensures height { IfOk result (λ b. b.height ≡ height) }
+        ensures evaluated { IfOk result (λ b. GainedAll b.grove b.root t.now
+            (Contains (instances (rules_of spec.now) t.now)) (now_of journal.old) (now_of journal.new)) }
+        ensures noted { OnErr result (Noted spec.now t.now (Contains (instances (rules_of spec.now) t.now))
+            (now_of journal.old) (now_of journal.new)) }
+        ensures total { total_of journal.new ≡ total_of journal.old }
+    {
+        let history = History::with_capacity(alloc, STEPS)?;
+        let (terms, root) = attributed(alloc, spec, t, plans, ev, journal)?;
+        let page = page_of(alloc, &terms, root)?;
+        terms.facts();
+        Ok(Buffer {
+            alloc,
+            terms,
+            root,
+            selected: root,
+            count: 1,
+            top: 1,
+            height,
+            nodes,
+            history,
+            capture: None,
+            page,
+        })
+    }
+
+    /// What stands for the state. This does nothing and tells it.
+    pub fn facts(&self)
+        ensures { StandsFor self.now (state_of self.now) }
+    {
+        let _ = &self.root;
+    }
+
+    /// The terms, among them the edited one; the others hang for the history.
+    pub fn terms(&self) -> &Terms
+        ensures { result.now ≡ self.now.grove }
+    {
+        &self.terms
+    }
+
+    /// The root of the edited term.
+    pub fn root(&self) -> NodeId
+        ensures { result ≡ self.now.root }
+    {
+        self.root
+    }
+
+    /// The selected node, of a run its first element.
+    pub fn selected(&self) -> NodeId
+        ensures node { result ≡ self.now.selected }
+        ensures place { Climbs (nodes self.now.grove) (selected_place (state_of self.now)) result self.now.root }
+    {
+        self.selected
+    }
+
+    /// How many elements are selected, from 1.
+    pub fn count(&self) -> usize
+        ensures { result ≡ (state_of self.now).spot.selection.count }
+    {
+        self.count
+    }
+
+    /// The first line of the window, from 1.
+    pub fn top(&self) -> usize
+        ensures { result ≡ (state_of self.now).spot.top }
+    {
+        self.top
+    }
+
+    /// How many lines the window has.
+    pub fn height(&self) -> usize
+        ensures { result ≡ self.now.height }
+    {
+        self.height
+    }
+
+    /// How many nodes the term has.
+    pub fn nodes(&self) -> usize
+        ensures { result ≡ nodes_of (state_of self.now).term }
+    {
+        self.nodes
+    }
+
+    /// The text that is being typed, None exactly where none is.
+    pub fn captured(&self) -> Option<&[u8]>
+        ensures { MatchOption result (self.now.capture ≡ None)
+            (λ s. option_map (λ c. c.text) self.now.capture ≡ Some s.now) }
+    {
+        match &self.capture {
+            Some(capture) => Some(capture.text()),
+            None => None,
+        }
+    }
+
+    /// How many bytes of the text that is being typed stand before the point; 0 where none is.
+    pub fn point(&self) -> usize
+        ensures { MatchOption self.now.capture (result ≡ 0) (λ c. result ≡ c.point) }
+    {
+        match &self.capture {
+            Some(capture) => capture.point(),
+            None => 0,
+        }
+    }
+
+    /// The page that shows the term and what is being typed.
+    pub fn page(&self) -> &Page
+        ensures { result.now ≡ page_seen self.now.grove self.now.root (state_of self.now).term
+            (typed_by self.now.capture (selected_place (state_of self.now))) }
+    {
+        &self.page
+    }
+
+    /// The path of the selected node, of a run's first element.
+    pub fn path(&self) -> Result<Path, NoMemory>
+        ensures { IfOk result (λ path. path ≡ (state_of self.now).spot.selection.path) }
+    {
+        path_of(self.alloc, &self.terms, self.selected)
+    }
+
+    // selects a resting place
+    fn stand(&mut self, n: NodeId)
+        requires node { IsInside (nodes self.old.grove) n self.old.root }
+        requires none { self.old.capture ≡ None }
+        requires rests { (u : Place) → Climbs (nodes self.old.grove) u n self.old.root
+            → settled self.old.grove.spec (state_of self.old).term u ≡ u }
+        ensures state { (u : Place) → Climbs (nodes self.old.grove) u n self.old.root → state_of self.new
+            ≡ states.selected self.old.grove.spec self.old.height u (state_of self.old) }
+        ensures kept { self.new ≡ record self.old { selected = n; count = 1; top = self.new.top } }
+    {
+        self.top = top_at(&self.terms, &self.page, n, self.height, self.top);
+        self.selected = n;
+        self.count = 1;
+    }
+
+    /// Selects the nearest resting place at or above a node of the term. No text is being typed.
+    pub fn select(&mut self, n: NodeId)
+        requires node { IsInside (nodes self.old.grove) n self.old.root }
+        requires none { self.old.capture ≡ None }
+        ensures state { (u : Place) → Climbs (nodes self.old.grove) u n self.old.root → state_of self.new
+            ≡ states.selected self.old.grove.spec self.old.height
+            (settled self.old.grove.spec (state_of self.old).term u) (state_of self.old) }
+        ensures kept { self.new ≡ record self.old { selected = self.new.selected; count = 1; top = self.new.top } }
+    {
+        let to = settle(&self.terms, n);
+        self.stand(to);
+    }
+
+    /// Selects the place to which a move leads, of a run from its first element; false exactly where it leads to none,
+    /// and then nothing changes. No text is being typed.
+    pub fn go(&mut self, to: Move) -> bool
+        requires { self.old.capture ≡ None }
+        ensures none { MatchOption (moved self.old.grove.spec self.old.height to (state_of self.old))
+            ((result ≡ false) × (self.new ≡ self.old)) (λ st. (result ≡ true) × (state_of self.new ≡ st)) }
+        ensures kept { self.new ≡ record self.old {
+          selected = self.new.selected;
+          count = self.new.count;
+          top = self.new.top;
+        } }
+    {
+        match target(&self.terms, self.selected, to) {
+            Some(n) => {
+                self.stand(n);
+                true
+            }
+            None => false,
+        }
+    }
+
+    /// Selects the nearest resting place at or above the node that owns a cell of the page, by line and column, each
+    /// from 1; false exactly where there is no such cell, and then nothing changes. No text is being typed.
+    pub fn pick(&mut self, line: usize, col: usize) -> bool
+        requires { self.old.capture ≡ None }
+        ensures none { MatchOption (picked self.old.grove.spec self.old.height line col (state_of self.old))
+            ((result ≡ false) × (self.new ≡ self.old)) (λ st. (result ≡ true) × (state_of self.new ≡ st)) }
+        ensures kept { self.new ≡ record self.old {
+          selected = self.new.selected;
+          count = self.new.count;
+          top = self.new.top;
+        } }
+    {
+        match at_cell(&self.terms, &self.page, line, col) {
+            Some(n) => {
+                self.stand(n);
+                true
+            }
+            None => false,
+        }
+    }
+
+    /// Selects one more element of the list. No text is being typed.
+    pub fn extend(&mut self) -> Extended
+        requires { self.old.capture ≡ None }
+        ensures told { result ≡ extension self.old.grove.spec (state_of self.old) }
+        ensures done { result ≡ Extended.Done → state_of self.new ≡ states.extended (state_of self.old) }
+        ensures kept { self.new ≡ record self.old { count = self.new.count } }
+        ensures refused { (result ≡ Extended.Done → ⊥) → self.new ≡ self.old }
+    {
+        let Some(spine) = spine_of(&self.terms, self.selected) else {
+            return Extended::NotInList;
+        };
+        if elements_from(&self.terms, spine) <= self.count {
+            return Extended::NoPlace;
+        }
+        self.count += 1;
+        Extended::Done
+    }
+
+    /// Selects one element less; false exactly where one is selected, and then nothing changes. No text is being typed.
+    pub fn shrink(&mut self) -> bool
+        requires { self.old.capture ≡ None }
+        ensures one { (result ≡ false) ↔ ((state_of self.old).spot.selection.count ≡ 1) }
+        ensures done { result ≡ true → state_of self.new ≡ states.shrunk (state_of self.old) }
+        ensures kept { self.new ≡ record self.old { count = self.new.count } }
+        ensures refused { result ≡ false → self.new ≡ self.old }
+    {
+        if self.count == 1 {
+            return false;
+        }
+        self.count -= 1;
+        true
+    }
+
+    /// Puts bytes at the point of the text that is being typed, which begins empty at the selection where none is. The
+    /// bytes are 10 or 32 to 126, and one node is selected. Without memory nothing changes.
+    pub fn type_in(&mut self, bytes: &[u8]) -> Result<(), NoMemory>
+        requires text { IsTrue (is_text bytes.now) }
+        requires alone { self.old.count ≡ 1 }
+        ensures typed { IfOk result (λ _. state_of self.new ≡ states.typed bytes.now (state_of self.old)) }
+        ensures kept { self.new ≡ record self.old { capture = self.new.capture } }
+        ensures err { OnErr result (self.new ≡ self.old) }
+    {
+        let capture = typed(self.alloc, &self.capture, bytes)?;
+        let page = page_with(
+            self.alloc,
+            &self.terms,
+            self.root,
+            self.selected,
+            capture.text(),
+        )?;
+        self.capture = Some(capture);
+        self.page = page;
+        Ok(())
+    }
+
+    /// Takes away the byte before the point; false exactly where no text is being typed or no byte stands there, and
+    /// then nothing changes, nor without memory.
+    pub fn erase(&mut self) -> Result<bool, NoMemory>
+        ensures none { IfOk result (λ r. (r ≡ false) ↔ MatchOption self.old.capture ⊤ (λ c. c.point ≡ 0)) }
+        ensures done { IfOk result (λ r. r ≡ true → state_of self.new ≡ states.erased (state_of self.old)) }
+        ensures kept { self.new ≡ record self.old { capture = self.new.capture } }
+        ensures refused { IfOk result (λ r. r ≡ false → self.new ≡ self.old) }
+        ensures err { OnErr result (self.new ≡ self.old) }
+    {
+        let Some(capture) = erased(self.alloc, &self.capture)? else {
+            return Ok(false);
+        };
+        let page = page_with(
+            self.alloc,
+            &self.terms,
+            self.root,
+            self.selected,
+            capture.text(),
+        )?;
+        self.capture = Some(capture);
+        self.page = page;
+        Ok(true)
+    }
+
+    /// Moves the point. A text is being typed, and is at least so long.
+    pub fn move_point(&mut self, k: usize)
+        requires { MatchOption self.old.capture ⊥ (λ c. k ≤ length c.text) }
+        ensures state { state_of self.new ≡ states.pointed k (state_of self.old) }
+        ensures kept { self.new ≡ record self.old { capture = self.new.capture } }
+    {
+        if let Some(capture) = &mut self.capture {
+            capture.move_point(k);
+        }
+    }
+
+    /// Ends the typing, if a text is being typed. Without memory nothing changes.
+    pub fn end_capture(&mut self) -> Result<(), NoMemory>
+        ensures ended { IfOk result (λ _. state_of self.new ≡ states.ended (state_of self.old)) }
+        ensures kept { self.new ≡ record self.old { capture = self.new.capture } }
+        ensures err { OnErr result (self.new ≡ self.old) }
+    {
+        let page = page_of(self.alloc, &self.terms, self.root)?;
+        self.capture = None;
+        self.page = page;
+        Ok(())
+    }
+}

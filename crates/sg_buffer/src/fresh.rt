@@ -1,0 +1,72 @@
+//! The first term of a buffer.
+ghost use Rattle.std.specs.Prelude.{◌≡◌, ◌↔◌, [], ◌∷◌, Contains, IfOk, IfErr, IsOk, OnErr};
+ghost use Rattle.sg_kinds.specs.Fits.{Fits};
+ghost use Rattle.sg_kinds.specs.Instances.{instances};
+ghost use Rattle.sg_kinds.specs.Sound.{IsSmall, IsSound};
+ghost use Rattle.sg_kinds.specs.Specification.{rules_of};
+ghost use Rattle.sg_kinds.specs.Terms.{nodes_of};
+ghost use Rattle.sg_kinds.specs.ValidPlans.{AreValid};
+ghost use Rattle.sg_eval.specs.Journal.{now_of, total_of};
+ghost use Rattle.sg_terms.specs.Entries.{GainedAll};
+ghost use Rattle.sg_build.specs.Counted.{AreCounts};
+ghost use Rattle.sg_states.specs.Paged.{IsWhole};
+ghost use Rattle.sg_buffer.specs.Noted.{Noted};
+ghost use Rattle.sg_buffer.specs.Roots.{AreTheRoots};
+
+use sg_attrib::attribute;
+use sg_build::{Counts, DEPTH, NODES, build, counts};
+use sg_eval::{Evaluator, Journal};
+use sg_forest::NodeId;
+use sg_kinds::memory::NoMemory;
+use sg_kinds::plans::Plans;
+use sg_kinds::spec::Spec;
+use sg_kinds::term::Term;
+use sg_terms::Terms;
+use std::alloc::Global;
+
+/// How many nodes a term has, or its counts exactly where it is over a limit.
+pub fn within(t: &Term) -> Result<usize, Counts>
+    ensures nodes { IfOk result (λ n. n ≡ nodes_of t.now) }
+    ensures small { IsOk result ↔ IsSmall t.now }
+    ensures counts { IfErr result (AreCounts t.now) }
+{
+    let size = counts(t);
+    if size.nodes > NODES || size.depth > DEPTH {
+        return Err(size);
+    }
+    Ok(size.nodes)
+}
+
+/// Terms of a specification, of which one is held, by the one root, with its values. The term is in the limits and of
+/// the root's phylum.
+pub fn attributed(
+    alloc: Global,
+    spec: &Spec,
+    t: &Term,
+    plans: &Plans,
+    ev: &Evaluator,
+    journal: &mut Journal,
+) -> Result<(Terms, NodeId), NoMemory>
+    requires sound { IsSound spec.now }
+    requires valid { AreValid (rules_of spec.now) plans.now }
+    requires same { ev.now ≡ spec.now }
+    requires fits { Fits spec.now t.now spec.now.root }
+    requires small { IsSmall t.now }
+    ensures spec { IfOk result (λ r. r.0.spec ≡ spec.now) }
+    ensures whole { IfOk result (λ r. IsWhole r.0 r.1 t.now) }
+    ensures roots { IfOk result (λ r. AreTheRoots r.0 (r.1 ∷ [])) }
+    ensures evaluated { IfOk result (λ r. GainedAll r.0 r.1 t.now (Contains (instances (rules_of spec.now) t.now))
+        (now_of journal.old) (now_of journal.new)) }
+    ensures noted { OnErr result (Noted spec.now t.now (Contains (instances (rules_of spec.now) t.now))
+        (now_of journal.old) (now_of journal.new)) }
+    ensures total { total_of journal.new ≡ total_of journal.old }
+{
+    let mut terms = Terms::new(alloc, spec)?;
+    let Ok(root) = build(alloc, &mut terms, t) else {
+        return Err(NoMemory);
+    };
+    terms.facts();
+    attribute(&mut terms, root, plans, ev, journal)?;
+    terms.facts();
+    Ok((terms, root))
+}

@@ -1,0 +1,10 @@
+//! One buffer: a term with its values, what is selected of it, its history, the text that is being typed, and its page.
+#![tactic(auto)]
+
+mod buffers;
+mod fault;
+mod fresh;
+mod typing;
+
+pub use buffers::Buffer;
+pub use fault::BufferFault;
