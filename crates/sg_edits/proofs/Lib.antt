@@ -4,3 +4,4 @@ pub mod Placed
 pub mod Shaped
 pub mod Smaller
 pub mod Transformed
+mod Worked
