@@ -1,0 +1,3 @@
+pub mod Spelling
+pub mod Misfits
+pub mod Read
