@@ -1,17 +1,16 @@
 #!/usr/bin/env python3
 """cases.py PROGRAM FOLDER: prints the table of cases of the languages in a folder.
 
-PROGRAM takes the command line of ssled. Each `NAME.ssl` gives a case of `check`; each `NAME.script` a case of `run`,
-with the language of the same name, or that of the name up to the first `-`. What is wanted is what PROGRAM answers,
-so a table is worth as much as PROGRAM is known to be right: it is made with another program than the one that it is
-to test. Each case runs in a folder that has the two files alone.
+PROGRAM takes the command line of ssled. Each `NAME.ssl` gives a case of `check`, and where there is a `NAME.script` a
+case of `run`. What is wanted is what PROGRAM answers, so a table is worth as much as PROGRAM is known to be right: it
+is made with another program than the one that it is to test. Each case runs in a folder that has the two files alone.
 """
 import subprocess
 import sys
 import tempfile
 from pathlib import Path
 
-HEADER = """// The languages of {folder}/: each is checked, and each script is run. Made by
+HEADER = """// The languages of {folder}/: each is checked, and run with its script if there is one. Made by
 // `bench/cases.py PROGRAM {folder}`, where PROGRAM was the model of the definitions.
 """
 
@@ -80,9 +79,9 @@ def main():
     for path in sorted(folder.glob("*.ssl")):
         data = path.read_bytes()
         blocks += [f"text {path.name}\n{text(data)}", check_case(program, path.name, data)]
-        for script in sorted(folder.glob(f"{path.stem}*.script")):
-            if script.stem.split("-")[0] == path.stem:
-                blocks.append(run_case(program, path.name, data, script.name, script.read_bytes()))
+        script = path.with_suffix(".script")
+        if script.exists():
+            blocks.append(run_case(program, path.name, data, script.name, script.read_bytes()))
     sys.stdout.write("\n".join(blocks))
 
 
