@@ -5,10 +5,11 @@ PROGRAM takes the command line of ssled. In a page these blocks between fences a
 first fence:
 
   sh       a command: `ssled ..` is done in the folder of the repository
-  screen   lines of what the last command printed, whole blocks in their order; of a page the last lines may be left out
+  screen   behind a block `ssl` all that `show` prints of its text; else blocks of what the last command printed, in
+           their order, of which the last lines may be left out
   verdict  all that the last command printed; behind a block `ssl` all that `check` prints of its text
-  ssl      a text that is checked, where a block `verdict` follows; else lines of the last language that was named, or,
-           where none was, of one of the languages
+  ssl      a text that is checked or shown, where a block `verdict` or `screen` follows at once; else lines of the last
+           language that was named, or, where none was, of one of the languages
   script   lines of the script of the last command
 
 It prints each block that is not so, with its line, and how many were looked at.
@@ -44,9 +45,9 @@ def answer(program, words, folder):
     return done.stdout.decode("ascii")
 
 
-def checked(program, text, folder):
+def shown(program, word, text, folder):
     (folder / "text.ssl").write_text(text)
-    return answer(program, ["check", "text.ssl"], folder)
+    return answer(program, ["check" if word == "verdict" else "show", "text.ssl"], folder)
 
 
 def whole_lines(part, text):
@@ -73,28 +74,30 @@ def named(prose, last):
 
 
 def look(program, page, folder):
-    wrong, count, output, script, language = [], 0, "", "", None
+    wrong, count, output, script, language, exact = [], 0, "", "", None, False
     listed = [block for block in blocks(page) if block[1] in FENCED]
     for k, (number, word, text, prose) in enumerate(listed):
         following = listed[k + 1] if k + 1 < len(listed) else (0, "", "", "")
+        if following[1] not in ("verdict", "screen") or following[3].strip():
+            following = None
         language = named(prose, language)
         good = True
         if word == "sh":
             command = text.split()
             if command[:1] != ["ssled"]:
                 continue
-            output = answer(program, command[1:], folder)
+            output, exact = answer(program, command[1:], folder), False
             language = next((name for name in command if name.endswith(".ssl")), language)
             script = next(((ROOT / name).read_text() for name in command if name.endswith(".script")), script)
-        elif word == "ssl" and following[1] == "verdict" and not following[3].strip():
-            output = checked(program, text, folder)
+        elif word == "ssl" and following:
+            output, exact = shown(program, following[1], text, folder), True
         elif word == "ssl":
             sources = [ROOT / language] if language else sorted((ROOT / "examples").rglob("*.ssl"))
             good = any(whole_lines(text, source.read_text()) for source in sources)
         elif word == "verdict":
             good = text == output
         elif word == "screen":
-            good = screens(text, output)
+            good = text == output if exact else screens(text, output)
         elif word == "script":
             good = whole_lines(text, script)
         count += 1
