@@ -6,11 +6,10 @@ use Rattle.sg_kinds.specs.Derivation.{derives}
 use Rattle.sg_kinds.specs.Sound.{IsSound}
 use Rattle.sg_kinds.specs.declared.spec.Spec.{Spec}
 use Rattle.sg_patterns.specs.LexemesOf.{AreLexemesOf}
-use Rattle.sg_patterns.specs.Scan.{Scanned, StopsAt}
 use Rattle.sg_patterns.specs.declared.lexemes.Lexemes.{Lexemes}
 use Rattle.sg_patterns.specs.declared.scanning.InToken.{InToken}
 use Rattle.sg_patterns.proofs.ScanLaws.{text-scanned}
-use Rattle.sg_grammar.specs.Derives.{Token, Derives}
+use Rattle.sg_grammar.specs.Derives.{Derives}
 use Rattle.sg_grammar.specs.Grammar.{Grammar}
 use Rattle.sg_grammar.specs.Numbered.{first_nonterminal, grammar_of}
 use Rattle.sg_lalr.specs.Tables.{View, IsTables, Decided}
