@@ -118,6 +118,28 @@ def states(size=1023):
     return grammar(["S"], [production("S", f"'t{i}'", *["'u'"] * 15) for i in range(size)], "S")
 
 
+def subsets(family, places):
+    """Words over two letters whose letter so many places before the end is the first one: 2^places states, since each
+    says where in the last places that letter stood."""
+    a, b, names = f"'a{family}'", f"'b{family}'", [f"S{family}", *(f"Q{family}x{i}" for i in range(1, places + 1))]
+    rows = [production(names[0], a, names[0]), production(names[0], b, names[0]), production(names[0], a, names[1])]
+    for name, following in zip(names[1:], names[2:]):
+        rows += [production(name, a, following), production(name, b, following)]
+    return names, [*rows, production(names[-1], "'end'")]
+
+
+def states_most(size=65536):
+    """Almost so many states, by families of subsets, each half as large as the one before."""
+    names, rows, left, places = ["S"], [], size, size.bit_length() - 2
+    while 4 < places and (1 << places) + 4 * places < left:
+        its_names, its_rows = subsets(places, places)
+        rows += [production("S", f"'f{places}'", its_names[0]), *its_rows]
+        names += its_names
+        left -= (1 << places) + 4 * places
+        places -= 1
+    return grammar(names, rows, "S")
+
+
 def phyla(order, attrs):
     """A chain of phyla, one operator each, from phylum 0 down; the operators stand in this order.
 

@@ -6,3 +6,5 @@ pub mod Driving
 pub mod Steps
 pub mod Answering
 pub mod Entries
+pub mod Texts
+pub mod Worked

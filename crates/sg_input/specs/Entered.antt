@@ -1,5 +1,5 @@
 -- What becomes of a text that is typed in from an entry.
-use Rattle.std.specs.Prelude.{◌≡◌, ℕ, List, Option, Some, not, length, option_map, unwrap_or, slice_get, nat_eq, position, IsTrue}
+use Rattle.std.specs.Prelude.{◌≡◌, ℕ, ◌<◌, List, Option, Some, not, length, option_map, unwrap_or, slice_get, nat_eq, position, IsTrue}
 use Rattle.sg_kinds.specs.Values.{Bytes, Value, Fault, is_text, is_text_byte}
 use Rattle.sg_kinds.specs.Derivation.{derives}
 use Rattle.sg_kinds.specs.declared.marks.FaultKind.{FaultKind}
@@ -61,3 +61,8 @@ IsEntered spec entry text (Stopped k) = (tokens : List InToken) × AreTokensOf s
     × (k ≡ place_of text tokens i)
 IsEntered spec entry text (Faulted kind) = Gives spec entry text (Fault kind)
 IsEntered spec entry text (Typed v) = Gives spec entry text v × (IsFault v → ⊥)
+
+-- from each entry each text becomes something
+abbrev pub ReadsEachText : Spec → Type 0
+ReadsEachText spec = (entry : ℕ) → entry < length spec.entries → (text : Bytes)
+    → (a : Entered) × IsEntered spec entry text a

@@ -31,6 +31,7 @@ pub enum EntryFault {
     Parse(usize),
     /// The value is this fault.
     Outcome(FaultKind),
+    /// Memory was wanting, or the tokens are not parsed in 2^40 steps.
     NoMemory,
 }
 
@@ -43,7 +44,8 @@ fn place_in(entries: &[Entry], p: PhylumId) -> Option<usize>
         .position(|entry| entry.phylum.number == p.number)
 }
 
-/// The place of a phylum's entry among the entries of a specification, which has one for a phylum at most.
+/// The place of a phylum's entry among the entries of a specification, which has one for a phylum at most; None exactly
+/// where it has none.
 pub fn entry_of(spec: &Spec, p: PhylumId) -> Option<u32>
     requires { IsSound spec.now }
     ensures { result ≡ entry_at spec.now p }
@@ -140,8 +142,9 @@ fn entered(
     }
 }
 
-/// What becomes of a text from an entry: the value that its nonterminal derives, or the first thing that is wrong with
-/// the text. All bytes are looked at first, then all tokens are found, and then they are parsed.
+/// What becomes of a text from an entry, a place among the entries of the specification: the value that its nonterminal
+/// derives, or the first thing that is wrong with the text. All bytes are looked at first, then all tokens are found, and
+/// then they are parsed.
 pub fn enter(
     alloc: Global,
     lexemes: &Lexemes,
