@@ -1,8 +1,6 @@
 pub mod Standing
-pub mod Times
 pub mod Begun
 pub mod Closing
 pub mod Going
 pub mod Extending
 pub mod Methods
-pub mod Entering
