@@ -4,3 +4,9 @@ pub mod Closing
 pub mod Going
 pub mod Extending
 pub mod Methods
+pub mod Kept
+pub mod Changing
+pub mod Toggling
+pub mod Replacing
+pub mod Undoing
+pub mod Redoing
