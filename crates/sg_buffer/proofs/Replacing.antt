@@ -1,5 +1,5 @@
 -- A buffer after a term came in the place of a node.
-use Rattle.std.specs.Prelude.{◌≡◌, ◌≢◌, refl, ℕ, ◌≤◌, List, [], ◌∷◌, Option, None, Some}
+use Rattle.std.specs.Prelude.{◌≡◌, ◌≢◌, ◌↔◌, refl, ℕ, ◌≤◌, IsOk, List, [], ◌∷◌, Option, None, Some, Result, Ok, Err}
 use Rattle.std.proofs.Common.{sym, ap, ◌∙◌, subst}
 use Rattle.std.proofs.lemmas.Option.{same_Some}
 use Rattle.sg_kinds.specs.Terms.{Term, nodes_of}
@@ -14,10 +14,11 @@ use Rattle.sg_groves.specs.Holds.{Holds, IsPlaced}
 use Rattle.sg_groves.specs.TermAt.{term_at}
 use Rattle.sg_groves.proofs.Held.{held_at, one_term}
 use Rattle.sg_groves.proofs.Ways.{one_way}
-use Rattle.sg_build.specs.Counted.{OfWhole}
+use Rattle.sg_build.specs.Counted.{AreCounts, OfReplaced, OfWhole}
+use Rattle.sg_build.specs.declared.limits.Counts.{Counts}
 use Rattle.sg_changes.specs.Captured.{Captured}
 use Rattle.sg_changes.specs.Changes.{Change, Put, part_of}
-use Rattle.sg_changes.specs.Told.{tops}
+use Rattle.sg_changes.specs.Told.{tops, tops_of}
 use Rattle.sg_changes.specs.declared.spot.Selection.{Selection}
 use Rattle.sg_changes.specs.declared.spot.Spot.{Spot}
 use Rattle.sg_changes.specs.declared.step.Step.{Step}
@@ -31,9 +32,11 @@ use Rattle.sg_states.specs.Seen.{seen}
 use Rattle.sg_states.specs.States.{State, replaced}
 use Rattle.sg_states.proofs.Spotted.{settled_seen}
 use Rattle.sg_turns.specs.Puts.{IsPut, MayPut}
-use Rattle.sg_turns.specs.Roots.{times, AreTheRoots}
+use Rattle.sg_turns.specs.Roots.{times, AreTheRoots, KeepsTree}
 use Rattle.sg_turns.specs.declared.turns.Turned.{Turned}
-use Rattle.sg_turns.proofs.Hanging.{agree_then, listed_once, listed_root}
+use Rattle.sg_turns.proofs.Hanging.{agree_then, listed_once, listed_root, root_kept}
+use Rattle.sg_buffer.specs.declared.fault.BufferFault.{BufferFault}
+use Rattle.sg_buffer.specs.declared.fault.BufferFault.TheVariants.{NoMemory, Size}
 use Rattle.sg_buffer.specs.Held.{Held, state_of}
 use Rattle.sg_buffer.specs.Buffers.{IsBuffer}
 use Rattle.sg_buffer.proofs.Changing.{Changed, Remembers, changed_closes, changed_held, changed_state}
@@ -147,10 +150,52 @@ module _ (b : Held) (count room : ℕ) (page : Sheet) (is : IsBuffer b count roo
           → ((root : NodeId) (w : Term) (p : Place) → IsPlaced b.grove root w p b.selected → before ≡ record { selection = record { path = path_to p; count = b.count }; top = b.top })
           → (copy : List ℕ) → copy ≡ path → (made : Step) → made ≡ Replaced copy n before t.look.spot
           → (kept : Grove) → IsGrove kept → (h : Timeline Step) → Remembers mid kept b.past b.future room made h → (nodes : ℕ) → nodes ≡ nodes_of now
-          → IsBuffer (changed_held b kept t h None) nodes h.room t.look.page × (state_of (changed_held b kept t h None) ≡ replaced v.grove.spec v.height u s select (state_of v))
+          → IsBuffer (changed_held b kept t h None) nodes h.room t.look.page × (state_of (changed_held b kept t h None) ≡ replaced v.grove.spec v.height u s select (state_of v)) × KeepsTree mid kept t.root
       put_here v view before told copy copy_is made made_is kept still h remembers nodes counted =
           let same = made_is ∙ step_same copy path n before st.spot t.look.spot spot copy_is (spot_is b count room page is before told) puts_now.look.spot_is in
-          let c = changed_closes b count room page is mid kept still now (Put u (part_of st.term u) s st.spot spot) step spot t put_changed h (subst (λ z. Remembers mid kept b.past b.future room z h) same remembers) None refl nodes counted in (
+          let kept_steps : Remembers mid kept b.past b.future room step h = subst (λ z. Remembers mid kept b.past b.future room z h) same remembers in
+          let d = kept_steps.dropped in
+          let c = changed_closes b count room page is mid kept still now (Put u (part_of st.term u) s st.spot spot) step spot t put_changed h kept_steps None refl nodes counted in (
             c.is,
             subst (λ (z : Held). state_of (changed_held b kept t h None) ≡ replaced z.grove.spec z.height u s select (state_of z)) view c.told,
+            root_kept mid kept on still t.root (n ∷ tops b.past b.future) (tops_of h.past) d.0 (puts.roots (tops b.past b.future) is.stands.roots) d.1 d.2,
           )
+
+-- the counts of a refused term
+abbrev size_in : Counts → Result (Unit {0}) BufferFault → Counts
+size_in d (Ok x) = d
+size_in d (Err (Size c)) = c
+size_in d (Err NoMemory) = d
+
+pub same_size : (a c : Counts) (r : Result (Unit {0}) BufferFault) → r ≡ Err (Size a) → r ≡ Err (Size c) → a ≡ c
+same_size a c r one two = ap (size_in a) (sym one ∙ two)
+
+-- where the fields are seen as another value
+module _ (b v : Held) (view : b ≡ v) (count room : ℕ) (page : Sheet) (is : IsBuffer b count room page) (path : List ℕ) (s : Term) where
+  pub fit_here : FitsAt v (place_of path) s → FitsAt b (place_of path) s
+  fit_here fits = subst (λ z. FitsAt z (place_of path) s) (sym view) fits
+
+  pub way_here : (n : NodeId) → Climbs (nodes v.grove) (place_of path) n v.root → Climbs (nodes b.grove) (place_of path) n b.root
+  way_here n way = subst (λ (z : Held). Climbs (nodes z.grove) (place_of path) n z.root) (sym view) way
+
+  pub small_here : IsSmall (put (state_of v).term (place_of path) s) → IsSmall (put (state_of b).term (place_of path) s)
+  small_here small = subst (λ z. IsSmall (put (state_of z).term (place_of path) s)) (sym view) small
+
+  pub counted_here : (nodes : ℕ) → nodes ≡ nodes_of (put (state_of v).term (place_of path) s) → nodes ≡ nodes_of (put (state_of b).term (place_of path) s)
+  counted_here nodes counted = subst (λ z. nodes ≡ nodes_of (put (state_of z).term (place_of path) s)) (sym view) counted
+
+  -- what is counted of the term then
+  module _ (fits : FitsAt v (place_of path) s) (n : NodeId) (way : Climbs (nodes b.grove) (place_of path) n b.root) (c : Counts) (counts : AreCounts s c) where
+    then_counted : (P : Term → Type 0) → OfReplaced b.grove n c P → P (put (state_of v).term (place_of path) s)
+    then_counted P replaced_is =
+        subst (λ z. P (put (state_of z).term (place_of path) s)) view
+        (replaced_is b.root (state_of b).term s (place_of path) (at_place b count room page is path s (fit_here fits) n way) counts)
+
+    pub small_told : (r : Result ℕ Counts) → OfReplaced b.grove n c (λ whole. IsOk r ↔ IsSmall whole) → IsOk r ↔ IsSmall (put (state_of v).term (place_of path) s)
+    small_told r replaced_is = then_counted (λ whole. IsOk r ↔ IsSmall whole) replaced_is
+
+    pub nodes_told : (k : ℕ) → OfReplaced b.grove n c (λ whole. k ≡ nodes_of whole) → k ≡ nodes_of (put (state_of v).term (place_of path) s)
+    nodes_told k replaced_is = then_counted (λ whole. k ≡ nodes_of whole) replaced_is
+
+    pub counts_told : (d : Counts) → OfReplaced b.grove n c (λ whole. AreCounts whole d) → AreCounts (put (state_of v).term (place_of path) s) d
+    counts_told d replaced_is = then_counted (λ whole. AreCounts whole d) replaced_is

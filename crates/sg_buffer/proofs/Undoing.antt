@@ -1,6 +1,7 @@
 -- A buffer after its newest change is undone.
-use Rattle.std.specs.Prelude.{◌≡◌, ◌≢◌, ◌↔◌, refl, ℕ, suc, ◌+◌, ◌<◌, ◌≤◌, true, List, [], ◌∷◌, ◌++◌, length, Option, None, Some}
+use Rattle.std.specs.Prelude.{◌≡◌, ◌≢◌, ◌↔◌, refl, ℕ, suc, ◌+◌, ◌<◌, ◌≤◌, true, List, [], ◌∷◌, ◌++◌, length, slice_get, Option, None, Some}
 use Rattle.std.proofs.Common.{sym, ap, ◌∙◌, subst, arith}
+use Rattle.std.proofs.lemmas.Option.{none-some, same_Some}
 use Rattle.sg_kinds.specs.Terms.{Term, nodes_of}
 use Rattle.sg_kinds.specs.Fits.{Fits}
 use Rattle.sg_kinds.specs.Places.{place_of}
@@ -52,6 +53,19 @@ stepped_held b new r past future = record {
   future = future;
   capture = b.capture;
 }
+
+-- the first step of a list, and the others
+abbrev pub rest_of : List Step → List Step
+rest_of [] = []
+rest_of (s ∷ ss) = ss
+
+pub first_step : (ss : List Step) (s : Step) → Some s ≡ slice_get ss 0 → ss ≡ s ∷ rest_of ss
+first_step [] s e = absurd (none-some s (sym e))
+first_step (x ∷ ss) s e = ap (λ z. z ∷ ss) (sym (same_Some s x e))
+
+pub no_step : (ss : List Step) → None ≡ slice_get ss 0 → ss ≡ []
+no_step [] e = refl
+no_step (x ∷ ss) e = absurd (none-some x e)
 
 -- a step may be undone
 pub may_back : (g : Grove) → IsGrove g → (root : NodeId) (t : Term) (count : ℕ) → IsWhole g root t → Fits g.spec t g.spec.root → count ≡ nodes_of t → IsSmall t

@@ -1,6 +1,7 @@
 pub mod Free
 pub mod Times
 pub mod Trees
+pub mod Gaining
 pub mod Swaps
 pub mod Turning
 pub mod Values
