@@ -24,9 +24,7 @@ use Rattle.sg_groves.proofs.Frames.{only_root, only_was_root}
 use Rattle.sg_groves.proofs.Held.{held_fits}
 use Rattle.sg_terms.specs.Entries.{Gained, GainedAll}
 use Rattle.sg_build.specs.Grown.{GrewBy}
-use Rattle.sg_build.proofs.Roots.{one_phylum}
-use Rattle.sg_plans.proofs.Solved.{root_inherits_nothing}
-use Rattle.sg_buffer.proofs.Entering.{gained_all_after}
+use Rattle.sg_propagate.proofs.Replaced.{gained_all_after}
 use Rattle.sg_unparse.specs.Cells.{Mark}
 use Rattle.sg_unparse.specs.Owned.{place_of_mark, before}
 use Rattle.sg_unparse.specs.Page.{Region, cells_of, position_behind, region_of}
@@ -40,18 +38,12 @@ use Rattle.sg_undo.specs.Timeline.{Timeline, timeline}
 use Rattle.sg_changes.specs.declared.step.Step.{Step}
 use Rattle.sg_unparse.specs.Sheet.{Sheet}
 use Rattle.sg_buffer.specs.Held.{Held, state_of}
-use Rattle.sg_buffer.specs.Noted.{Noted}
-use Rattle.sg_buffer.specs.Roots.{AreTheRoots}
+use Rattle.sg_turns.specs.Noted.{Noted}
+use Rattle.sg_turns.specs.Roots.{AreTheRoots}
 use Rattle.sg_buffer.specs.Buffers.{StandsFor, IsBuffer}
 use Rattle.sg_buffer.proofs.Closing.{closes}
-use Rattle.sg_buffer.proofs.Times.{grown_roots, no_roots}
-
--- a root of the root's phylum inherits nothing
-pub root_free : (g : Grove) → IsGrove g → (root : NodeId) (t : Term) → Holds g root t → Fits g.spec t g.spec.root → (x : forest.Node Kind Part) → nodes g root ≡ Some x
-    → (slot : ℕ) → is_inherited g.spec.phyla x.label.phylum slot ≡ false
-root_free g is root t holds fits x found slot =
-    let same : x.label.phylum ≡ g.spec.root = one_phylum g.spec t x.label.phylum g.spec.root (held_fits g is root x t found holds) fits in
-    ap (λ p. is_inherited g.spec.phyla p slot) same ∙ root_inherits_nothing g.spec is.sound slot
+use Rattle.sg_turns.proofs.Free.{root_free}
+use Rattle.sg_turns.proofs.Times.{grown_roots, no_roots}
 
 module _ (empty built new : Grove) (spec : Spec) (root : NodeId) (t : Term) (spec_is : empty.spec ≡ spec) (none : (n : NodeId) → nodes empty n ≡ None) (grew : GrewBy empty built (root ∷ [])) where
   built_spec : built.spec ≡ spec

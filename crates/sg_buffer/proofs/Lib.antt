@@ -1,8 +1,12 @@
 pub mod Standing
-pub mod Times
 pub mod Begun
 pub mod Closing
 pub mod Going
 pub mod Extending
 pub mod Methods
-pub mod Entering
+pub mod Kept
+pub mod Changing
+pub mod Toggling
+pub mod Replacing
+pub mod Undoing
+pub mod Redoing

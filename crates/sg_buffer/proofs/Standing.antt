@@ -67,7 +67,7 @@ is_buffer b st count room page s counted room_is few page_is =
     }
 
 -- no capture is alone
-no_capture : (b : Held) → b.capture ≡ None → (n : ℕ) → MatchOption b.capture ⊤ (λ _. n ≡ 1)
+pub no_capture : (b : Held) → b.capture ≡ None → (n : ℕ) → MatchOption b.capture ⊤ (λ _. n ≡ 1)
 no_capture b none n = subst (λ (o : Option Captured). MatchOption o ⊤ (λ _. n ≡ 1)) (sym none) tt
 
 -- another resting place is selected

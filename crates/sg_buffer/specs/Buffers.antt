@@ -14,7 +14,7 @@ use Rattle.sg_states.specs.Seen.{is_spot}
 use Rattle.sg_states.specs.States.{State}
 use Rattle.sg_states.specs.Paged.{IsWhole, page_seen}
 use Rattle.sg_buffer.specs.Held.{Held, state_of, typed_by}
-use Rattle.sg_buffer.specs.Roots.{AreTheRoots}
+use Rattle.sg_turns.specs.Roots.{AreTheRoots}
 
 -- what is held stands for a state: a right tree holds its term, which fits the root's phylum and is in the limits; a
 -- selection of the term is selected, and its first line is seen; the past changes can be undone and the future ones

@@ -1,4 +1,4 @@
 pub mod Held
-pub mod Roots
-pub mod Noted
 pub mod Buffers
+pub mod AsBefore
+pub mod Gains

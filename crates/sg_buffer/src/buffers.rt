@@ -20,7 +20,7 @@ ghost use Rattle.sg_states.specs.States as states;
 ghost use Rattle.sg_states.specs.States.{begun, selected_place, moved, picked, extension};
 ghost use Rattle.sg_buffer.specs.Held.{state_of, typed_by};
 ghost use Rattle.sg_buffer.specs.Buffers.{StandsFor};
-ghost use Rattle.sg_buffer.specs.Noted.{Noted};
+ghost use Rattle.sg_turns.specs.Noted.{Noted};
 
 use crate::fault::BufferFault;
 use crate::fresh::{attributed, within};
@@ -51,17 +51,17 @@ pub const STEPS: usize = 256;
 /// Each call takes its state to that of one definition, or leaves everything as it was.
 #[derive(Drop)]
 pub struct Buffer {
-    alloc: Global,
-    terms: Terms,
-    root: NodeId,
-    selected: NodeId,
-    count: usize,
-    top: usize,
-    height: usize,
-    nodes: usize,
-    history: History<Step>,
-    capture: Option<Capture>,
-    page: Page,
+    pub(crate) alloc: Global,
+    pub(crate) terms: Terms,
+    pub(crate) root: NodeId,
+    pub(crate) selected: NodeId,
+    pub(crate) count: usize,
+    pub(crate) top: usize,
+    pub(crate) height: usize,
+    pub(crate) nodes: usize,
+    pub(crate) history: History<Step>,
+    pub(crate) capture: Option<Capture>,
+    pub(crate) page: Page,
 }
 
 impl Model for Buffer {

@@ -10,8 +10,8 @@ ghost use Rattle.sg_eval.specs.Journal.{now_of, total_of};
 ghost use Rattle.sg_terms.specs.Entries.{GainedAll};
 ghost use Rattle.sg_build.specs.Counted.{AreCounts};
 ghost use Rattle.sg_states.specs.Paged.{IsWhole};
-ghost use Rattle.sg_buffer.specs.Noted.{Noted};
-ghost use Rattle.sg_buffer.specs.Roots.{AreTheRoots};
+ghost use Rattle.sg_turns.specs.Noted.{Noted};
+ghost use Rattle.sg_turns.specs.Roots.{AreTheRoots};
 
 use sg_attrib::attribute;
 use sg_build::{Counts, DEPTH, NODES, build, counts};

@@ -2,6 +2,7 @@
 #![tactic(auto)]
 
 mod buffers;
+mod changes;
 mod fault;
 mod fresh;
 mod typing;

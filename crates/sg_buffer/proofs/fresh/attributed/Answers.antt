@@ -3,7 +3,8 @@ use Rattle.std.proofs.lemmas.Result.{err_from_is_err_and}
 use Rattle.sg_kinds.specs.Fits.{Fits}
 use Rattle.sg_kinds.specs.declared.spec.Spec.{Spec}
 use Rattle.sg_eval.specs.Journal.{now_of}
-use Rattle.sg_buffer.proofs.Begun.{evaluated, refused, root_free, roots, whole}
+use Rattle.sg_turns.proofs.Free.{root_free}
+use Rattle.sg_buffer.proofs.Begun.{evaluated, refused, roots, whole}
 use Rattle.sg_buffer.proofs.fresh.attributed.Goals as goal
 
 pub attribute-requires-clause-root : goal.attribute-requires-clause-root

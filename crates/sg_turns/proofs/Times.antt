@@ -10,13 +10,13 @@ use Rattle.sg_forest.proofs.Paths.{cases_id, root_inside, root_is_live, same_id}
 use Rattle.sg_groves.specs.Grove.{Grove, nodes}
 use Rattle.sg_build.specs.Grown.{GrewBy}
 use Rattle.sg_build.proofs.Framed.{grew_root, not_there, there_or_not}
-use Rattle.sg_buffer.specs.Roots.{times, AreTheRoots}
+use Rattle.sg_turns.specs.Roots.{times, AreTheRoots}
 
 -- a node first
-abbrev one_if : NodeId → NodeId → ℕ
+abbrev pub one_if : NodeId → NodeId → ℕ
 one_if n m = cond (m.key == n.key) 1 0
 
-times_cons : (n m : NodeId) (ns : List NodeId) → times n (m ∷ ns) ≡ one_if n m + times n ns
+pub times_cons : (n m : NodeId) (ns : List NodeId) → times n (m ∷ ns) ≡ one_if n m + times n ns
 times_cons n m ns = sum_by-cons (one_if n) m ns
 
 pub times_same : (n : NodeId) (ns : List NodeId) → times n (n ∷ ns) ≡ suc (times n ns)

@@ -1,0 +1,289 @@
+//! Changes of a buffer's term, and the ways back and forth.
+ghost use Rattle.std.specs.Prelude.{◌≡◌, ◌↔◌, ℕ, [], true, false, IfOk, IsErrOf, IsErrAnd, OnErr, MatchOption, None, Some};
+ghost use Rattle.sg_kinds.specs.Fits.{Fits};
+ghost use Rattle.sg_kinds.specs.Places.{place_of, put, sub};
+ghost use Rattle.sg_kinds.specs.Sound.{IsSmall};
+ghost use Rattle.sg_kinds.specs.Specification.{rules_of};
+ghost use Rattle.sg_kinds.specs.Terms.{Term as IsTerm, nodes_of};
+ghost use Rattle.sg_kinds.specs.ValidPlans.{AreValid};
+ghost use Rattle.sg_eval.specs.Journal.{now_of, total_of};
+ghost use Rattle.sg_forest.specs.Trees.{Climbs};
+ghost use Rattle.sg_groves.specs.Evaluated.{IsEvaluated};
+ghost use Rattle.sg_groves.specs.Grove.{nodes};
+ghost use Rattle.sg_terms.specs.Entries.{GainedAll};
+ghost use Rattle.sg_build.specs.Counted.{AreCounts};
+ghost use Rattle.sg_states.specs.States as states;
+ghost use Rattle.sg_states.specs.States.{marked, replaced};
+ghost use Rattle.sg_turns.specs.Noted.{Noted};
+ghost use Rattle.sg_buffer.specs.AsBefore.{IsAsBefore};
+ghost use Rattle.sg_buffer.specs.Gains.{GainedBack, GainedForth, NotedBack, NotedForth, OfFirst};
+ghost use Rattle.sg_buffer.specs.Held.{state_of};
+
+use crate::buffers::Buffer;
+use crate::fault::BufferFault;
+use sg_build::{Counts, counts, counts_replaced};
+use sg_changes::{Selection, Step};
+use sg_eval::{Evaluator, Journal};
+use sg_forest::NodeId;
+use sg_kinds::memory::NoMemory;
+use sg_kinds::plans::Plans;
+use sg_kinds::row::Path;
+use sg_kinds::term::Term;
+use sg_states::Mark;
+use sg_turns::{
+    node_at, put_back, put_forth, put_term, remarked, remember, spot_at, step_back, step_forth,
+    turned_marks,
+};
+
+impl Buffer {
+    /// Turns a mark of the selected node: its scheme number is the next one, after the last the first, or its elided
+    /// mark is turned over. One node is selected, and no text is being typed. False exactly where there is nothing to
+    /// turn: at a leaf, and for another scheme where the operator has only one; nothing changes then, and nothing but
+    /// the pool without memory.
+    pub fn toggle(&mut self, mark: Mark) -> Result<bool, NoMemory>
+        requires none { self.old.capture ≡ None }
+        requires alone { self.old.count ≡ 1 }
+        ensures told { IfOk result (λ r. MatchOption (marked self.old.grove.spec self.old.height mark
+            (state_of self.old)) ((r ≡ false) × (self.new ≡ self.old))
+            (λ st. (r ≡ true) × (state_of self.new ≡ st))) }
+        ensures spec { self.new.grove.spec ≡ self.old.grove.spec }
+        ensures height { self.new.height ≡ self.old.height }
+        ensures err { OnErr result (IsAsBefore self.old self.new) }
+    {
+        let Some(marks) = turned_marks(&self.terms, self.selected, mark) else {
+            return Ok(false);
+        };
+        let before = spot_at(self.alloc, &self.terms, self.selected, self.count, self.top)?;
+        let path = before.selection.path.copy(self.alloc)?;
+        let turned = remarked(
+            self.alloc,
+            &mut self.terms,
+            self.root,
+            self.selected,
+            marks.new,
+            &before.selection,
+            self.height,
+            self.top,
+        )?;
+        self.terms.facts();
+        self.root = turned.root;
+        self.selected = turned.look.selected;
+        self.count = turned.look.spot.selection.count;
+        self.top = turned.look.spot.top;
+        self.page = turned.look.page;
+        let step = Step::marked(path, marks.old, marks.new, before, turned.look.spot);
+        remember(&mut self.terms, &mut self.history, step);
+        self.terms.facts();
+        Ok(true)
+    }
+
+    /// Puts a term in the place of the subterm at a path of the term, whose phylum it fits, and selects what is given,
+    /// settled. `Size` says exactly that the whole term would be over a limit, with its counts; nothing changes then, and
+    /// nothing is evaluated. Without memory nothing changes but the pool, and some of the equations may be evaluated.
+    pub fn replace(
+        &mut self,
+        at: &Path,
+        t: &Term,
+        select: &Selection,
+        plans: &Plans,
+        ev: &Evaluator,
+        journal: &mut Journal,
+    ) -> Result<(), BufferFault>
+        requires valid { AreValid (rules_of self.old.grove.spec) plans.now }
+        requires same { ev.now ≡ self.old.grove.spec }
+        requires fits { (x : IsTerm) × (p : ℕ) × (sub (state_of self.old).term (place_of at.now) ≡ Some x)
+            × Fits self.old.grove.spec x p × Fits self.old.grove.spec t.now p }
+        ensures state { IfOk result (λ _. state_of self.new ≡ replaced self.old.grove.spec self.old.height
+            (place_of at.now) t.now select.now (state_of self.old)) }
+        ensures evaluated { IfOk result (λ _. GainedAll self.new.grove self.new.root
+            (put (state_of self.old).term (place_of at.now) t.now)
+            (IsEvaluated self.old.grove.spec (state_of self.old).term (place_of at.now) t.now)
+            (now_of journal.old) (now_of journal.new)) }
+        ensures size { (c : Counts) → IsErrOf result (BufferFault.Size c)
+            → (IsSmall (put (state_of self.old).term (place_of at.now) t.now) → ⊥)
+            × AreCounts (put (state_of self.old).term (place_of at.now) t.now) c }
+        ensures large { (IsSmall (put (state_of self.old).term (place_of at.now) t.now) → ⊥)
+            → IsErrAnd result (λ e. (c : Counts) × (e ≡ BufferFault.Size c)) }
+        ensures refused { (c : Counts) → IsErrOf result (BufferFault.Size c)
+            → (self.new ≡ self.old) × (now_of journal.new ≡ now_of journal.old) }
+        ensures as_before { IsErrOf result BufferFault.NoMemory → IsAsBefore self.old self.new }
+        ensures noted { IsErrOf result BufferFault.NoMemory → Noted self.old.grove.spec
+            (put (state_of self.old).term (place_of at.now) t.now)
+            (IsEvaluated self.old.grove.spec (state_of self.old).term (place_of at.now) t.now)
+            (now_of journal.old) (now_of journal.new) }
+        ensures spec { self.new.grove.spec ≡ self.old.grove.spec }
+        ensures height { self.new.height ≡ self.old.height }
+        ensures total { total_of journal.new ≡ total_of journal.old }
+    {
+        let n = node_at(&self.terms, self.root, at);
+        match counts_replaced(&self.terms, n, self.nodes, &counts(t)) {
+            Ok(nodes) => Ok(self.put_in(at, n, t, nodes, select, plans, ev, journal)?),
+            Err(size) => Err(BufferFault::Size(size)),
+        }
+    }
+
+    // puts a term in the place of a node, where the whole term is in the limits and has so many nodes
+    fn put_in(
+        &mut self,
+        at: &Path,
+        n: NodeId,
+        t: &Term,
+        known: usize,
+        select: &Selection,
+        plans: &Plans,
+        ev: &Evaluator,
+        journal: &mut Journal,
+    ) -> Result<(), NoMemory>
+        requires valid { AreValid (rules_of self.old.grove.spec) plans.now }
+        requires same { ev.now ≡ self.old.grove.spec }
+        requires fits { (x : IsTerm) × (p : ℕ) × (sub (state_of self.old).term (place_of at.now) ≡ Some x)
+            × Fits self.old.grove.spec x p × Fits self.old.grove.spec t.now p }
+        requires there { Climbs (nodes self.old.grove) (place_of at.now) n self.old.root }
+        requires small { IsSmall (put (state_of self.old).term (place_of at.now) t.now) }
+        requires known { known ≡ nodes_of (put (state_of self.old).term (place_of at.now) t.now) }
+        ensures state { IfOk result (λ _. state_of self.new ≡ replaced self.old.grove.spec self.old.height
+            (place_of at.now) t.now select.now (state_of self.old)) }
+        ensures evaluated { IfOk result (λ _. GainedAll self.new.grove self.new.root
+            (put (state_of self.old).term (place_of at.now) t.now)
+            (IsEvaluated self.old.grove.spec (state_of self.old).term (place_of at.now) t.now)
+            (now_of journal.old) (now_of journal.new)) }
+        ensures as_before { OnErr result (IsAsBefore self.old self.new) }
+        ensures noted { OnErr result (Noted self.old.grove.spec
+            (put (state_of self.old).term (place_of at.now) t.now)
+            (IsEvaluated self.old.grove.spec (state_of self.old).term (place_of at.now) t.now)
+            (now_of journal.old) (now_of journal.new)) }
+        ensures spec { self.new.grove.spec ≡ self.old.grove.spec }
+        ensures height { self.new.height ≡ self.old.height }
+        ensures total { total_of journal.new ≡ total_of journal.old }
+    {
+        let before = spot_at(self.alloc, &self.terms, self.selected, self.count, self.top)?;
+        let path = at.copy(self.alloc)?;
+        let placed = put_term(
+            self.alloc,
+            &mut self.terms,
+            self.root,
+            n,
+            t,
+            select,
+            self.height,
+            self.top,
+            plans,
+            ev,
+            journal,
+        )?;
+        self.terms.facts();
+        self.root = placed.root;
+        self.selected = placed.look.selected;
+        self.count = placed.look.spot.selection.count;
+        self.top = placed.look.spot.top;
+        self.page = placed.look.page;
+        let change = Step::replaced(path, n, before, placed.look.spot);
+        remember(&mut self.terms, &mut self.history, change);
+        self.terms.facts();
+        self.nodes = known;
+        self.capture = None;
+        Ok(())
+    }
+
+    /// Undoes the newest change: the old subterm or marks, the selection and the window's first line are back. No text is
+    /// being typed. False exactly where there is no change to undo, and nothing changes then. Without memory nothing changes
+    /// but the pool, and some of the equations may be evaluated.
+    pub fn undo(
+        &mut self,
+        plans: &Plans,
+        ev: &Evaluator,
+        journal: &mut Journal,
+    ) -> Result<bool, NoMemory>
+        requires none { self.old.capture ≡ None }
+        requires valid { AreValid (rules_of self.old.grove.spec) plans.now }
+        requires same { ev.now ≡ self.old.grove.spec }
+        ensures nothing { IfOk result (λ r. (r ≡ false) ↔ ((state_of self.old).past ≡ [])) }
+        ensures refused { IfOk result (λ r. r ≡ false → (self.new ≡ self.old)
+            × (now_of journal.new ≡ now_of journal.old)) }
+        ensures done { IfOk result (λ r. r ≡ true → state_of self.new ≡ states.undone (state_of self.old)) }
+        ensures evaluated { IfOk result (λ r. r ≡ true → OfFirst (state_of self.old).past
+            (GainedBack self.old.grove.spec (state_of self.old).term (now_of journal.old) (now_of journal.new)
+            self.new.grove self.new.root)) }
+        ensures as_before { OnErr result (IsAsBefore self.old self.new) }
+        ensures noted { OnErr result (OfFirst (state_of self.old).past (NotedBack self.old.grove.spec
+            (state_of self.old).term (now_of journal.old) (now_of journal.new))) }
+        ensures spec { self.new.grove.spec ≡ self.old.grove.spec }
+        ensures height { self.new.height ≡ self.old.height }
+        ensures total { total_of journal.new ≡ total_of journal.old }
+    {
+        let Some(step) = self.history.peek_back() else {
+            return Ok(false);
+        };
+        let undone = step_back(
+            self.alloc,
+            &mut self.terms,
+            self.root,
+            step,
+            self.height,
+            self.nodes,
+            plans,
+            ev,
+            journal,
+        )?;
+        self.terms.facts();
+        put_forth(&mut self.history, undone.out);
+        self.nodes = undone.nodes;
+        self.root = undone.turned.root;
+        self.selected = undone.turned.look.selected;
+        self.count = undone.turned.look.spot.selection.count;
+        self.top = undone.turned.look.spot.top;
+        self.page = undone.turned.look.page;
+        Ok(true)
+    }
+
+    /// Does the next change of the future again: its new subterm or marks, the selection and the window's first line
+    /// after it are back. No text is being typed. False exactly where there is no change to do again, and nothing changes
+    /// then. Without memory nothing changes but the pool, and some of the equations may be evaluated.
+    pub fn redo(
+        &mut self,
+        plans: &Plans,
+        ev: &Evaluator,
+        journal: &mut Journal,
+    ) -> Result<bool, NoMemory>
+        requires none { self.old.capture ≡ None }
+        requires valid { AreValid (rules_of self.old.grove.spec) plans.now }
+        requires same { ev.now ≡ self.old.grove.spec }
+        ensures nothing { IfOk result (λ r. (r ≡ false) ↔ ((state_of self.old).future ≡ [])) }
+        ensures refused { IfOk result (λ r. r ≡ false → (self.new ≡ self.old)
+            × (now_of journal.new ≡ now_of journal.old)) }
+        ensures done { IfOk result (λ r. r ≡ true → state_of self.new ≡ states.redone (state_of self.old)) }
+        ensures evaluated { IfOk result (λ r. r ≡ true → OfFirst (state_of self.old).future
+            (GainedForth self.old.grove.spec (state_of self.old).term (now_of journal.old) (now_of journal.new)
+            self.new.grove self.new.root)) }
+        ensures as_before { OnErr result (IsAsBefore self.old self.new) }
+        ensures noted { OnErr result (OfFirst (state_of self.old).future (NotedForth self.old.grove.spec
+            (state_of self.old).term (now_of journal.old) (now_of journal.new))) }
+        ensures spec { self.new.grove.spec ≡ self.old.grove.spec }
+        ensures height { self.new.height ≡ self.old.height }
+        ensures total { total_of journal.new ≡ total_of journal.old }
+    {
+        let Some(step) = self.history.peek_forth() else {
+            return Ok(false);
+        };
+        let redone = step_forth(
+            self.alloc,
+            &mut self.terms,
+            self.root,
+            step,
+            self.height,
+            self.nodes,
+            plans,
+            ev,
+            journal,
+        )?;
+        self.terms.facts();
+        put_back(&mut self.history, redone.out);
+        self.nodes = redone.nodes;
+        self.root = redone.turned.root;
+        self.selected = redone.turned.look.selected;
+        self.count = redone.turned.look.spot.selection.count;
+        self.top = redone.turned.look.spot.top;
+        self.page = redone.turned.look.page;
+        Ok(true)
+    }
+}

@@ -1,0 +1,14 @@
+pub mod Free
+pub mod Times
+pub mod Trees
+pub mod Gaining
+pub mod Swaps
+pub mod Turning
+pub mod Values
+pub mod Dropping
+pub mod Putting
+pub mod Turnable
+pub mod Hanging
+pub mod Placing
+pub mod Stepping
+mod Worked

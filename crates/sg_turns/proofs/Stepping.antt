@@ -1,0 +1,190 @@
+-- Steps that are undone or done again.
+use Rattle.std.specs.Prelude.{◌≡◌, ◌≢◌, refl, ℕ, ◌+◌, ◌-◌, ◌^◌, ◌<◌, ◌≤◌, min, List, [], ◌∷◌, ◌++◌, Option, None, Some, IsSome, option_map, option_and_then, ⊤}
+use Rattle.std.proofs.Common.{sym, ap, ◌∙◌, subst, arith}
+use Rattle.std.proofs.lemmas.Option.{none-some, same_Some}
+use Rattle.sg_kinds.specs.Terms.{Term, Leaf, Node, nodes_of}
+use Rattle.sg_kinds.specs.Fits.{Fits}
+use Rattle.sg_kinds.specs.Sound.{IsSmall}
+use Rattle.sg_kinds.specs.Places.{Place, place_of, put, sub}
+use Rattle.sg_forest.specs.declared.node_id.NodeId.{NodeId}
+use Rattle.sg_forest.specs.Node as forest
+use Rattle.sg_forest.specs.Trees.{Climbs, IsLive, IsRoot}
+use Rattle.sg_forest.proofs.Paths.{root_is_live}
+use Rattle.sg_groves.specs.declared.kind.Kind.{Kind}
+use Rattle.sg_groves.specs.declared.part.Part.{Part}
+use Rattle.sg_groves.specs.Grove.{Grove, nodes, IsGrove}
+use Rattle.sg_groves.specs.Holds.{Holds}
+use Rattle.sg_groves.specs.TermAt.{term_at}
+use Rattle.sg_groves.proofs.Held.{held_at, held_fits, node_held, part_held}
+use Rattle.sg_groves.proofs.Ways.{one_node}
+use Rattle.sg_terms.specs.Told.{op_of}
+use Rattle.sg_terms.proofs.Holding.{op_told}
+use Rattle.sg_build.specs.Counted.{AreCounts}
+use Rattle.sg_build.specs.declared.limits.Counts.{Counts}
+use Rattle.sg_build.proofs.Counted.{nodes_put}
+use Rattle.sg_build.proofs.Placed.{part_nodes}
+use Rattle.sg_build.proofs.Roots.{one_phylum}
+use Rattle.sg_changes.specs.Changes.{Change, marked, marks_at, marks_of, part_of, redone, undone, before_of, after_of}
+use Rattle.sg_changes.specs.Told.{HoldsPart, future_change, hanging, hung, past_change}
+use Rattle.sg_changes.specs.declared.spot.Spot.{Spot}
+use Rattle.sg_changes.specs.declared.step.Marks.{Marks}
+use Rattle.sg_changes.specs.declared.step.Step.{Step}
+use Rattle.sg_changes.specs.declared.step.Step.TheVariants.{Replaced, Marked}
+use Rattle.sg_select.specs.Leads.{LeadsTo}
+use Rattle.sg_select.specs.Paths.{there}
+use Rattle.sg_states.specs.Paged.{IsWhole}
+use Rattle.sg_turns.specs.Stepped.{MayStep, redoing, seen_after, seen_before, step_place, undoing}
+use Rattle.sg_turns.specs.Turns.{MayTurn, comes_out, ComesOut, goes_in, made}
+use Rattle.sg_turns.specs.declared.turns.What.{What}
+use Rattle.sg_turns.specs.declared.turns.What.TheVariants.{Tree, Shown}
+use Rattle.sg_turns.proofs.Trees.{holds_at}
+use Rattle.sg_turns.proofs.Values.{nodes_marked}
+
+abbrev TheNode : Type 0
+TheNode = forest.Node Kind Part
+
+-- a path that leads to a node
+leads_by : (g : Grove) (root : NodeId) (t x : Term) (u : Place) (o : Option NodeId) → sub t u ≡ Some x → LeadsTo g root (there t u) o → LeadsTo g root (Some u) o
+leads_by g root t x u o at leads = subst (λ z. LeadsTo g root z o) (ap (option_map (λ _. u)) at) leads
+
+pub some_node : (g : Grove) (root : NodeId) (t x : Term) (u : Place) (o : Option NodeId) → sub t u ≡ Some x → LeadsTo g root (there t u) o → IsSome o
+some_node g root t x u o at leads = by o (leads_by g root t x u o at leads)
+  where
+    by : (p : Option NodeId) → LeadsTo g root (Some u) p → IsSome p
+    by None h = absurd h
+    by (Some m) h = refl
+
+pub the_node : (g : Grove) (root m : NodeId) (t x : Term) (u : Place) (o : Option NodeId) → sub t u ≡ Some x → LeadsTo g root (there t u) o → o ≡ Some m → Climbs (nodes g) u m root
+the_node g root m t x u o at leads same = subst (LeadsTo g root (Some u)) same (leads_by g root t x u o at leads)
+
+-- the node at the place of a step
+module _ (g : Grove) (is : IsGrove g) (root : NodeId) (t : Term) (u : Place) (what : What) (count : ℕ) (may : MayStep g root t u what count) where
+  pub place_there : (s : Term) × (x : Term) × Holds g root s × (sub s u ≡ Some x)
+  place_there = (let part = part_held g is u may.at root t may.may.way may.may.whole.holds in (t, part.0, may.may.whole.holds, part.2))
+
+  pub may_here : (n : NodeId) → Climbs (nodes g) u n root → MayTurn g root n what t u
+  may_here n way = subst (λ m. MayTurn g root m what t u) (one_node g is u may.at n root may.may.way way) may.may
+
+-- how many nodes the term has then
+module _ (g : Grove) (is : IsGrove g) (root at : NodeId) (t : Term) (u : Place) where
+  pub turned_live : (what : What) → MayTurn g root at what t u → IsLive (nodes g) at
+  turned_live what may = by u may.way
+    where
+      by : (w : Place) → Climbs (nodes g) w at root → IsLive (nodes g) at
+      by [] e = subst (IsLive (nodes g)) (sym e) (root_is_live (nodes g) root may.whole.top)
+      by (k ∷ w) c = record { node = c.1.node; found = c.1.found }
+
+  pub tree_live : (d : NodeId) → MayTurn g root at (Tree d) t u → IsLive (nodes g) d
+  tree_live d may = root_is_live (nodes g) d may.may.0
+
+  pub nodes_turned : (d : NodeId) (nodes rest then : ℕ) (a b : Counts) → MayTurn g root at (Tree d) t u → nodes ≡ nodes_of t → IsSmall t → IsSmall (put t u (term_at g d))
+      → ((x : Term) → Holds g at x → AreCounts x a) → ((x : Term) → Holds g d x → AreCounts x b) → rest ≡ nodes - a.nodes → then ≡ min (rest + b.nodes) 18446744073709551615 → then ≡ nodes_of (put t u (term_at g d))
+  nodes_turned d nodes rest then a b may counted small after was comes less more =
+      let part = part_held g is u at root t may.way may.whole.holds in
+      let whole = nodes_put t u part.0 (term_at g d) part.2 in
+      let fewer = part_nodes t u part.0 part.2 in
+      let one = (was part.0 part.1).nodes in
+      let two = (comes (term_at g d) (holds_at g is d (tree_live d may))).nodes in
+      sums nodes rest then a.nodes b.nodes (nodes_of t) (nodes_of part.0) (nodes_of (term_at g d)) (nodes_of (put t u (term_at g d))) counted small.0 after.0 whole fewer one two less more
+    where
+      sums : (nodes rest then a b t x s p : ℕ) → nodes ≡ t → t ≤ 65536 → p ≤ 65536 → p + x ≡ t + s → x ≤ t → a ≡ min x (2 ^ 64 - 1) → b ≡ min s (2 ^ 64 - 1) → rest ≡ nodes - a → then ≡ min (rest + b) 18446744073709551615 → then ≡ p
+      sums nodes rest then a b t x s p counted small after whole fewer one two less more = omega (arith, counted, small, after, whole, fewer, one, two, less, more)
+
+  pub nodes_remarked : (m : Marks) (nodes : ℕ) → MayTurn g root at (Shown m) t u → nodes ≡ nodes_of t → nodes ≡ nodes_of (marked t u m)
+  nodes_remarked m nodes may counted =
+      let part = part_held g is u at root t may.way may.whole.holds in
+      counted ∙ sym (nodes_marked t u part.0 m part.2)
+
+-- a tree may come for a subterm, and marks for others
+module _ (g : Grove) (is : IsGrove g) (root : NodeId) (t : Term) (u : Place) (count : ℕ) (whole : IsWhole g root t) (fits : Fits g.spec t g.spec.root) (counted : count ≡ nodes_of t) (small : IsSmall t) where
+  pub may_swap : (d : NodeId) (x : Term) (p : ℕ) → IsRoot (nodes g) d → d ≢ root → sub t u ≡ Some x → Fits g.spec x p → Fits g.spec (term_at g d) p → IsSmall (put t u (term_at g d)) → MayStep g root t u (Tree d) count
+  may_swap d x p top apart at stood comes after =
+      let node = node_held g is u root t x whole.holds at in
+      record {
+        at = node.0;
+        may = record {
+          whole = whole;
+          fits = fits;
+          way = node.1;
+          may = (
+            top,
+            apart,
+            (λ y z there built.
+                one_phylum g.spec x y.label.phylum p (held_fits g is node.0 y x there node.2) stood
+                ∙ one_phylum g.spec (term_at g d) p z.label.phylum comes (held_fits g is d z (term_at g d) built (holds_at g is d (root_is_live (nodes g) d top)))),
+          );
+        };
+        counted = counted;
+        small = small;
+        after = after;
+      }
+
+  marks_there : (was : Marks) → marks_at t u ≡ Some was → (x : Term) × (sub t u ≡ Some x) × (marks_of x ≡ Some was)
+  marks_there was at = by (sub t u) at
+    where
+      by : (o : Option Term) → option_and_then marks_of o ≡ Some was → (x : Term) × (o ≡ Some x) × (marks_of x ≡ Some was)
+      by None h = absurd (none-some was h)
+      by (Some x) h = (x, refl, h)
+
+  an_operator : (x : Term) (was : Marks) → marks_of x ≡ Some was → op_of x ≢ None
+  an_operator (Leaf p v) was at none = none-some was at
+  an_operator (Node op scheme elided ts) was at none = none-some op (sym none)
+
+  pub may_mark : (was m : Marks) → marks_at t u ≡ Some was → m.scheme < 16 → IsSmall (marked t u m) → MayStep g root t u (Shown m) count
+  may_mark was m at low after =
+      let there = marks_there was at in
+      let node = node_held g is u root t there.0 whole.holds there.1 in
+      record {
+        at = node.0;
+        may = record {
+          whole = whole;
+          fits = fits;
+          way = node.1;
+          may = ((λ x found none. an_operator there.0 was there.2 (sym (op_told g is node.0 x found there.0 node.2) ∙ none)), low);
+        };
+        counted = counted;
+        small = small;
+        after = after;
+      }
+
+-- what a step is undone and done again by
+module _ (tree : NodeId → Term) (t : Term) where
+  pub made_before : (s : Step) → made tree t (step_place s) (undoing s) ≡ undone t (past_change tree t s)
+  made_before (Replaced path hangs before after) = refl
+  made_before (Marked path old new before after) = refl
+
+  pub made_after : (s : Step) → made tree t (step_place s) (redoing s) ≡ redone t (future_change tree t s)
+  made_after (Replaced path hangs before after) = refl
+  made_after (Marked path old new before after) = refl
+
+  pub spot_before : (s : Step) → seen_before s ≡ before_of (past_change tree t s)
+  spot_before (Replaced path hangs before after) = refl
+  spot_before (Marked path old new before after) = refl
+
+  pub spot_after : (s : Step) → seen_after s ≡ after_of (future_change tree t s)
+  spot_after (Replaced path hangs before after) = refl
+  spot_after (Marked path old new before after) = refl
+
+pub in_before : (s : Step) → goes_in (undoing s) ≡ hanging s
+in_before (Replaced path hangs before after) = refl
+in_before (Marked path old new before after) = refl
+
+pub in_after : (s : Step) → goes_in (redoing s) ≡ hanging s
+in_after (Replaced path hangs before after) = refl
+in_after (Marked path old new before after) = refl
+
+pub out_before : (s : Step) (n : NodeId) → comes_out (undoing s) n ≡ hanging (hung s n)
+out_before (Replaced path hangs before after) n = refl
+out_before (Marked path old new before after) n = refl
+
+pub out_after : (s : Step) (n : NodeId) → comes_out (redoing s) n ≡ hanging (hung s n)
+out_after (Replaced path hangs before after) n = refl
+out_after (Marked path old new before after) n = refl
+
+pub part_before : (g : Grove) → IsGrove g → (t : Term) (s : Step) (n : NodeId) → ComesOut g n (undoing s) (part_of t (step_place s)) → HoldsPart (term_at g) t s n
+part_before g is t (Replaced path hangs before after) n holds = held_at g is n (part_of t (place_of path)) holds
+part_before g is t (Marked path old new before after) n holds = tt
+
+pub part_after : (g : Grove) → IsGrove g → (t : Term) (s : Step) (n : NodeId) → ComesOut g n (redoing s) (part_of t (step_place s)) → HoldsPart (term_at g) t s n
+part_after g is t (Replaced path hangs before after) n holds = held_at g is n (part_of t (place_of path)) holds
+part_after g is t (Marked path old new before after) n holds = tt

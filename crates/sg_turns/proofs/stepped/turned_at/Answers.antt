@@ -1,0 +1,36 @@
+use Rattle.sg_kinds.specs.Places.{place_of}
+use Rattle.sg_turns.proofs.Stepping.{may_here, place_there}
+use Rattle.sg_turns.proofs.stepped.turned_at.Goals as goal
+
+pub node_at-out-requires-clause-there : goal.node_at-out-requires-clause-there
+node_at-out-requires-clause-there c = place_there c.args.terms.now c.facts.ensures c.args.root c.requires.may.0 (place_of c.args.path.now) c.args.what c.args.known c.requires.may.1
+
+pub nodes_after-nodes-requires : goal.nodes_after-nodes-requires
+nodes_after-nodes-requires c =
+    let u = place_of c.args.path.now in
+    (c.args.root, c.requires.may.0, u, may_here c.args.terms.now c.facts.ensures c.args.root c.requires.may.0 u c.args.what c.args.known c.requires.may.1 c.node_at-out.result c.node_at-out.ensures)
+
+pub turn-requires-clause-may : goal.turn-requires-clause-may
+turn-requires-clause-may c =
+    let u = place_of c.args.path.now in
+    (c.requires.may.0, u, may_here c.args.terms.now c.facts.ensures c.args.root c.requires.may.0 u c.args.what c.args.known c.requires.may.1 c.node_at-out.result c.node_at-out.ensures)
+
+pub returns-in-Ok-clause-stepped : goal.returns-in-Ok-clause-stepped
+returns-in-Ok-clause-stepped c = λ t may.
+    let u = place_of c.args.path.now in
+    let here = may_here c.args.terms.now c.facts.ensures c.args.root t u c.args.what c.args.known may c.node_at-out.result c.node_at-out.ensures in
+    record {
+      way = c.node_at-out.ensures;
+      turned = c.in-Ok.ensures.turned t u here;
+      counted = c.nodes_after-nodes.ensures c.args.root t u here may.counted may.small may.after;
+    }
+
+pub returns-in-Ok-clause-noted : goal.returns-in-Ok-clause-noted
+returns-in-Ok-clause-noted c = λ t may.
+    let u = place_of c.args.path.now in
+    c.in-Ok.ensures.noted t u (may_here c.args.terms.now c.facts.ensures c.args.root t u c.args.what c.args.known may c.node_at-out.result c.node_at-out.ensures)
+
+pub returns-in-Err-clause-some : goal.returns-in-Err-clause-some
+returns-in-Err-clause-some c = λ t may.
+    let u = place_of c.args.path.now in
+    c.in-Err.ensures.some t u (may_here c.args.terms.now c.facts.ensures c.args.root t u c.args.what c.args.known may c.node_at-out.result c.node_at-out.ensures)

@@ -1,0 +1,5 @@
+pub mod Roots
+pub mod Noted
+pub mod Turns
+pub mod Puts
+pub mod Stepped

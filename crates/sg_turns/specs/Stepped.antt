@@ -1,0 +1,53 @@
+-- What it is to undo a step, or to do it again.
+use Rattle.std.specs.Prelude.{◌≡◌, ℕ, List}
+use Rattle.sg_kinds.specs.Terms.{Term, nodes_of}
+use Rattle.sg_kinds.specs.Sound.{IsSmall}
+use Rattle.sg_kinds.specs.Places.{Place, place_of}
+use Rattle.sg_forest.specs.declared.node_id.NodeId.{NodeId}
+use Rattle.sg_forest.specs.Trees.{Climbs}
+use Rattle.sg_groves.specs.Grove.{Grove, nodes}
+use Rattle.sg_groves.specs.TermAt.{term_at}
+use Rattle.sg_changes.specs.declared.spot.Spot.{Spot}
+use Rattle.sg_changes.specs.declared.step.Step.{Step}
+use Rattle.sg_changes.specs.declared.step.Step.TheVariants.{Replaced, Marked}
+use Rattle.sg_turns.specs.Turns.{MayTurn, IsTurned, made}
+use Rattle.sg_turns.specs.declared.turns.What.{What}
+use Rattle.sg_turns.specs.declared.turns.What.TheVariants.{Tree, Shown}
+use Rattle.sg_turns.specs.declared.stepped.Stepped.{Stepped}
+
+-- the place of a step
+abbrev pub step_place : Step → Place
+step_place (Replaced path hangs before after) = place_of path
+step_place (Marked path old new before after) = place_of path
+
+-- what comes there where it is undone, and where it is done again
+abbrev pub undoing : Step → What
+undoing (Replaced path hangs before after) = Tree hangs
+undoing (Marked path old new before after) = Shown old
+
+abbrev pub redoing : Step → What
+redoing (Replaced path hangs before after) = Tree hangs
+redoing (Marked path old new before after) = Shown new
+
+-- what was selected and seen before it, and after it
+abbrev pub seen_before : Step → Spot
+seen_before (Replaced path hangs before after) = before
+seen_before (Marked path old new before after) = before
+
+abbrev pub seen_after : Step → Spot
+seen_after (Replaced path hangs before after) = after
+seen_after (Marked path old new before after) = after
+
+-- it may come into that place of the edited term, whose nodes are counted, and the term then is in the limits
+pub record MayStep (g : Grove) (root : NodeId) (t : Term) (u : Place) (what : What) (count : ℕ) : Type 0 where
+  pub at : NodeId
+  pub may : MayTurn g root at what t u
+  pub counted : count ≡ nodes_of t
+  pub small : IsSmall t
+  pub after : IsSmall (made (term_at g) t u what)
+
+-- it came there, and the nodes are counted again
+pub record IsStepped (old new : Grove) (root : NodeId) (t : Term) (u : Place) (what : What) (height : ℕ) (spot : Spot) (r : Stepped) : Type 0 where
+  pub way : Climbs (nodes old) u r.out root
+  pub turned : IsTurned old new root r.out what t u height spot.selection spot.top r.turned
+  pub counted : r.nodes ≡ nodes_of (made (term_at old) t u what)

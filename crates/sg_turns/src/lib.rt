@@ -1,0 +1,15 @@
+//! Turns of a term: another tree in the place of a node, or other marks, with what is seen then, and the steps that are
+//! remembered of them.
+#![tactic(auto)]
+
+mod marks;
+mod puts;
+mod stepped;
+mod steps;
+mod turns;
+
+pub use marks::{Remark, turned_marks};
+pub use puts::{node_at, put_term, spot_at};
+pub use stepped::{Stepped, step_back, step_forth};
+pub use steps::{put_back, put_forth, remember};
+pub use turns::{Turned, What, remarked, turn};

@@ -1,0 +1,106 @@
+//! A term in the place of a node, and what is selected and seen before it comes there.
+ghost use Rattle.std.specs.Prelude.{◌≡◌, ◌<◌, Some, IfOk, OnErr};
+ghost use Rattle.sg_kinds.specs.Places.{Place, place_of, put, sub};
+ghost use Rattle.sg_kinds.specs.Specification.{rules_of};
+ghost use Rattle.sg_kinds.specs.Terms.{Term as IsTerm};
+ghost use Rattle.sg_kinds.specs.ValidPlans.{AreValid};
+ghost use Rattle.sg_pool.specs.Pools.{IsGrown};
+ghost use Rattle.sg_eval.specs.Journal.{now_of, total_of};
+ghost use Rattle.sg_forest.specs.Trees.{Climbs, IsLive, IsRoot};
+ghost use Rattle.sg_groves.specs.Evaluated.{IsEvaluated};
+ghost use Rattle.sg_groves.specs.Grove.{nodes};
+ghost use Rattle.sg_groves.specs.Holds.{Holds, IsPlaced};
+ghost use Rattle.sg_terms.specs.Entries.{GainedAll};
+ghost use Rattle.sg_states.specs.Selections.{path_to};
+ghost use Rattle.sg_turns.specs.Noted.{Noted};
+ghost use Rattle.sg_turns.specs.Puts.{IsPut, MayPut};
+
+use crate::turns::{Turned, exchanged};
+use sg_build::build;
+use sg_changes::{Selection, Spot};
+use sg_eval::{Evaluator, Journal};
+use sg_forest::NodeId;
+use sg_kinds::memory::NoMemory;
+use sg_kinds::plans::Plans;
+use sg_kinds::row::Path;
+use sg_kinds::term::Term;
+use sg_select::{node_along, path_of};
+use sg_terms::Terms;
+use std::alloc::Global;
+
+/// The node at a path of the term that a root holds. The term has that place.
+pub fn node_at(terms: &Terms, root: NodeId, path: &Path) -> NodeId
+    requires root { IsRoot (nodes terms.now) root }
+    requires there { (t : IsTerm) × (x : IsTerm) × Holds terms.now root t × (sub t (place_of path.now) ≡ Some x) }
+    ensures { Climbs (nodes terms.now) (place_of path.now) result root }
+{
+    node_along(terms, root, path.as_slice()).unwrap()
+}
+
+/// A spot: so many nodes from a node on, in a window from a line on.
+pub fn spot_at(
+    alloc: Global,
+    terms: &Terms,
+    n: NodeId,
+    count: usize,
+    top: usize,
+) -> Result<Spot, NoMemory>
+    requires { IsLive (nodes terms.now) n }
+    ensures { IfOk result (λ s. (root : _) (t : IsTerm) (u : Place) → IsPlaced terms.now root t u n
+        → s ≡ record { selection = record { path = path_to u; count = count }; top = top }) }
+{
+    let path = path_of(alloc, terms, n)?;
+    Ok(Spot {
+        selection: Selection { path, count },
+        top,
+    })
+}
+
+/// Puts a term in the place of a node of the edited term, where the whole stays in the limits, and looks at it then; the
+/// subtree that stood there hangs. Where memory is wanting each node is as before, and only the pool and the journal may
+/// have grown.
+pub fn put_term(
+    alloc: Global,
+    terms: &mut Terms,
+    root: NodeId,
+    at: NodeId,
+    t: &Term,
+    select: &Selection,
+    height: usize,
+    top: usize,
+    plans: &Plans,
+    ev: &Evaluator,
+    journal: &mut Journal,
+) -> Result<Turned, NoMemory>
+    requires valid { AreValid (rules_of terms.old.spec) plans.now }
+    requires same { ev.now ≡ terms.old.spec }
+    requires tall { 0 < height }
+    requires may { (whole : IsTerm) × (u : Place) × MayPut terms.old root at whole u t.now }
+    ensures put { (whole : IsTerm) (u : Place) → MayPut terms.old root at whole u t.now → IfOk result
+        (IsPut terms.old terms.new root at whole u t.now height select.now top) }
+    ensures noted { (whole : IsTerm) (u : Place) → MayPut terms.old root at whole u t.now → IfOk result (λ r.
+        GainedAll terms.new r.root (put whole u t.now) (IsEvaluated terms.old.spec whole u t.now)
+        (now_of journal.old) (now_of journal.new)) }
+    ensures some { (whole : IsTerm) (u : Place) → MayPut terms.old root at whole u t.now → OnErr result
+        (Noted terms.old.spec (put whole u t.now) (IsEvaluated terms.old.spec whole u t.now)
+        (now_of journal.old) (now_of journal.new)) }
+    ensures as_before { OnErr result ((n : _) → nodes terms.new n ≡ nodes terms.old n) }
+    ensures spec { terms.new.spec ≡ terms.old.spec }
+    ensures grown { IsGrown terms.old.pool terms.new.pool }
+    ensures total { total_of journal.new ≡ total_of journal.old }
+{
+    terms.facts();
+    let Ok(built) = build(alloc, terms, t) else {
+        return Err(NoMemory);
+    };
+    terms.facts();
+    match exchanged(
+        alloc, terms, root, at, built, select, height, top, plans, ev, journal,
+    ) {
+        Ok(turned) => Ok(turned),
+        Err(e) => {
+            terms.drop_tree(built);
+            Err(e)
+        }
+    }
+}
