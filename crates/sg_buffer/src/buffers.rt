@@ -23,7 +23,6 @@ ghost use Rattle.sg_buffer.specs.Buffers.{StandsFor};
 ghost use Rattle.sg_turns.specs.Noted.{Noted};
 
 use crate::fault::BufferFault;
-use crate::fresh::{attributed, within};
 use crate::typing::{erased, typed};
 use sg_build::Counts;
 use sg_changes::{Capture, Step};
@@ -37,6 +36,7 @@ use sg_kinds::term::Term;
 use sg_select::{at_cell, elements_from, path_of, settle, spine_of};
 use sg_states::{Extended, Move, page_of, page_with, target, top_at};
 use sg_terms::Terms;
+use sg_turns::{begin, within};
 use sg_undo::History;
 use sg_unparse::Page;
 use std::alloc::Global;
@@ -129,56 +129,26 @@ impl Buffer {
             (Contains (instances (rules_of spec.now) t.now)) (now_of journal.old) (now_of journal.new) }
         ensures total { total_of journal.new ≡ total_of journal.old }
     {
-        match within(t) {
-            Ok(nodes) => Ok(Buffer::of_small(alloc, spec, t, nodes, height, plans, ev, journal)?),
-            Err(size) => Err(BufferFault::Size(size)),
+        let nodes = match within(t) {
+            Ok(nodes) => nodes,
+            Err(size) => return Err(BufferFault::Size(size)),
+        };
+        match begin(alloc, spec, t, STEPS, plans, ev, journal) {
+            Ok(fresh) => Ok(Buffer {
+                alloc,
+                terms: fresh.terms,
+                root: fresh.root,
+                selected: fresh.root,
+                count: 1,
+                top: 1,
+                height,
+                nodes,
+                history: fresh.history,
+                capture: None,
+                page: fresh.page,
+            }),
+            Err(_) => Err(BufferFault::NoMemory),
         }
-    }
-
-    // the same of a term in the limits, of so many nodes
-    fn of_small(
-        alloc: Global,
-        spec: &Spec,
-        t: &Term,
-        nodes: usize,
-        height: usize,
-        plans: &Plans,
-        ev: &Evaluator,
-        journal: &mut Journal,
-    ) -> Result<Buffer, NoMemory>
-        requires sound { IsSound spec.now }
-        requires valid { AreValid (rules_of spec.now) plans.now }
-        requires same { ev.now ≡ spec.now }
-        requires fits { Fits spec.now t.now spec.now.root }
-        requires small { IsSmall t.now }
-        requires nodes { nodes ≡ nodes_of t.now }
-        requires low { 1 ≤ height }
-        ensures state { IfOk result (λ b. state_of b ≡ begun t.now) }
-        ensures spec { IfOk result (λ b. b.grove.spec ≡ spec.now) }
-        ensures height { IfOk result (λ b. b.height ≡ height) }
-        ensures evaluated { IfOk result (λ b. GainedAll b.grove b.root t.now
-            (Contains (instances (rules_of spec.now) t.now)) (now_of journal.old) (now_of journal.new)) }
-        ensures noted { OnErr result (Noted spec.now t.now (Contains (instances (rules_of spec.now) t.now))
-            (now_of journal.old) (now_of journal.new)) }
-        ensures total { total_of journal.new ≡ total_of journal.old }
-    {
-        let history = History::with_capacity(alloc, STEPS)?;
-        let (terms, root) = attributed(alloc, spec, t, plans, ev, journal)?;
-        let page = page_of(alloc, &terms, root)?;
-        terms.facts();
-        Ok(Buffer {
-            alloc,
-            terms,
-            root,
-            selected: root,
-            count: 1,
-            top: 1,
-            height,
-            nodes,
-            history,
-            capture: None,
-            page,
-        })
     }
 
     /// What stands for the state. This does nothing and tells it.

@@ -4,7 +4,6 @@
 mod buffers;
 mod changes;
 mod fault;
-mod fresh;
 mod typing;
 
 pub use buffers::Buffer;

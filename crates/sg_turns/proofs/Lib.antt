@@ -1,4 +1,5 @@
 pub mod Free
+pub mod Begun
 pub mod Times
 pub mod Trees
 pub mod Gaining

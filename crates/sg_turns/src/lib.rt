@@ -2,12 +2,14 @@
 //! remembered of them.
 #![tactic(auto)]
 
+mod fresh;
 mod marks;
 mod puts;
 mod stepped;
 mod steps;
 mod turns;
 
+pub use fresh::{Fresh, begin, within};
 pub use marks::{Remark, turned_marks};
 pub use puts::{node_at, put_term, spot_at};
 pub use stepped::{Stepped, step_back, step_forth};

@@ -4,8 +4,8 @@ use Rattle.sg_kinds.specs.Fits.{Fits}
 use Rattle.sg_kinds.specs.declared.spec.Spec.{Spec}
 use Rattle.sg_eval.specs.Journal.{now_of}
 use Rattle.sg_turns.proofs.Free.{root_free}
-use Rattle.sg_buffer.proofs.Begun.{evaluated, refused, roots, whole}
-use Rattle.sg_buffer.proofs.fresh.attributed.Goals as goal
+use Rattle.sg_turns.proofs.Begun.{evaluated, refused, roots, whole}
+use Rattle.sg_turns.proofs.fresh.attributed.Goals as goal
 
 pub attribute-requires-clause-root : goal.attribute-requires-clause-root
 attribute-requires-clause-root c = c.in-Ok.ensures.grew.tops 0 c.in-Ok.root refl
