@@ -12,7 +12,7 @@ use Rattle.sg_kinds.specs.declared.fault.PrintedConflict.{PrintedConflict}
 use Rattle.sg_kinds.specs.declared.fault.PrintedVertex.{PrintedVertex}
 use Rattle.sg_kinds.specs.declared.fault.PrintedVertex.TheVariants.{Own, Argument, Local}
 use Rattle.sg_kinds.specs.declared.fault.SpecFault.{SpecFault}
-use Rattle.sg_kinds.specs.declared.fault.SpecFault.TheVariants.{TooLong, Byte, Unclosed, LongNumber, LongName, Syntax, Limit, Duplicate, UnknownName, ResultCount, RootCount, ListShape, OptionalShape, NoCompletion, RootInherits, TwiceBound, Arity, Mismatch, ShownType, NotDefinedHere, Twice, Missing, NoScheme, SchemeKids, SchemeText, PatternForm, EmptyLexeme, EntryTwice, EntryType, Unproductive, States, Conflict, Direct, Induced, Ordered, Unbuilt, NoMemory}
+use Rattle.sg_kinds.specs.declared.fault.SpecFault.TheVariants.{TooLong, Byte, Unclosed, LongNumber, LongName, Syntax, Limit, Duplicate, UnknownName, ResultCount, RootCount, ListShape, OptionalShape, NoCompletion, RootInherits, TwiceBound, Arity, Mismatch, ShownType, NotDefinedHere, Twice, Missing, NoScheme, SchemeKids, SchemeText, PatternForm, EmptyLexeme, EntryTwice, EntryType, Unproductive, States, Conflict, Direct, Induced, Ordered, NoMemory}
 
 -- words, each after a space
 abbrev pub spaced : {X : Type 0} → (X → Bytes) → List X → Bytes
@@ -105,7 +105,6 @@ code_of (Conflict place conflict) = codes "Conflict"
 code_of (Direct place op cycle) = codes "Direct"
 code_of (Induced place op cycle) = codes "Induced"
 code_of (Ordered place op cycle) = codes "Ordered"
-code_of (Unbuilt line) = codes "Unbuilt"
 code_of NoMemory = codes "NoMemory"
 
 -- what is told of a fault besides its code
@@ -145,7 +144,6 @@ detail_of (Conflict place conflict) = line_text place.line ++ 32 ∷ conflict_te
 detail_of (Direct place op cycle) = cycle_text place op cycle
 detail_of (Induced place op cycle) = cycle_text place op cycle
 detail_of (Ordered place op cycle) = cycle_text place op cycle
-detail_of (Unbuilt line) = line_text line
 detail_of NoMemory = []
 
 -- the word `fault`, the code, the detail and a newline

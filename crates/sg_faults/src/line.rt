@@ -49,7 +49,6 @@ fn code(fault: &SpecFault) -> &'static str
         SpecFault::Direct(..) => "Direct",
         SpecFault::Induced(..) => "Induced",
         SpecFault::Ordered(..) => "Ordered",
-        SpecFault::Unbuilt(_) => "Unbuilt",
         SpecFault::NoMemory => "NoMemory",
     }
 }
@@ -63,8 +62,7 @@ fn write_detail(alloc: Global, out: &mut Vec<u8>, fault: &SpecFault) -> Result<(
         | SpecFault::Unclosed(line)
         | SpecFault::LongNumber(line)
         | SpecFault::LongName(line)
-        | SpecFault::Syntax(line)
-        | SpecFault::Unbuilt(line) => write_line(alloc, out, *line),
+        | SpecFault::Syntax(line) => write_line(alloc, out, *line),
         SpecFault::Mismatch(place)
         | SpecFault::ShownType(place)
         | SpecFault::NotDefinedHere(place)

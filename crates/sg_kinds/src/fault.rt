@@ -105,8 +105,6 @@ pub enum SpecFault {
     Direct(Position, Text, Row<PrintedVertex>),
     Induced(Position, Text, Row<PrintedVertex>),
     Ordered(Position, Text, Row<PrintedVertex>),
-    /// the line of the first declaration that is not built yet
-    Unbuilt(u32),
     NoMemory,
 }
 
