@@ -1,0 +1,5 @@
+pub mod Session
+pub mod Ask
+pub mod Screen
+pub mod Editing
+pub mod Steps
