@@ -1,5 +1,5 @@
 -- What an editor keeps, and the session that it stands for.
-use Rattle.std.specs.Prelude.{◌≡◌, ◌≢◌, ◌<◌, ◌≤◌, ℕ, List, map, length, All, AllPairs, slice_get, Option, option_and_then, MatchOption, ⊤}
+use Rattle.std.specs.Prelude.{◌≡◌, ◌<◌, ℕ, List, map, length, All, slice_get, Option, option_and_then, MatchOption, ⊤}
 use Rattle.sg_kinds.specs.Values.{Bytes}
 use Rattle.sg_kinds.specs.declared.spec.Spec.{Spec}
 use Rattle.sg_load.specs.Loaded.{Contents}
@@ -8,6 +8,7 @@ use Rattle.sg_states.specs.States.{State}
 use Rattle.sg_buffer.specs.Held.{Held, state_of}
 use Rattle.sg_commands.specs.Tools.{IsClip}
 use Rattle.sg_commands.specs.Typing.{IsTyping}
+use Rattle.sg_editor.specs.declared.desk.Named.{Named}
 use Rattle.sg_editor.specs.Session.{Session}
 
 -- an accepted specification, and a window
@@ -18,7 +19,7 @@ pub record Setting : Type 0 where
 
 -- the buffers with their names, which of them is current, what was copied last, and how many loads have called the shelf
 pub record Kept : Type 0 where
-  pub buffers : List (Bytes × Held)
+  pub buffers : List Named
   pub current : Option ℕ
   pub clip : Option Clip
   pub loads : ℕ
@@ -37,8 +38,8 @@ abbrev pub height_in : Editing → ℕ
 height_in e = e.setting.height
 
 -- the session: of each buffer its state
-abbrev pub told : Bytes × Held → Bytes × State
-told b = (b.0, state_of b.1)
+abbrev pub told : Named → Bytes × State
+told b = (b.name, state_of b.buffer)
 
 abbrev pub session_in : Kept → Session
 session_in k = record { buffers = map told k.buffers; current = k.current; clip = k.clip; loads = k.loads }
@@ -47,7 +48,7 @@ unfoldable pub session_of : Editing → Session
 session_of e = session_in e.kept
 
 -- the current buffer
-abbrev pub current_in : Kept → Option (Bytes × Held)
+abbrev pub current_in : Kept → Option Named
 current_in k = option_and_then (slice_get k.buffers) k.current
 
 module _ (spec : Spec) (height : ℕ) where
@@ -57,10 +58,8 @@ module _ (spec : Spec) (height : ℕ) where
     pub height_is : b.height ≡ height
     pub typing : IsTyping spec (state_of b)
 
-  -- at most 64 buffers, no two of one name, the current one among them, and a clip that fits its phylum
+  -- all buffers are so, the current one is among them, and what was copied fits its phylum
   pub record IsKept (k : Kept) : Type 0 where
-    pub over : All (λ b. IsOver b.1) k.buffers
-    pub few : length k.buffers ≤ 64
-    pub names : AllPairs (λ a b. a.0 ≢ b.0) k.buffers
+    pub over : All (λ (b : Named). IsOver b.buffer) k.buffers
     pub current : MatchOption k.current ⊤ (λ i. i < length k.buffers)
     pub clip : IsClip spec k.clip

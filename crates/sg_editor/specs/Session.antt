@@ -1,5 +1,5 @@
 -- What a session keeps.
-use Rattle.std.specs.Prelude.{ℕ, List, [], ◌∷◌, ◌++◌, length, bytes_eq, slice_get, slice_set, Option, Some, None, option_and_then}
+use Rattle.std.specs.Prelude.{ℕ, suc, Bool, List, [], ◌∷◌, ◌++◌, length, bytes_eq, slice_get, slice_set, Option, Some, None, option_and_then}
 use Rattle.std.specs.List.{position}
 use Rattle.sg_kinds.specs.Values.{Bytes}
 use Rattle.sg_kinds.specs.Terms.{Term}
@@ -37,3 +37,7 @@ with_buffer name t s = record s {
 -- the buffer at a place in another state
 abbrev pub with_state : ℕ → Bytes → State → Session → Session
 with_state k name st s = record s { buffers = slice_set s.buffers k (name, st) }
+
+-- a load has called the shelf
+abbrev pub with_load : Session → Session
+with_load s = record s { loads = suc s.loads }

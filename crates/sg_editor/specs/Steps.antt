@@ -7,13 +7,13 @@ use Rattle.sg_eval.specs.declared.journal.Instance.{Instance}
 use Rattle.sg_terms.specs.Entries.{GainedAll}
 use Rattle.sg_turns.specs.Noted.{Noted}
 use Rattle.sg_buffer.specs.Held.{term_in}
-use Rattle.sg_replies.specs.Calls.{ShelfState, Served, ServedOrOneMore}
+use Rattle.sg_replies.specs.Calls.{ShelfState, Replied, Unanswered, Served, ServedOrOneMore}
 use Rattle.sg_replies.specs.Requests.{Request, fits}
 use Rattle.sg_replies.specs.declared.reply.Reply.{Reply}
 use Rattle.sg_screen.specs.declared.message.Message.{Message}
 use Rattle.sg_editor.specs.Session.{current_of}
 use Rattle.sg_editor.specs.Ask.{Ask, Step, Tells, Asks}
-use Rattle.sg_editor.specs.Editing.{Editing, session_of, current_in}
+use Rattle.sg_editor.specs.Editing.{Editing, Kept, session_in, session_of, current_in}
 
 -- the request of a command, if it has one
 abbrev pub requests_of : Ask → List Request
@@ -27,14 +27,33 @@ Comes (Asks request next) got step =
     (reply : Reply) × (got ≡ reply ∷ []) × IsTrue (fits request reply) × (step ≡ next reply)
 
 -- the entries of these references, each once, at the nodes of the current buffer
-abbrev pub AreNoted : Editing → List (Reference Place) → List Instance → Type 0
-AreNoted e set now =
-    MatchOption (current_in e.kept) (now ≡ []) (λ b. GainedAll b.1.grove b.1.root (term_in b.1) (Contains set) [] now)
+abbrev pub AreNoted : Kept → List (Reference Place) → List Instance → Type 0
+AreNoted k set now = MatchOption (current_in k) (now ≡ [])
+    (λ b. GainedAll b.buffer.grove b.buffer.root (term_in b.buffer) (Contains set) [] now)
 
--- the entries of some of them, none twice, at the nodes of some tree of the step's current term
+-- a step was taken: what is kept stands for its session, this was said, and these are the entries of its set
+pub record Took (step : Step) (k : Kept) (said : Message) (now : List Instance) : Type 0 where
+  pub session : session_in k ≡ step.session
+  pub message : said ≡ step.message
+  pub counted : length now ≡ length step.set
+  pub noted : AreNoted k step.set now
+
+-- the entries of some references of a step, none twice, at the nodes of some tree of its current term
 pub record AreSome (spec : Spec) (step : Step) (now : List Instance) : Type 0 where
   pub few : length now ≤ length step.set
   pub noted : MatchOption (current_of step.session) (now ≡ []) (λ b. Noted spec b.1.term (Contains step.set) [] now)
+
+-- a request was replied to, the reply came behind the others, and this is said of it
+pub record Answered (request : Request) (said_of : Reply → Message) (said : Message) (before after : List Reply)
+    (old new : ShelfState) : Type 0 where
+  pub reply : Reply
+  pub replies : after ≡ before ++ reply ∷ []
+  pub replied : Replied request reply old new
+  pub message : said ≡ said_of reply
+
+-- the shelf is as it was, or was called and had no memory
+abbrev pub IsUnanswered : ShelfState → ShelfState → Type 0
+IsUnanswered old new = (new ≡ old) ⊎ Unanswered old new
 
 -- a command was cut short behind these replies: nothing was asked yet, or a part of the step's set was evaluated
 abbrev pub IsCutShort : Spec → Ask → List Reply → List Instance → Type 0
@@ -53,7 +72,7 @@ pub record Stepped (asked : Ask) (e : Editing) (said : Message) (now : List Inst
   pub session : session_of e ≡ step.session
   pub message : said ≡ step.message
   pub counted : length now ≡ length step.set
-  pub noted : AreNoted e step.set now
+  pub noted : AreNoted e.kept step.set now
   pub served : Served old (requests_of asked) got new
 
 -- there was no memory for it: the shelf may have been called without a reply

@@ -1,0 +1,5 @@
+mod Told
+mod Taken
+mod Asked
+mod Stepping
+mod Laws

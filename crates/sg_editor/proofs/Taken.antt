@@ -1,0 +1,171 @@
+-- Steps that are taken.
+use Rattle.std.specs.Prelude.{◌≡◌, refl, ℕ, ◌<◌, ◌≤◌, List, [], ◌∷◌, ◌++◌, map, length, Contains, slice_get, slice_set, Option, None, Some, option_map, option_and_then, MatchOption, ⊤}
+use Rattle.std.proofs.Common.{sym, ap, ◌∙◌, subst, arith, inl, inr, append-nil}
+use Rattle.std.proofs.lemmas.List.{map-set, map-append, length-map}
+use Rattle.std.proofs.lemmas.Option.{slice_get-map, slice_get_within}
+use Rattle.sg_kinds.specs.Values.{Bytes}
+use Rattle.sg_kinds.specs.Terms.{Term}
+use Rattle.sg_kinds.specs.Places.{Place}
+use Rattle.sg_kinds.specs.Nets.{Reference}
+use Rattle.sg_kinds.specs.Instances.{instances}
+use Rattle.sg_kinds.specs.Specification.{rules_of}
+use Rattle.sg_kinds.specs.declared.spec.Spec.{Spec}
+use Rattle.sg_eval.specs.declared.journal.Instance.{Instance}
+use Rattle.sg_terms.specs.Entries.{Gained, GainedAll}
+use Rattle.sg_groves.proofs.InstancesOnce.{instances_apart}
+use Rattle.sg_turns.specs.Noted.{Noted}
+use Rattle.sg_edits.specs.declared.clip.Clip.{Clip}
+use Rattle.sg_screen.specs.declared.message.Message.{Message}
+use Rattle.sg_screen.specs.declared.message.Message.TheVariants as message
+use Rattle.sg_states.specs.States.{State, begun}
+use Rattle.sg_buffer.specs.Held.{Held, state_of, term_in}
+use Rattle.sg_script.specs.declared.command.Command.{Command}
+use Rattle.sg_commands.specs.Did.{Did, turn_of}
+use Rattle.sg_commands.specs.Turn.{Turn}
+use Rattle.sg_commands.specs.Turns.{turn}
+use Rattle.sg_commands.proofs.Counting.{gained_count, noted_most}
+use Rattle.sg_editor.specs.declared.desk.Named.{Named}
+use Rattle.sg_editor.specs.Ask.{Step, Readers, says, opens, turned_to, turned_at, in_current}
+use Rattle.sg_editor.specs.Editing.{Kept, IsOver, told, session_in, current_in}
+use Rattle.sg_editor.specs.Session.{Session, current_of, with_load}
+use Rattle.sg_editor.specs.Steps.{AreNoted, AreSome, Took}
+use Rattle.sg_editor.proofs.Told.{written_there, last_there}
+
+no_entries : (now : List Instance) → now ≡ [] → length now ≡ 0
+no_entries now none = ap length none
+
+-- nothing is noted of no references
+pub none_gained : (b : Held) (now : List Instance) → now ≡ [] → GainedAll b.grove b.root (term_in b) (Contains []) [] now
+none_gained b now none = record {
+  gained = record {
+    refs = [];
+    entries = [];
+    are = tt;
+    appended = none;
+    once = λ i j d less low. absurd (omega (arith, low));
+    among = λ i d low. absurd (omega (arith, low));
+  };
+  every = λ a has. has;
+}
+
+pub none_noted : (k : Kept) (now : List Instance) → now ≡ [] → AreNoted k [] now
+none_noted k now none = by (current_in k)
+  where
+    by : (o : Option Named) → MatchOption o (now ≡ []) (λ b. GainedAll b.buffer.grove b.buffer.root (term_in b.buffer) (Contains []) [] now)
+    by None = none
+    by (Some b) = none_gained b.buffer now none
+
+-- nothing is some of all
+pub none_some : (spec : Spec) (step : Step) (now : List Instance) → now ≡ [] → AreSome spec step now
+none_some spec step now none = record {
+  few = let e = no_entries now none in omega (arith, e);
+  noted = by (current_of step.session);
+}
+  where
+    by : (o : Option (Bytes × State)) → MatchOption o (now ≡ []) (λ b. Noted spec b.1.term (Contains step.set) [] now)
+    by None = none
+    by (Some b) = inl none
+
+-- something is said
+pub said : (k : Kept) (s : Session) (m : Message) (now : List Instance) → session_in k ≡ s → now ≡ [] → Took (says s m) k m now
+said k s m now same none = record {
+  session = same;
+  message = refl;
+  counted = no_entries now none;
+  noted = none_noted k now none;
+}
+
+-- the term of what is held
+term_of : (h : Held) → (state_of h).term ≡ term_in h
+unfolding state_of
+term_of h = refl
+
+held_there : (h : Held) (st : State) → state_of h ≡ st → st.term ≡ term_in h
+held_there h st state = sym (ap (λ (x : State). x.term) state) ∙ term_of h
+
+-- a new buffer
+module _ (spec : Spec) (k : Kept) (name : Bytes) (t : Term) where
+  abbrev pub opened : Held → Kept
+  opened h = record k { buffers = k.buffers ++ record { name = name; buffer = h } ∷ []; current = Some (length k.buffers) }
+
+  opens_session : (h : Held) → state_of h ≡ begun t → session_in (opened h) ≡ (opens spec name t (session_in k)).session
+  opens_session h state =
+      let buffers : map told (k.buffers ++ record { name = name; buffer = h } ∷ []) ≡ map told k.buffers ++ (name, begun t) ∷ [] =
+          map-append told k.buffers (record { name = name; buffer = h } ∷ []) ∙ ap (λ (st : State). map told k.buffers ++ (name, st) ∷ []) state in
+      let place : length k.buffers ≡ length (map told k.buffers) = sym (length-map k.buffers told) in
+      λ i. record { buffers = buffers i; current = Some (place i); clip = k.clip; loads = k.loads }
+
+  opened_current : (h : Held) → current_in (opened h) ≡ Some (record { name = name; buffer = h })
+  opened_current h = last_there k.buffers (record { name = name; buffer = h })
+
+  pub opens_took : (h : Held) (now : List Instance) → state_of h ≡ begun t
+      → GainedAll h.grove h.root t (Contains (instances (rules_of spec) t)) [] now
+      → Took (opens spec name t (session_in k)) (opened h) message.Fine now
+  opens_took h now state all = record {
+    session = opens_session h state;
+    message = refl;
+    counted = gained_count h.grove h.root t (instances (rules_of spec) t) [] now refl (instances_apart spec t) all;
+    noted = subst (λ (o : Option Named). MatchOption o (now ≡ []) (λ b. GainedAll b.buffer.grove b.buffer.root (term_in b.buffer) (Contains (instances (rules_of spec) t)) [] now))
+        (sym (opened_current h))
+        (subst (λ (s : Term). GainedAll h.grove h.root s (Contains (instances (rules_of spec) t)) [] now) (held_there h (begun t) state) all);
+  }
+
+  opens_current : current_of (opens spec name t (session_in k)).session ≡ Some (name, begun t)
+  opens_current = last_there (map told k.buffers) (name, begun t)
+
+  pub opens_some : (now : List Instance) → Noted spec t (Contains (instances (rules_of spec) t)) [] now
+      → AreSome spec (opens spec name t (session_in k)) now
+  opens_some now noted = record {
+    few = noted_most spec t (instances (rules_of spec) t) [] now refl noted;
+    noted = subst (λ (o : Option (Bytes × State)). MatchOption o (now ≡ []) (λ b. Noted spec b.1.term (Contains (instances (rules_of spec) t)) [] now))
+        (sym opens_current) noted;
+  }
+
+-- a turn of the buffer at a place
+module _ (spec : Spec) (k : Kept) (i : ℕ) (b : Named) (here : slice_get k.buffers i ≡ Some b) (at : k.current ≡ Some i) where
+  abbrev pub after : Held → Option Clip → Kept
+  after h clip = record k { buffers = slice_set k.buffers i (record b { buffer = h }); clip = clip }
+
+  turned_session : (h : Held) (clip : Option Clip) (t : Turn) → state_of h ≡ t.state → clip ≡ t.clip
+      → session_in (after h clip) ≡ (turned_to i b.name (session_in k) t).session
+  turned_session h clip t state same =
+      let buffers : map told (slice_set k.buffers i (record b { buffer = h })) ≡ slice_set (map told k.buffers) i (b.name, t.state) =
+          map-set told k.buffers i (record b { buffer = h }) ∙ ap (λ (st : State). slice_set (map told k.buffers) i (b.name, st)) state in
+      λ j. record { buffers = buffers j; current = k.current; clip = same j; loads = k.loads }
+
+  turned_current : (h : Held) (clip : Option Clip) → current_in (after h clip) ≡ Some (record b { buffer = h })
+  turned_current h clip =
+      ap (λ (o : Option ℕ). option_and_then (slice_get (slice_set k.buffers i (record b { buffer = h }))) o) at
+      ∙ written_there k.buffers i (record b { buffer = h }) (slice_get_within k.buffers i b here)
+
+  pub turned_took : (h : Held) (clip : Option Clip) (t : Turn) (m : Message) (now : List Instance) → Did t m h clip [] now → length now ≡ length t.set
+      → Took (turned_to i b.name (session_in k) t) (after h clip) m now
+  turned_took h clip t m now did counted = record {
+    session = turned_session h clip t did.state did.copied;
+    message = did.message;
+    counted = counted;
+    noted = subst (λ (o : Option Named). MatchOption o (now ≡ []) (λ b. GainedAll b.buffer.grove b.buffer.root (term_in b.buffer) (Contains t.set) [] now))
+        (sym (turned_current h clip))
+        (subst (λ (s : Term). GainedAll h.grove h.root s (Contains t.set) [] now) (held_there h t.state did.state) did.evaluated);
+  }
+
+  step_current : (t : Turn) → current_of (turned_to i b.name (session_in k) t).session ≡ Some (b.name, t.state)
+  step_current t =
+      ap (λ (o : Option ℕ). option_and_then (slice_get (slice_set (map told k.buffers) i (b.name, t.state))) o) at
+      ∙ written_there (map told k.buffers) i (b.name, t.state)
+      (slice_get_within (map told k.buffers) i (told b) (slice_get-map told k.buffers i ∙ ap (option_map told) here))
+
+  pub turned_some : (t : Turn) (now : List Instance) → Noted spec t.state.term (Contains t.set) [] now → length now ≤ length t.set
+      → AreSome spec (turned_to i b.name (session_in k) t) now
+  turned_some t now noted few = record {
+    few = few;
+    noted = subst (λ (o : Option (Bytes × State)). MatchOption o (now ≡ []) (λ b. Noted spec b.1.term (Contains t.set) [] now)) (sym (step_current t)) noted;
+  }
+
+  -- what a command in the current buffer comes to
+  pub current_turn : (height : ℕ) (r : Readers) (c : Command) → IsOver spec height b.buffer
+      → in_current spec height r (session_in k) c k.current ≡ turned_to i b.name (session_in k) (turn_of b.buffer r.text k.clip c)
+  current_turn height r c over =
+      ap (in_current spec height r (session_in k) c) at
+      ∙ ap (turned_at spec height r (session_in k) c i) (slice_get-map told k.buffers i ∙ ap (option_map told) here)
+      ∙ (λ j. turned_to i b.name (session_in k) (turn (sym over.spec_is j) (sym over.height_is j) r.text k.clip (state_of b.buffer) c))
