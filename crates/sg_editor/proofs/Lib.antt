@@ -1,5 +1,9 @@
 mod Told
 mod Taken
-mod Asked
+mod Stays
+mod Loading
 mod Stepping
+mod Resting
+mod Printed
+mod Bound
 mod Laws

@@ -83,24 +83,27 @@ term_of h = refl
 held_there : (h : Held) (st : State) → state_of h ≡ st → st.term ≡ term_in h
 held_there h st state = sym (ap (λ (x : State). x.term) state) ∙ term_of h
 
--- a new buffer
-module _ (spec : Spec) (k : Kept) (name : Bytes) (t : Term) where
-  abbrev pub opened : Held → Kept
-  opened h = record k { buffers = k.buffers ++ record { name = name; buffer = h } ∷ []; current = Some (length k.buffers) }
+-- a new buffer, and a buffer that was turned
+abbrev pub opened : Kept → Bytes → Held → Kept
+opened k name h = record k { buffers = k.buffers ++ record { name = name; buffer = h } ∷ []; current = Some (length k.buffers) }
 
-  opens_session : (h : Held) → state_of h ≡ begun t → session_in (opened h) ≡ (opens spec name t (session_in k)).session
+abbrev pub after : Kept → ℕ → Named → Held → Option Clip → Kept
+after k i b h clip = record k { buffers = slice_set k.buffers i (record b { buffer = h }); clip = clip }
+
+module _ (spec : Spec) (k : Kept) (name : Bytes) (t : Term) where
+  opens_session : (h : Held) → state_of h ≡ begun t → session_in (opened k name h) ≡ (opens spec name t (session_in k)).session
   opens_session h state =
       let buffers : map told (k.buffers ++ record { name = name; buffer = h } ∷ []) ≡ map told k.buffers ++ (name, begun t) ∷ [] =
           map-append told k.buffers (record { name = name; buffer = h } ∷ []) ∙ ap (λ (st : State). map told k.buffers ++ (name, st) ∷ []) state in
       let place : length k.buffers ≡ length (map told k.buffers) = sym (length-map k.buffers told) in
       λ i. record { buffers = buffers i; current = Some (place i); clip = k.clip; loads = k.loads }
 
-  opened_current : (h : Held) → current_in (opened h) ≡ Some (record { name = name; buffer = h })
+  opened_current : (h : Held) → current_in (opened k name h) ≡ Some (record { name = name; buffer = h })
   opened_current h = last_there k.buffers (record { name = name; buffer = h })
 
   pub opens_took : (h : Held) (now : List Instance) → state_of h ≡ begun t
       → GainedAll h.grove h.root t (Contains (instances (rules_of spec) t)) [] now
-      → Took (opens spec name t (session_in k)) (opened h) message.Fine now
+      → Took (opens spec name t (session_in k)) (opened k name h) message.Fine now
   opens_took h now state all = record {
     session = opens_session h state;
     message = refl;
@@ -123,23 +126,20 @@ module _ (spec : Spec) (k : Kept) (name : Bytes) (t : Term) where
 
 -- a turn of the buffer at a place
 module _ (spec : Spec) (k : Kept) (i : ℕ) (b : Named) (here : slice_get k.buffers i ≡ Some b) (at : k.current ≡ Some i) where
-  abbrev pub after : Held → Option Clip → Kept
-  after h clip = record k { buffers = slice_set k.buffers i (record b { buffer = h }); clip = clip }
-
   turned_session : (h : Held) (clip : Option Clip) (t : Turn) → state_of h ≡ t.state → clip ≡ t.clip
-      → session_in (after h clip) ≡ (turned_to i b.name (session_in k) t).session
+      → session_in (after k i b h clip) ≡ (turned_to i b.name (session_in k) t).session
   turned_session h clip t state same =
       let buffers : map told (slice_set k.buffers i (record b { buffer = h })) ≡ slice_set (map told k.buffers) i (b.name, t.state) =
           map-set told k.buffers i (record b { buffer = h }) ∙ ap (λ (st : State). slice_set (map told k.buffers) i (b.name, st)) state in
       λ j. record { buffers = buffers j; current = k.current; clip = same j; loads = k.loads }
 
-  turned_current : (h : Held) (clip : Option Clip) → current_in (after h clip) ≡ Some (record b { buffer = h })
+  turned_current : (h : Held) (clip : Option Clip) → current_in (after k i b h clip) ≡ Some (record b { buffer = h })
   turned_current h clip =
       ap (λ (o : Option ℕ). option_and_then (slice_get (slice_set k.buffers i (record b { buffer = h }))) o) at
       ∙ written_there k.buffers i (record b { buffer = h }) (slice_get_within k.buffers i b here)
 
   pub turned_took : (h : Held) (clip : Option Clip) (t : Turn) (m : Message) (now : List Instance) → Did t m h clip [] now → length now ≡ length t.set
-      → Took (turned_to i b.name (session_in k) t) (after h clip) m now
+      → Took (turned_to i b.name (session_in k) t) (after k i b h clip) m now
   turned_took h clip t m now did counted = record {
     session = turned_session h clip t did.state did.copied;
     message = did.message;

@@ -1,0 +1,1 @@
+-- How much a command evaluates at most.
