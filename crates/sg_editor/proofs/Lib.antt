@@ -1,9 +1,10 @@
 mod Told
 mod Taken
+mod Switching
 mod Stays
 mod Loading
 mod Stepping
 mod Resting
 mod Printed
 mod Bound
-mod Laws
+mod Telling

@@ -8,7 +8,8 @@ use Rattle.sg_replies.specs.declared.reply.Reply.{Reply}
 use Rattle.sg_replies.specs.declared.reply.Reply.TheVariants as reply
 use Rattle.sg_saved.specs.Read.{Opened, FormAt, PhylumAt, TooLarge, Holds}
 use Rattle.sg_screen.specs.declared.message.Message.{Message}
-use Rattle.sg_editor.specs.Ask.{Readers, Step, fetched, opened, read_in, longest_file}
+use Rattle.sg_screen.specs.declared.message.Message.TheVariants as message
+use Rattle.sg_editor.specs.Ask.{Readers, Step, fetched, opened, read_in, longest_file, says}
 use Rattle.sg_editor.specs.Editing.{Kept, session_in}
 use Rattle.sg_editor.specs.Session.{Session, with_load}
 use Rattle.sg_editor.specs.Steps.{AreSome, Took}
@@ -26,11 +27,12 @@ module _ (spec : Spec) (name : Bytes) (s : Session) where
 
   module _ (height : ℕ) (r : Readers) where
     read_counted : (bytes : Bytes) → read_in spec height r name (with_load s) bytes ≡ counted_step (read_in spec height r name s bytes)
-    read_counted bytes = by (nat_lt longest_file (length bytes)) refl
+    read_counted bytes = by (nat_lt longest_file (length bytes))
       where
-        by : (long : Bool) → nat_lt longest_file (length bytes) ≡ long → read_in spec height r name (with_load s) bytes ≡ counted_step (read_in spec height r name s bytes)
-        by true long = ?
-        by false short = ?
+        by : (long : Bool) → (if long then says (with_load s) message.LongFile else opened spec name (with_load s) (r.file bytes))
+            ≡ counted_step (if long then says s message.LongFile else opened spec name s (r.file bytes))
+        by true = refl
+        by false = opened_counted (r.file bytes)
 
     pub fetched_counted : (x : Reply) → fetched spec height r name (with_load s) x ≡ counted_step (fetched spec height r name s x)
     fetched_counted (reply.Fetched bytes) = read_counted bytes

@@ -1,8 +1,9 @@
 -- The session for which what is kept stands.
-use Rattle.std.specs.Prelude.{◌≡◌, refl, ℕ, suc, ◌<◌, Bool, List, [], ◌∷◌, ◌++◌, map, length, position, bytes_eq, if◌then◌else◌, slice_get, slice_set, Option, None, Some, option_map, option_and_then, MatchOption, ⊤}
+use Rattle.std.specs.Prelude.{◌≡◌, refl, ℕ, ◌+◌, ◌<◌, Bool, cond, not, nat_lt, List, [], ◌∷◌, ◌++◌, map, length, position, bytes_eq, slice_get, slice_set, Option, None, Some, option_map, option_and_then, MatchOption, ⊤}
+use Rattle.std.specs.List.{position_or_len}
 use Rattle.std.proofs.Common.{sym, ap, ◌∙◌, subst, arith, length-set}
-use Rattle.std.proofs.lemmas.List.{map-set, get_or-set_same}
-use Rattle.std.proofs.lemmas.Option.{slice_get-map, slice_get_read, slice_get_within}
+use Rattle.std.proofs.lemmas.List.{get_or-set_same, length-map}
+use Rattle.std.proofs.lemmas.Option.{slice_get-map, slice_get_read}
 use Rattle.sg_kinds.specs.Values.{Bytes}
 use Rattle.sg_states.specs.States.{State}
 use Rattle.sg_editor.specs.declared.desk.Named.{Named}
@@ -18,9 +19,12 @@ current_told k = by k.current
     by (Some i) = slice_get-map told k.buffers i
 
 -- the place of the buffer of a name
+before_named : (name : Bytes) (bs : List Named) → position_or_len (has_name name) (map told bs) ≡ position_or_len (λ (b : Named). bytes_eq name b.name) bs
+before_named name [] = refl
+before_named name (b ∷ bs) = ap (λ (n : ℕ). cond (not (bytes_eq name b.name)) (1 + n) 0) (before_named name bs)
+
 pub named_told : (name : Bytes) (bs : List Named) → position (has_name name) (map told bs) ≡ position (λ (b : Named). bytes_eq name b.name) bs
-named_told name [] = refl
-named_told name (b ∷ bs) = ap (λ (o : Option ℕ). if bytes_eq name b.name then Some 0 else option_map suc o) (named_told name bs)
+named_told name bs = λ i. cond (nat_lt (before_named name bs i) (length-map bs told i)) (Some (before_named name bs i)) None
 
 -- what was written at a place is there
 pub written_there : {X : Type 0} (xs : List X) (i : ℕ) (x : X) → i < length xs → slice_get (slice_set xs i x) i ≡ Some x

@@ -1,8 +1,9 @@
 // The buffers of a session.
-ghost use Rattle.std.specs.Prelude.{◌≡◌, ◌<◌, bytes_eq, position, [], length, MatchOption, ⊤, Some, None};
+ghost use Rattle.std.specs.Prelude.{◌≡◌, ℕ, bytes_eq, position, [], MatchOption, Some, None};
+ghost use Rattle.sg_kinds.specs.declared.spec.Spec.{Spec};
 ghost use Rattle.sg_editor.specs.declared.desk.Named.{Named as IsNamed};
 ghost use Rattle.sg_editor.specs.Ask.{barred, shows, switches, taken};
-ghost use Rattle.sg_editor.specs.Editing.{current_in, session_in};
+ghost use Rattle.sg_editor.specs.Editing.{IsKept, current_in, session_in};
 ghost use Rattle.sg_editor.specs.Session.{buffer_named};
 ghost use Rattle.sg_editor.specs.Steps.{Took};
 
@@ -65,6 +66,7 @@ impl Desk {
     }
 
     /// The place of the buffer of a name.
+    #[tactic(auto, using(crate::proofs::Told::named_told))]
     pub fn place_of(&self, name: &[u8]) -> Option<usize>
         ensures { result ≡ buffer_named name.now (session_in self.now) }
     {
@@ -107,9 +109,7 @@ impl Desk {
     /// Makes the buffer of a name current.
     pub fn switch(&mut self, name: &[u8]) -> Message
         ensures took { Took (switches name.now (session_in self.old)) self.new result [] }
-        ensures rest { self.new ≡ record self.old { current = self.new.current } }
-        ensures there { MatchOption self.old.current ⊤ (λ k. k < length self.old.buffers)
-            → MatchOption self.new.current ⊤ (λ k. k < length self.new.buffers) }
+        ensures kept { (spec : Spec) (height : ℕ) → IsKept spec height self.old → IsKept spec height self.new }
     {
         let Some(k) = self.place_of(name) else {
             return Message::NoBuffer;

@@ -16,6 +16,7 @@ ghost use Rattle.sg_editor.specs.Steps.{Took, AreSome};
 use crate::base::Base;
 use crate::desk::{Desk, Named};
 use sg_buffer::{Buffer, BufferFault};
+use sg_commands::Tools;
 use sg_eval::Journal;
 use sg_kinds::memory::NoMemory;
 use sg_kinds::term::Term;
@@ -34,11 +35,14 @@ fn begun(base: &Base, t: &Term, journal: &mut Journal) -> Result<Buffer, NoMemor
         (rules_of base.now.contents.spec) t.now)) (now_of journal.old) (now_of journal.new)) }
     ensures total { total_of journal.new ≡ total_of journal.old }
 {
-    let tools = base.tools();
-    let spec = base.spec();
+    let Tools {
+        plans,
+        evaluator,
+        tables: _,
+        lexemes: _,
+    } = base.tools();
     let height = base.height();
-    let plans = tools.plans;
-    match Buffer::new(base.alloc(), spec, t, height, plans, tools.evaluator, journal) {
+    match Buffer::new(base.alloc(), base.spec(), t, height, plans, evaluator, journal) {
         Ok(buffer) => Ok(buffer),
         Err(BufferFault::NoMemory) => Err(NoMemory),
         Err(BufferFault::Size(_)) => unreachable!(),

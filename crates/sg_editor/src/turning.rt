@@ -7,7 +7,7 @@ ghost use Rattle.sg_editor.specs.Steps.{Took, AreSome};
 
 use crate::base::Base;
 use crate::desk::Desk;
-use sg_commands::turn;
+use sg_commands::{Tools, turn};
 use sg_eval::Journal;
 use sg_kinds::memory::NoMemory;
 use sg_screen::Message;
@@ -36,9 +36,17 @@ impl Desk {
         let Some(k) = self.current else {
             return Ok(Message::NoBuffer);
         };
+        let tools = base.tools();
         let named = &mut self.named[k];
         let buffer = &mut named.buffer;
-        turn(base.alloc(), &base.tools(), buffer, &mut self.clip, command, journal)
+        let message = turn(base.alloc(), &tools, buffer, &mut self.clip, command, journal);
+        let Tools {
+            plans: _,
+            evaluator: _,
+            tables: _,
+            lexemes: _,
+        } = tools;
+        message
     }
 
     /// A command that asks nothing of the shelf.
