@@ -1,5 +1,6 @@
 -- What an editor keeps, and the session that it stands for.
-use Rattle.std.specs.Prelude.{◌≡◌, ◌<◌, ℕ, List, map, length, All, slice_get, Option, option_and_then, MatchOption, ⊤}
+use Rattle.std.specs.Prelude.{◌≡◌, ◌<◌, ℕ, List, map, length, All, slice_get, Option, option_and_then, MatchOption, ⊤, refl}
+use Rattle.std.specs.Coded.{Coded, code_by, coded×, coded_ℕ, coded_list, coded_option}
 use Rattle.sg_kinds.specs.Values.{Bytes}
 use Rattle.sg_kinds.specs.declared.spec.Spec.{Spec}
 use Rattle.sg_load.specs.Loaded.{Contents}
@@ -27,6 +28,21 @@ pub record Kept : Type 0 where
 pub record Editing : Type 0 where
   pub setting : Setting
   pub kept : Kept
+
+-- each is stored as the tuple of its fields
+abbrev pub setting_code : Coded Contents → Coded Setting
+setting_code contents = code_by (Contents × (ℕ × ℕ)) (coded× contents (coded× coded_ℕ coded_ℕ))
+    (λ s. (s.contents, (s.width, s.height))) (λ p. record { contents = p.0; width = p.1.0; height = p.1.1 }) (λ _. refl)
+
+abbrev pub kept_code : Coded Named → Coded Clip → Coded Kept
+kept_code named clip = code_by (List Named × (Option ℕ × (Option Clip × ℕ)))
+    (coded× (coded_list named) (coded× (coded_option coded_ℕ) (coded× (coded_option clip) coded_ℕ)))
+    (λ k. (k.buffers, (k.current, (k.clip, k.loads))))
+    (λ p. record { buffers = p.0; current = p.1.0; clip = p.1.1.0; loads = p.1.1.1 }) (λ _. refl)
+
+abbrev pub editing_code : Coded Setting → Coded Kept → Coded Editing
+editing_code setting kept = code_by (Setting × Kept) (coded× setting kept) (λ e. (e.setting, e.kept))
+    (λ p. record { setting = p.0; kept = p.1 }) (λ _. refl)
 
 abbrev pub spec_in : Editing → Spec
 spec_in e = e.setting.contents.spec

@@ -24,11 +24,12 @@ pub struct Base {
 
 impl Model for Base {
     ghost use Rattle.std.specs.Prelude.{◌≡◌, ◌≤◌};
+    ghost use Rattle.sg_load.specs.contracts.loaded.Loaded as loaded_type;
     ghost use Rattle.sg_editor.specs.Editing.{Setting, setting_code};
 
     ghost Value = { Setting };
 
-    ghost coded = { setting_code };
+    ghost coded = { setting_code loaded_type.the_row.coded };
 
     ghost view = { λ b. record { contents = b.loaded; width = b.width; height = b.height } };
 

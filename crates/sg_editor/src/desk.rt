@@ -38,9 +38,13 @@ pub struct Desk {
 }
 
 impl Model for Desk {
-    ghost use Rattle.sg_editor.specs.Editing.{Kept};
+    ghost use Rattle.sg_edits.specs.contracts.clip.Clip as clip_type;
+    ghost use Rattle.sg_editor.specs.contracts.desk.Named as named_type;
+    ghost use Rattle.sg_editor.specs.Editing.{Kept, kept_code};
 
     ghost Value = { Kept };
+
+    ghost coded = { kept_code named_type.the_row.coded clip_type.the_row.coded };
 
     ghost view = { λ d. record { buffers = d.named.items; current = d.current; clip = d.clip; loads = d.loads } };
 }

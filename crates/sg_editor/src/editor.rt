@@ -32,9 +32,13 @@ pub struct Editor {
 }
 
 impl Model for Editor {
-    ghost use Rattle.sg_editor.specs.Editing.{Editing, IsKept};
+    ghost use Rattle.sg_editor.specs.contracts.base.Base as base_type;
+    ghost use Rattle.sg_editor.specs.contracts.desk.Desk as desk_type;
+    ghost use Rattle.sg_editor.specs.Editing.{Editing, IsKept, editing_code};
 
     ghost Value = { Editing };
+
+    ghost coded = { editing_code base_type.the_row.coded desk_type.the_row.coded };
 
     ghost view = { λ e. record { setting = e.base; kept = e.desk } };
 
