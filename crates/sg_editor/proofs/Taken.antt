@@ -1,8 +1,9 @@
 -- Steps that are taken.
-use Rattle.std.specs.Prelude.{◌≡◌, refl, ℕ, ◌<◌, ◌≤◌, List, [], ◌∷◌, ◌++◌, map, length, Contains, slice_get, slice_set, Option, None, Some, option_map, option_and_then, MatchOption, ⊤}
+use Rattle.std.specs.Prelude.{◌≡◌, refl, ℕ, ◌<◌, ◌≤◌, List, [], ◌∷◌, ◌++◌, map, length, Contains, get_or, slice_get, slice_set, Result, Ok, Err, IfOk, OnErr, Option, None, Some, option_map, option_and_then, MatchOption, ⊤}
 use Rattle.std.proofs.Common.{sym, ap, ◌∙◌, subst, arith, inl, inr, append-nil}
 use Rattle.std.proofs.lemmas.List.{map-set, map-append, length-map}
-use Rattle.std.proofs.lemmas.Option.{slice_get-map, slice_get_within}
+use Rattle.std.proofs.lemmas.Option.{get_or_from_slice_get, slice_get-map, slice_get_within}
+use Rattle.std.proofs.Math.Seq.{map-set_same}
 use Rattle.sg_kinds.specs.Values.{Bytes}
 use Rattle.sg_kinds.specs.Terms.{Term}
 use Rattle.sg_kinds.specs.Places.{Place}
@@ -20,7 +21,7 @@ use Rattle.sg_screen.specs.declared.message.Message.TheVariants as message
 use Rattle.sg_states.specs.States.{State, begun}
 use Rattle.sg_buffer.specs.Held.{Held, state_of, term_in}
 use Rattle.sg_script.specs.declared.command.Command.{Command}
-use Rattle.sg_commands.specs.Did.{Did, turn_of}
+use Rattle.sg_commands.specs.Did.{Did, GaveUp, turn_of}
 use Rattle.sg_commands.specs.Turn.{Turn}
 use Rattle.sg_commands.specs.Turns.{turn}
 use Rattle.sg_commands.proofs.Counting.{gained_count, noted_most}
@@ -101,10 +102,10 @@ module _ (spec : Spec) (k : Kept) (name : Bytes) (t : Term) where
   opened_current : (h : Held) → current_in (opened k name h) ≡ Some (record { name = name; buffer = h })
   opened_current h = last_there k.buffers (record { name = name; buffer = h })
 
-  pub opens_took : (h : Held) (now : List Instance) → state_of h ≡ begun t
+  opens_took_from : (h : Held) (now : List Instance) → state_of h ≡ begun t
       → GainedAll h.grove h.root t (Contains (instances (rules_of spec) t)) [] now
       → Took (opens spec name t (session_in k)) (opened k name h) message.Fine now
-  opens_took h now state all = record {
+  opens_took_from h now state all = record {
     session = opens_session h state;
     message = refl;
     counted = gained_count h.grove h.root t (instances (rules_of spec) t) [] now refl (instances_apart spec t) all;
@@ -113,16 +114,27 @@ module _ (spec : Spec) (k : Kept) (name : Bytes) (t : Term) where
         (subst (λ (s : Term). GainedAll h.grove h.root s (Contains (instances (rules_of spec) t)) [] now) (held_there h (begun t) state) all);
   }
 
+  pub opens_took : (h : Held) (was now : List Instance) → was ≡ [] → state_of h ≡ begun t
+      → GainedAll h.grove h.root t (Contains (instances (rules_of spec) t)) was now
+      → Took (opens spec name t (session_in k)) (opened k name h) message.Fine now
+  opens_took h was now none state all =
+      opens_took_from h now state (subst (λ (es : List Instance). GainedAll h.grove h.root t (Contains (instances (rules_of spec) t)) es now) none all)
+
   opens_current : current_of (opens spec name t (session_in k)).session ≡ Some (name, begun t)
   opens_current = last_there (map told k.buffers) (name, begun t)
 
-  pub opens_some : (now : List Instance) → Noted spec t (Contains (instances (rules_of spec) t)) [] now
+  opens_some_from : (now : List Instance) → Noted spec t (Contains (instances (rules_of spec) t)) [] now
       → AreSome spec (opens spec name t (session_in k)) now
-  opens_some now noted = record {
+  opens_some_from now noted = record {
     few = noted_most spec t (instances (rules_of spec) t) [] now refl noted;
     noted = subst (λ (o : Option (Bytes × State)). MatchOption o (now ≡ []) (λ b. Noted spec b.1.term (Contains (instances (rules_of spec) t)) [] now))
         (sym opens_current) noted;
   }
+
+  pub opens_some : (was now : List Instance) → was ≡ [] → Noted spec t (Contains (instances (rules_of spec) t)) was now
+      → AreSome spec (opens spec name t (session_in k)) now
+  opens_some was now none noted =
+      opens_some_from now (subst (λ (es : List Instance). Noted spec t (Contains (instances (rules_of spec) t)) es now) none noted)
 
 -- a turn of the buffer at a place
 module _ (spec : Spec) (k : Kept) (i : ℕ) (b : Named) (here : slice_get k.buffers i ≡ Some b) (at : k.current ≡ Some i) where
@@ -169,3 +181,40 @@ module _ (spec : Spec) (k : Kept) (i : ℕ) (b : Named) (here : slice_get k.buff
       ap (in_current spec height r (session_in k) c) at
       ∙ ap (turned_at spec height r (session_in k) c i) (slice_get-map told k.buffers i ∙ ap (option_map told) here)
       ∙ (λ j. turned_to i b.name (session_in k) (turn (sym over.spec_is j) (sym over.height_is j) r.text k.clip (state_of b.buffer) c))
+
+  -- the answers of a turn
+  module _ {E : Type 0} (height : ℕ) (r : Readers) (c : Command) (over : IsOver spec height b.buffer) (h : Held) (clip : Option Clip) (was now : List Instance) (none : was ≡ []) where
+    abbrev the_turn : Turn
+    the_turn = turn_of b.buffer r.text k.clip c
+
+    pub turn_took : (res : Result Message E) → IfOk res (λ m. Did the_turn m h clip was now) → IfOk res (λ m. length now ≡ length the_turn.set)
+        → IfOk res (λ m. Took (in_current spec height r (session_in k) c k.current) (after k i b h clip) m now)
+    turn_took (Ok m) did counted =
+        subst (λ (step : Step). Took step (after k i b h clip) m now) (sym (current_turn height r c over))
+        (turned_took h clip the_turn m now (subst (λ (es : List Instance). Did the_turn m h clip es now) none did) counted)
+    turn_took (Err e) did counted = tt
+
+    pub turn_some : (old : Held) (res : Result Message E) → OnErr res (GaveUp b.buffer.grove.spec the_turn old h k.clip clip was now) → OnErr res (length now ≤ length the_turn.set)
+        → OnErr res (AreSome spec (in_current spec height r (session_in k) c k.current) now)
+    turn_some old (Ok m) up fewer = tt
+    turn_some old (Err e) up fewer =
+        subst (λ (step : Step). AreSome spec step now) (sym (current_turn height r c over))
+        (turned_some the_turn now (subst (λ (sp : Spec). Noted sp the_turn.state.term (Contains the_turn.set) [] now) over.spec_is
+          (subst (λ (es : List Instance). Noted b.buffer.grove.spec the_turn.state.term (Contains the_turn.set) es now) none up.noted)) fewer)
+
+    turned_back : state_of h ≡ state_of b.buffer → clip ≡ k.clip → session_in (after k i b h clip) ≡ session_in k
+    turned_back state same =
+        let read : get_or k.buffers i b ≡ b = get_or_from_slice_get k.buffers i b b here in
+        let buffers : map told (slice_set k.buffers i (record b { buffer = h })) ≡ map told k.buffers =
+            map-set_same told k.buffers i (record b { buffer = h }) b (ap (λ (st : State). (b.name, st)) state ∙ ap told (sym read)) in
+        λ j. record { buffers = buffers j; current = k.current; clip = same j; loads = k.loads }
+
+    pub turn_same : (old : Held) (res : Result Message E) → old ≡ b.buffer → OnErr res (GaveUp b.buffer.grove.spec the_turn old h k.clip clip was now)
+        → OnErr res (session_in (after k i b h clip) ≡ session_in k)
+    turn_same old (Ok m) is up = tt
+    turn_same old (Err e) is up = turned_back (up.state ∙ ap state_of is) up.copied
+
+-- a fact at an error
+pub on_err : {A E : Type 0} (res : Result A E) (P : Type 0) → P → OnErr res P
+on_err (Ok x) P p = tt
+on_err (Err e) P p = p

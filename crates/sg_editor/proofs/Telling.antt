@@ -1,7 +1,16 @@
 -- The laws of sessions.
-use Rattle.std.specs.Prelude.{◌≡◌, refl, ℕ, IsTrue}
+use Rattle.std.specs.Prelude.{◌≡◌, refl, ℕ, ◌<◌, ◌≤◌, false, length, All, slice_get, Option, None, Some, unwrap_or, MatchOption, IsTrue}
 use Rattle.std.proofs.lemmas.Bool.{false≢true}
-use Rattle.sg_kinds.specs.Sound.{IsSound}
+use Rattle.std.proofs.lemmas.Option.{slice_get_within}
+use Rattle.sg_kinds.specs.Completing.{completing, completing_within}
+use Rattle.sg_kinds.specs.Fits.{Fits}
+use Rattle.sg_kinds.specs.Terms.{Term, Leaf}
+use Rattle.sg_kinds.specs.Values.{Truth}
+use Rattle.sg_kinds.specs.declared.marks.Way.TheVariants.{Synthesized}
+use Rattle.sg_kinds.specs.declared.spec.Attr.{Attr}
+use Rattle.sg_kinds.specs.declared.spec.Phylum.{Phylum}
+use Rattle.sg_kinds.proofs.MadeFits.{completing_fits}
+use Rattle.sg_kinds.specs.Sound.{IsSmall, IsSound}
 use Rattle.sg_kinds.specs.declared.spec.Spec.{Spec}
 use Rattle.sg_patterns.specs.LexemesOf.{AreLexemesOf}
 use Rattle.sg_patterns.specs.declared.lexemes.Lexemes.{Lexemes}
@@ -26,3 +35,24 @@ pub readers_there : (spec : Spec) → IsSound spec → (l : Lexemes) → AreLexe
 readers_there spec sound l of v same tables m =
     let text = reads_there spec (λ entry within bytes. each-text spec sound l of v same tables m entry within bytes) in
     (record { text = text.0; file = λ bytes. (each-opened spec bytes).0 }, (text.1, λ bytes. (each-opened spec bytes).1))
+
+-- the root's completing term
+module _ (spec : Spec) (sound : IsSound spec) where
+  root_low : spec.root < length spec.phyla
+  root_low = by (slice_get spec.phyla spec.root) refl sound.shapes.root
+    where
+      by : (o : Option Phylum) → slice_get spec.phyla spec.root ≡ o → MatchOption o ⊥ (λ (x : Phylum). (1 ≤ length x.ops) × All (λ (a : Attr). a.way ≡ Synthesized) x.attrs)
+          → spec.root < length spec.phyla
+      by None here root = elim root [ ]
+      by (Some x) here root = slice_get_within spec.phyla spec.root x here
+
+  pub root_fits : Fits spec (completing spec spec.root) spec.root
+  root_fits = completing_fits spec sound.shapes spec.root root_low
+
+  pub root_small : IsSmall (completing spec spec.root)
+  unfolding completing
+  root_small = by (completing_within spec 1024 spec.root) (sound.shapes.finite spec.root root_low).0
+    where
+      by : (o : Option Term) → MatchOption o ⊥ IsSmall → IsSmall (unwrap_or o (Leaf spec.root (Truth false)))
+      by None small = elim small [ ]
+      by (Some t) small = small

@@ -2,6 +2,7 @@
 ghost use Rattle.std.specs.Prelude.{◌≡◌, ◌≤◌, IfOk};
 ghost use Rattle.sg_kinds.specs.Sound.{IsSound};
 ghost use Rattle.sg_commands.specs.Tools.{AreTools};
+ghost use Rattle.sg_editor.specs.Ask.{AreReaders, Readers};
 
 use sg_commands::Tools;
 use sg_eval::Evaluator;
@@ -83,6 +84,15 @@ impl Base {
             tables: &self.loaded.tables,
             lexemes: &self.loaded.lexemes,
         }
+    }
+
+    /// There are right readers of texts and files. This does nothing and tells it.
+    pub fn readers(&self)
+        ensures { (r : Readers) × AreReaders self.now.contents.spec r }
+    {
+        self.loaded.facts();
+        self.loaded.tables.sound();
+        self.loaded.tables.decided();
     }
 
     /// How many columns the window has.

@@ -36,6 +36,7 @@ impl Desk {
         let Some(k) = self.current else {
             return Ok(Message::NoBuffer);
         };
+        base.readers();
         let tools = base.tools();
         let named = &mut self.named[k];
         let buffer = &mut named.buffer;
