@@ -183,18 +183,18 @@ module _ (spec : Spec) (k : Kept) (i : ℕ) (b : Named) (here : slice_get k.buff
       ∙ (λ j. turned_to i b.name (session_in k) (turn (sym over.spec_is j) (sym over.height_is j) r.text k.clip (state_of b.buffer) c))
 
   -- the answers of a turn
-  module _ {E : Type 0} (height : ℕ) (r : Readers) (c : Command) (over : IsOver spec height b.buffer) (h : Held) (clip : Option Clip) (was now : List Instance) (none : was ≡ []) where
+  module _ (height : ℕ) (r : Readers) (c : Command) (over : IsOver spec height b.buffer) (h : Held) (clip : Option Clip) (was now : List Instance) (none : was ≡ []) where
     abbrev the_turn : Turn
     the_turn = turn_of b.buffer r.text k.clip c
 
-    pub turn_took : (res : Result Message E) → IfOk res (λ m. Did the_turn m h clip was now) → IfOk res (λ m. length now ≡ length the_turn.set)
+    pub turn_took : {E : Type 0} (res : Result Message E) → IfOk res (λ m. Did the_turn m h clip was now) → IfOk res (λ m. length now ≡ length the_turn.set)
         → IfOk res (λ m. Took (in_current spec height r (session_in k) c k.current) (after k i b h clip) m now)
     turn_took (Ok m) did counted =
         subst (λ (step : Step). Took step (after k i b h clip) m now) (sym (current_turn height r c over))
         (turned_took h clip the_turn m now (subst (λ (es : List Instance). Did the_turn m h clip es now) none did) counted)
     turn_took (Err e) did counted = tt
 
-    pub turn_some : (old : Held) (res : Result Message E) → OnErr res (GaveUp b.buffer.grove.spec the_turn old h k.clip clip was now) → OnErr res (length now ≤ length the_turn.set)
+    pub turn_some : {E : Type 0} (old : Held) (res : Result Message E) → OnErr res (GaveUp b.buffer.grove.spec the_turn old h k.clip clip was now) → OnErr res (length now ≤ length the_turn.set)
         → OnErr res (AreSome spec (in_current spec height r (session_in k) c k.current) now)
     turn_some old (Ok m) up fewer = tt
     turn_some old (Err e) up fewer =
@@ -209,7 +209,7 @@ module _ (spec : Spec) (k : Kept) (i : ℕ) (b : Named) (here : slice_get k.buff
             map-set_same told k.buffers i (record b { buffer = h }) b (ap (λ (st : State). (b.name, st)) state ∙ ap told (sym read)) in
         λ j. record { buffers = buffers j; current = k.current; clip = same j; loads = k.loads }
 
-    pub turn_same : (old : Held) (res : Result Message E) → old ≡ b.buffer → OnErr res (GaveUp b.buffer.grove.spec the_turn old h k.clip clip was now)
+    pub turn_same : {E : Type 0} (old : Held) (res : Result Message E) → old ≡ b.buffer → OnErr res (GaveUp b.buffer.grove.spec the_turn old h k.clip clip was now)
         → OnErr res (session_in (after k i b h clip) ≡ session_in k)
     turn_same old (Ok m) is up = tt
     turn_same old (Err e) is up = turned_back (up.state ∙ ap state_of is) up.copied
