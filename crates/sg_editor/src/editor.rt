@@ -1,9 +1,11 @@
 //! The editor.
-ghost use Rattle.std.specs.Prelude.{◌≡◌, ◌≤◌, ◌<◌, ◌^◌, [], length, IfOk, OnErr};
+ghost use Rattle.std.specs.Prelude.{◌≡◌, ◌≤◌, ◌<◌, ◌^◌, [], length, IfOk, MatchOption, ⊤, OnErr};
+ghost use Rattle.sg_kinds.specs.Sound.{IsSmall, IsSound};
+ghost use Rattle.sg_buffer.specs.Held.{term_in};
 ghost use Rattle.sg_eval.specs.Journal.{counted, now_of, total_of};
 ghost use Rattle.sg_replies.specs.Calls.{shelf_state};
-ghost use Rattle.sg_editor.specs.Ask.{AreReaders, Readers, ask};
-ghost use Rattle.sg_editor.specs.Editing.{height_in, session_of, spec_in, width_in};
+ghost use Rattle.sg_editor.specs.Ask.{AreReaders, Readers, ask, barred, keeps, loads, saved_form, saved_text};
+ghost use Rattle.sg_editor.specs.Editing.{IsKept, current_in, height_in, session_in, session_of, spec_in, width_in};
 ghost use Rattle.sg_editor.specs.Screen.{screen};
 ghost use Rattle.sg_editor.specs.Session.{start};
 ghost use Rattle.sg_editor.specs.Steps.{Interrupted, Stepped};
@@ -67,6 +69,18 @@ impl Editor {
             base: Base::new(alloc, loaded, width, height)?,
             desk: Desk::new(alloc),
         })
+    }
+
+    // the specification is sound, and the current term is in the limits
+    fn facts(&self)
+        ensures sound { IsSound (spec_in self.now) }
+        ensures kept { IsKept (spec_in self.now) (height_in self.now) self.now.kept }
+        ensures small { MatchOption (current_in self.now.kept) ⊤ (λ b. IsSmall (term_in b.buffer)) }
+    {
+        let _ = self.base.spec();
+        if let Some(named) = self.desk.current() {
+            named.buffer.facts();
+        }
     }
 
     // loads a file
@@ -175,12 +189,14 @@ impl Editor {
         ensures most { IfOk result (λ _. length (now_of journal.new) ≤ 2 ^ 40) }
     {
         journal.begin();
-        match command {
+        let message = match command {
             Command::Load(name, file) => self.load(name, file, shelf, journal, replies),
             Command::Save(file) => self.save(file, shelf, replies),
             Command::SaveText(file) => self.save_text(file, shelf, replies),
             _ => self.desk.tell(&self.base, command, journal),
-        }
+        };
+        self.facts();
+        message
     }
 
     /// What is printed after a command: its message, and the current buffer in the window. `ev` says how many equations
