@@ -1,6 +1,6 @@
 -- What is printed of a buffer: its page is that of its term, by the nodes at the places.
 use Rattle.std.specs.Prelude.{◌≡◌, refl, ℕ, Bool, true, ◌==◌, bytes_eq, if◌then◌else◌, List, [], ◌∷◌, map, Option, Some, None, option_map, unwrap_or, slice_get}
-use Rattle.std.specs.List.{AllByRecursion}
+use Rattle.std.specs.List.{AllByRecursion, slice_split}
 use Rattle.std.proofs.Common.{sym, ap, ◌∙◌, subst, arith}
 use Rattle.sg_kinds.specs.Values.{Bytes}
 use Rattle.sg_kinds.specs.Terms.{Term}
@@ -17,11 +17,15 @@ use Rattle.sg_select.proofs.Settling.{same_tests}
 use Rattle.sg_unparse.specs.Along.{node_along}
 use Rattle.sg_unparse.specs.Cells.{Mark}
 use Rattle.sg_unparse.specs.Owned.{place_of_mark}
-use Rattle.sg_unparse.specs.Page.{Cell, Region, bytes_of, cells_of, is_cut, lines_of, region_of}
-use Rattle.sg_unparse.specs.Sheet.{region_on}
+use Rattle.sg_unparse.specs.Page.{Cell, Region, bytes_of, cells_of, is_cut, is_newline, lines_of, region_of}
+use Rattle.sg_unparse.specs.Sheet.{Sheet, region_on}
 use Rattle.sg_unparse.specs.Written.{by_node}
 use Rattle.sg_unparse.proofs.Placed.{climbs_along}
 use Rattle.sg_states.specs.Seen.{marks_seen}
+use Rattle.sg_kinds.specs.declared.spec.Spec.{Spec}
+use Rattle.sg_states.specs.States.{selected_place}
+use Rattle.sg_buffer.specs.Held.{Held, state_of, typed_by}
+use Rattle.sg_editor.specs.Screen.{shown_in}
 use Rattle.sg_states.specs.Paged.{IsWhole, page_seen}
 use Rattle.sg_states.proofs.Sheeted.{IsOf, MarkOf, Tells, marks_there, region_told}
 
@@ -67,3 +71,17 @@ module _ (g : Grove) (root : NodeId) (t : Term) (typed : Place → Option Bytes)
   pub cut_seen : (page_seen g root t typed).more ≡ is_cut (marks_seen g.spec t typed)
   unfolding page_seen
   cut_seen = refl
+
+-- the lines of a buffer's page
+pub lines_seen : (spec : Spec) (b : Held) (page : Sheet) → b.grove.spec ≡ spec → page ≡ page_seen b.grove b.root (state_of b).term (typed_by b.capture (selected_place (state_of b)))
+    → lines_of page.cells ≡ lines_of (cells_of (shown_in spec (state_of b)))
+lines_seen spec b page same is =
+    let t = (state_of b).term in
+    let typed = typed_by b.capture (selected_place (state_of b)) in
+    ap (λ (p : Sheet). lines_of p.cells) is
+    ∙ ap (slice_split is_newline) (bytes_seen b.grove b.root t typed)
+    ∙ (λ i. lines_of (cells_of (marks_seen (same i) t (typed_by (captured b i) (selected_place (state_of b))))))
+  where
+    captured : (h : Held) → h.capture ≡ (state_of h).capture
+    unfolding state_of
+    captured h = refl

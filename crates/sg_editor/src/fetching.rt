@@ -81,6 +81,34 @@ impl Desk {
         }
     }
 
+    // makes a buffer of a file by the reply to its request
+    fn taken_in(
+        &mut self,
+        base: &Base,
+        name: &[u8],
+        reply: &Reply,
+        journal: &mut Journal,
+    ) -> Result<Message, NoMemory>
+        requires kept { IsKept base.now.contents.spec base.now.height self.old }
+        requires free { taken name.now (session_in self.old) ≡ None }
+        requires begun { now_of journal.old ≡ [] }
+        ensures took { (r : Readers) → AreReaders base.now.contents.spec r → IfOk result (λ m. Took
+            (fetched base.now.contents.spec base.now.height r name.now (session_in self.old) reply.now) self.new m
+            (now_of journal.new)) }
+        ensures some { (r : Readers) → AreReaders base.now.contents.spec r → OnErr result (AreSome
+            base.now.contents.spec (fetched base.now.contents.spec base.now.height r name.now (session_in self.old)
+            reply.now) (now_of journal.new)) }
+        ensures same { OnErr result (session_in self.new ≡ session_in self.old) }
+        ensures kept { IsKept base.now.contents.spec base.now.height self.new }
+        ensures loads { self.new.loads ≡ self.old.loads }
+        ensures total { total_of journal.new ≡ total_of journal.old }
+    {
+        match reply {
+            Reply::Fetched(bytes) => self.read_in(base, name, bytes.as_slice(), journal),
+            _ => Ok(Message::ReadFault),
+        }
+    }
+
     /// Makes a buffer of a file by the reply to its request, and counts the load.
     pub fn take_in(
         &mut self,
@@ -102,10 +130,7 @@ impl Desk {
         ensures kept { IsKept base.now.contents.spec base.now.height self.new }
         ensures total { total_of journal.new ≡ total_of journal.old }
     {
-        let message = match reply {
-            Reply::Fetched(bytes) => self.read_in(base, name, bytes.as_slice(), journal)?,
-            _ => Message::ReadFault,
-        };
+        let message = self.taken_in(base, name, reply, journal)?;
         self.loads += 1;
         Ok(message)
     }
