@@ -72,6 +72,10 @@ module _ (g : Grove) (root : NodeId) (t : Term) (typed : Place → Option Bytes)
   unfolding page_seen
   cut_seen = refl
 
+capture_seen : (h : Held) → h.capture ≡ (state_of h).capture
+unfolding state_of
+capture_seen h = refl
+
 -- the lines of a buffer's page
 pub lines_seen : (spec : Spec) (b : Held) (page : Sheet) → b.grove.spec ≡ spec → page ≡ page_seen b.grove b.root (state_of b).term (typed_by b.capture (selected_place (state_of b)))
     → lines_of page.cells ≡ lines_of (cells_of (shown_in spec (state_of b)))
@@ -80,8 +84,4 @@ lines_seen spec b page same is =
     let typed = typed_by b.capture (selected_place (state_of b)) in
     ap (λ (p : Sheet). lines_of p.cells) is
     ∙ ap (slice_split is_newline) (bytes_seen b.grove b.root t typed)
-    ∙ (λ i. lines_of (cells_of (marks_seen (same i) t (typed_by (captured b i) (selected_place (state_of b))))))
-  where
-    captured : (h : Held) → h.capture ≡ (state_of h).capture
-    unfolding state_of
-    captured h = refl
+    ∙ (λ i. lines_of (cells_of (marks_seen (same i) t (typed_by (capture_seen b i) (selected_place (state_of b))))))

@@ -1,5 +1,5 @@
 -- What a command comes to.
-use Rattle.std.specs.Prelude.{◌≡◌, refl, ℕ, ◌≤◌, List, [], ◌∷◌, ◌++◌, length, IsTrue, Result, Ok, Err, Option, None, Some}
+use Rattle.std.specs.Prelude.{◌≡◌, refl, ℕ, ◌≤◌, List, [], ◌∷◌, ◌++◌, length, IsTrue, IfOk, OnErr, Result, Ok, Err, Option, None, Some}
 use Rattle.std.proofs.Common.{sym, ap, ◌∙◌, subst, arith, inl, inr, append-nil}
 use Rattle.sg_kinds.specs.Values.{Bytes}
 use Rattle.sg_kinds.specs.declared.spec.Spec.{Spec}
@@ -120,3 +120,14 @@ module _ (e : Editing) (file : Bytes) (before after : List Reply) (old new : She
   kept_cut spec bytes r now ok none same un =
       subst (λ (r : Result Bytes Message). Interrupted spec (keeps file (session_in e.kept) r) now before after old new) (sym ok)
       (asked_cut spec (Keep file bytes) (λ reply. says (session_in e.kept) (said_of_keep reply)) now before after old new none same un)
+
+  -- the answers of a keep, and of a refusal to keep
+  pub kept_steps : {E : Type 0} (bytes : Bytes) (r : Result Bytes Message) (res : Result Message E) → r ≡ Ok bytes → IfOk res (λ m. Answered (Keep file bytes) said_of_keep m before after old new)
+      → IfOk res (λ m. Stepped (keeps file (session_in e.kept) r) e m [] before after old new)
+  kept_steps bytes r (Ok m) ok a = kept_step bytes r m [] ok refl a
+  kept_steps bytes r (Err x) ok a = tt
+
+  pub kept_cuts : {E : Type 0} (spec : Spec) (bytes : Bytes) (r : Result Bytes Message) (res : Result Message E) → r ≡ Ok bytes → OnErr res (after ≡ before) → OnErr res (IsUnanswered old new)
+      → OnErr res (Interrupted spec (keeps file (session_in e.kept) r) [] before after old new)
+  kept_cuts spec bytes r (Ok m) ok same un = tt
+  kept_cuts spec bytes r (Err x) ok same un = kept_cut spec bytes r [] ok refl same un
