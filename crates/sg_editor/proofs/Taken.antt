@@ -77,7 +77,7 @@ said k s m now same none = record {
 }
 
 -- the term of what is held
-term_of : (h : Held) → (state_of h).term ≡ term_in h
+pub term_of : (h : Held) → (state_of h).term ≡ term_in h
 unfolding state_of
 term_of h = refl
 

@@ -1,7 +1,33 @@
+use Rattle.std.specs.Prelude.{◌≡◌, ◌<◌, ℕ, List, length, Option, Some, unwrap_or, option_map, slice_get}
+use Rattle.std.proofs.Common.{sym, ap, ◌∙◌, subst}
+use Rattle.sg_kinds.specs.Values.{Bytes}
+use Rattle.sg_kinds.specs.Fits.{Fits}
+use Rattle.sg_kinds.specs.Specification.{phylum_name}
+use Rattle.sg_kinds.specs.Terms.{Term}
+use Rattle.sg_kinds.specs.declared.spec.Phylum.{Phylum}
+use Rattle.sg_kinds.specs.declared.spec.Spec.{Spec}
+use Rattle.sg_groves.specs.Grove.{Grove}
+use Rattle.sg_groves.specs.Holds.{Holds}
+use Rattle.sg_groves.proofs.Held.{part_held}
+use Rattle.sg_edits.specs.Edits.{phylum_in}
+use Rattle.sg_edits.proofs.Placed.{fits_phylum}
+use Rattle.sg_edits.proofs.Shaped.{phylum_low}
+use Rattle.sg_states.specs.States.{selected_place}
+use Rattle.sg_buffer.specs.Held.{state_of}
 use Rattle.sg_editor.proofs.screens.head.Goals as goal
 
 pub item-requires : goal.item-requires
-item-requires c = ?
+item-requires c =
+    let b = c.args.named.now.buffer in
+    let st = state_of b in
+    let spec = c.args.base.now.contents.spec in
+    let s = part_held b.grove c.facts.ensures.grove (selected_place st) c.selected-n.result b.root st.term c.selected-n.ensures.place c.facts.ensures.whole.holds in
+    let fits : Fits b.grove.spec s.0 c.phylum-phylum.result =
+        subst (λ (g : Grove). Fits g.spec s.0 c.phylum-phylum.result) c.terms.ensures
+        (c.phylum-phylum.ensures.term s.0 (subst (λ (g : Grove). Holds g c.selected-n.result s.0) (sym c.terms.ensures) s.1)) in
+    let low = phylum_low spec c.spec.ensures.sound.shapes s.0 c.phylum-phylum.result (subst (λ (sp : Spec). Fits sp s.0 c.phylum-phylum.result) c.requires.spec_is fits) in
+    subst (λ (xs : List Phylum). c.phylum.inside.number < length xs) (sym (c.as_slice-2.ensures ∙ ap (λ (sp : Spec). sp.phyla) c.spec.ensures.spec))
+    (subst (λ (p : ℕ). p < length spec.phyla) (sym c.phylum.view_is) low)
 
 pub returns : goal.returns
 returns c = ?

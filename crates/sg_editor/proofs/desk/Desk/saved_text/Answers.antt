@@ -26,7 +26,7 @@ returns-then-cut c =
     let over = over_current spec c.args.base.now.height c.args.self.now c.requires b c.in_ok-resting.ensures.ok.0 in
     buffer_rests c.args.self.now (λ (st : State). page_text (marks_seen spec st.term nothing_typed)) b c.in_ok-resting.ensures.ok.0 c.in_ok-resting.ensures.ok.1
     ∙ text_told spec b.buffer page over.spec_is c.in_ok-resting.ensures.ok.1 c.page-page.ensures
-    ∙ ap (λ (x : Bool). if x then Err message.Size else Ok (bytes_of page.cells)) (sym c.then-cut.ensures)
+    ∙ ap (λ (x : Bool). if x then Err message.Size else Ok (bytes_of page.cells)) (sym c.if-cut.ensures)
 
 pub returns : goal.returns
 returns c =

@@ -1,16 +1,15 @@
-use Rattle.std.proofs.Common.{rules, ◌≡◌, ◌≤◌, ◌<◌, ◌^◌, [], length, IfOk, MatchOption, OnErr, ℕ, ◌+◌, ◌-◌, ◌*◌, ◌/◌, ◌%◌, Bool, true, false, nat_eq, nat_lt, List, ◌∷◌, ◌++◌, slice_index_or, slice_set, bit_and, bit_or, Fits, w8, w32, w64, Bor, MutBor}
-use Rattle.std.specs.Prelude.{⊤}
-use Rattle.sg_kinds.specs.Sound.{IsSmall, IsSound}
+use Rattle.std.specs.Prelude.{◌≡◌, Option, Some, MatchOption, ⊤}
+use Rattle.std.proofs.Common.{sym, ap, ◌∙◌, subst}
+use Rattle.sg_kinds.specs.Sound.{IsSmall}
+use Rattle.sg_kinds.specs.Terms.{Term}
 use Rattle.sg_buffer.specs.Held.{term_in}
-use Rattle.sg_eval.specs.Journal.{counted, now_of, total_of}
-use Rattle.sg_replies.specs.Calls.{shelf_state}
-use Rattle.sg_editor.specs.Ask.{AreReaders, Readers, ask, barred, keeps, loads, saved_form, saved_text}
-use Rattle.sg_editor.specs.Editing.{IsKept, current_in, height_in, session_in, session_of, spec_in, width_in}
-use Rattle.sg_editor.specs.Screen.{screen}
-use Rattle.sg_editor.specs.Session.{start}
-use Rattle.sg_editor.specs.Steps.{Interrupted, Stepped}
+use Rattle.sg_editor.specs.declared.desk.Named.{Named}
+use Rattle.sg_editor.specs.Editing.{Editing, current_in}
+use Rattle.sg_editor.proofs.Taken.{term_of}
 use Rattle.sg_editor.proofs.editor.Editor.facts.Goals as goal
 
--- src/editor.rt:75:5
 pub returns-in-Some-clause-small : goal.returns-in-Some-clause-small
-returns-in-Some-clause-small c = ?
+returns-in-Some-clause-small c =
+    subst (λ (o : Option Named). MatchOption o ⊤ (λ b. IsSmall (term_in b.buffer)))
+    (sym (sym (ap (λ (e : Editing). current_in e.kept) c.self.view_is) ∙ c.in-Some.ensures))
+    (subst IsSmall (term_of c.in-Some.named.now.buffer) c.facts.ensures.small)
