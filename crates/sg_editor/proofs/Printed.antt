@@ -18,14 +18,16 @@ use Rattle.sg_unparse.specs.Along.{node_along}
 use Rattle.sg_unparse.specs.Cells.{Mark}
 use Rattle.sg_unparse.specs.Owned.{place_of_mark}
 use Rattle.sg_unparse.specs.Page.{Cell, Region, bytes_of, cells_of, is_cut, is_newline, lines_of, region_of}
-use Rattle.sg_unparse.specs.Sheet.{Sheet, region_on}
+use Rattle.sg_unparse.specs.Sheet.{Sheet, region_on, told}
 use Rattle.sg_unparse.specs.Written.{by_node}
 use Rattle.sg_unparse.proofs.Placed.{climbs_along}
 use Rattle.sg_states.specs.Seen.{marks_seen}
 use Rattle.sg_kinds.specs.declared.spec.Spec.{Spec}
 use Rattle.sg_states.specs.States.{selected_place}
 use Rattle.sg_buffer.specs.Held.{Held, state_of, typed_by}
-use Rattle.sg_editor.specs.Screen.{shown_in}
+use Rattle.sg_buffer.specs.Buffers.{StandsFor}
+use Rattle.sg_unparse.specs.declared.page.Region.{Region as Given}
+use Rattle.sg_editor.specs.Screen.{page_begin, shown_in}
 use Rattle.sg_states.specs.Paged.{IsWhole, page_seen}
 use Rattle.sg_states.proofs.Sheeted.{IsOf, MarkOf, Tells, marks_there, region_told}
 
@@ -85,3 +87,17 @@ lines_seen spec b page same is =
     ap (λ (p : Sheet). lines_of p.cells) is
     ∙ ap (slice_split is_newline) (bytes_seen b.grove b.root t typed)
     ∙ (λ i. lines_of (cells_of (marks_seen (same i) t (typed_by (capture_seen b i) (selected_place (state_of b))))))
+
+-- the region of its selected node
+pub told_or : (o : Option Given) → told (unwrap_or o (record { line = 1; col = 1; end_line = 1; end_col = 1 })) ≡ unwrap_or (option_map told o) page_begin
+told_or None = refl
+told_or (Some r) = refl
+
+pub region_shown : (spec : Spec) (b : Held) → StandsFor b (state_of b) → b.grove.spec ≡ spec → (page : Sheet) → page ≡ page_seen b.grove b.root (state_of b).term (typed_by b.capture (selected_place (state_of b)))
+    → (n : NodeId) → Climbs (nodes b.grove) (selected_place (state_of b)) n b.root → region_on page n ≡ region_of (shown_in spec (state_of b)) (selected_place (state_of b))
+region_shown spec b stands same page is n way =
+    let t = (state_of b).term in
+    let u = selected_place (state_of b) in
+    ap (λ (p : Sheet). region_on p n) is
+    ∙ region_seen b.grove stands.grove b.root t stands.whole (typed_by b.capture u) u n way
+    ∙ (λ i. region_of (marks_seen (same i) t (typed_by (capture_seen b i) u)) u)

@@ -1,4 +1,4 @@
-use Rattle.std.specs.Prelude.{◌≡◌, ◌<◌, ℕ, List, length, Option, Some, unwrap_or, option_map, slice_get}
+use Rattle.std.specs.Prelude.{◌≡◌, ◌<◌, ℕ, List, [], length, Option, Some, unwrap_or, option_map, slice_get}
 use Rattle.std.proofs.Common.{sym, ap, ◌∙◌, subst}
 use Rattle.sg_kinds.specs.Values.{Bytes}
 use Rattle.sg_kinds.specs.Fits.{Fits}
@@ -14,6 +14,11 @@ use Rattle.sg_edits.proofs.Placed.{fits_phylum}
 use Rattle.sg_edits.proofs.Shaped.{phylum_low}
 use Rattle.sg_states.specs.States.{selected_place}
 use Rattle.sg_buffer.specs.Held.{state_of}
+use Rattle.sg_commands.specs.Turns.{selected_term}
+use Rattle.sg_unparse.specs.Page.{Region as RegionOf, region_of}
+use Rattle.sg_unparse.specs.Sheet.{told}
+use Rattle.sg_editor.specs.Screen.{page_begin, shown_in}
+use Rattle.sg_editor.proofs.Printed.{region_shown, told_or}
 use Rattle.sg_editor.proofs.screens.head.Goals as goal
 
 pub item-requires : goal.item-requires
@@ -30,4 +35,23 @@ item-requires c =
     (subst (λ (p : ℕ). p < length spec.phyla) (sym c.phylum.view_is) low)
 
 pub returns : goal.returns
-returns c = ?
+returns c =
+    let b = c.args.named.now.buffer in
+    let st = state_of b in
+    let u = selected_place st in
+    let spec = c.args.base.now.contents.spec in
+    let s = part_held b.grove c.facts.ensures.grove u c.selected-n.result b.root st.term c.selected-n.ensures.place c.facts.ensures.whole.holds in
+    let fits : Fits b.grove.spec s.0 c.phylum-phylum.result =
+        subst (λ (g : Grove). Fits g.spec s.0 c.phylum-phylum.result) c.terms.ensures
+        (c.phylum-phylum.ensures.term s.0 (subst (λ (g : Grove). Holds g c.selected-n.result s.0) (sym c.terms.ensures) s.1)) in
+    let number : c.phylum.inside.number ≡ phylum_in spec (selected_term st) =
+        c.phylum.view_is ∙ sym (fits_phylum spec s.0 c.phylum-phylum.result (subst (λ (sp : Spec). Fits sp s.0 c.phylum-phylum.result) c.requires.spec_is fits))
+        ∙ ap (phylum_in spec) (sym (ap (λ (o : Option Term). unwrap_or o st.term) s.2)) in
+    let phyla : c.as_slice-2.result.now ≡ spec.phyla = c.as_slice-2.ensures ∙ ap (λ (sp : Spec). sp.phyla) c.spec.ensures.spec in
+    let name : c.as_slice-3.result.now ≡ phylum_name spec.phyla (phylum_in spec (selected_term st)) =
+        c.as_slice-3.ensures ∙ sym (ap (λ (o : Option Phylum). unwrap_or (option_map (λ (x : Phylum). x.name) o) []) c.item.ensures)
+        ∙ (λ i. phylum_name (phyla i) (number i)) in
+    let region : told c.unwrap_or.result ≡ unwrap_or (region_of (shown_in spec st) u) page_begin =
+        ap told c.unwrap_or.ensures ∙ told_or c.region.result
+        ∙ ap (λ (o : Option RegionOf). unwrap_or o page_begin) (c.region.ensures ∙ region_shown spec b c.facts.ensures c.requires.spec_is c.page.result.now c.page.ensures c.selected-n.result c.selected-n.ensures.place) in
+    λ i. record { name = c.as_slice.ensures i; region = region i; phylum = name i; top = c.top.ensures i; ev = c.args.ev; message = c.args.message }
