@@ -131,3 +131,20 @@ module _ (e : Editing) (file : Bytes) (before after : List Reply) (old new : She
       → OnErr res (Interrupted spec (keeps file (session_in e.kept) r) [] before after old new)
   kept_cuts spec bytes r (Ok m) ok same un = tt
   kept_cuts spec bytes r (Err x) ok same un = kept_cut spec bytes r [] ok refl same un
+
+-- the answers of a load, behind its reply
+module _ {E : Type 0} (spec : Spec) (e : Editing) (request : Request) (next : Reply → Step) (reply : Reply) (now : List Instance) (before after : List Reply) (old new : ShelfState) (res : Result Message E)
+    (replies : after ≡ before ++ reply ∷ []) (replied : Replied request reply old new) where
+  pub asked_steps : IfOk res (λ m. Took (next reply) e.kept m now) → IfOk res (λ m. Stepped (Asks request next) e m now before after old new)
+  asked_steps = by res
+    where
+      by : (res : Result Message E) → IfOk res (λ m. Took (next reply) e.kept m now) → IfOk res (λ m. Stepped (Asks request next) e m now before after old new)
+      by (Ok m) took = asked_step e request next reply m now before after old new took replies replied
+      by (Err x) took = tt
+
+  pub replied_cuts : OnErr res (AreSome spec (next reply) now) → OnErr res (Interrupted spec (Asks request next) now before after old new)
+  replied_cuts = by res
+    where
+      by : (res : Result Message E) → OnErr res (AreSome spec (next reply) now) → OnErr res (Interrupted spec (Asks request next) now before after old new)
+      by (Ok m) some = tt
+      by (Err x) some = replied_cut spec request next reply now before after old new some replies replied
