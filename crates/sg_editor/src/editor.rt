@@ -163,6 +163,37 @@ impl Editor {
         }
     }
 
+    // does a command, where nothing is noted yet
+    fn act<S: Shelf>(
+        &mut self,
+        command: &Command,
+        shelf: &mut S,
+        journal: &mut Journal,
+        replies: &mut Vec<Reply>,
+    ) -> Result<Message, NoMemory>
+        requires begun { now_of journal.old ≡ [] }
+        ensures ok { (r : Readers) → AreReaders (spec_in self.old) r → IfOk result (λ m. Stepped
+            (ask (spec_in self.old) (height_in self.old) r (session_in self.old.kept) command.now) self.new m
+            (now_of journal.new) replies.old.items replies.new.items
+            (shelf_state (S.files shelf.old) (S.faults shelf.old) (S.calls shelf.old))
+            (shelf_state (S.files shelf.new) (S.faults shelf.new) (S.calls shelf.new))) }
+        ensures err { (r : Readers) → AreReaders (spec_in self.old) r → OnErr result (Interrupted (spec_in self.old)
+            (ask (spec_in self.old) (height_in self.old) r (session_in self.old.kept) command.now) (now_of journal.new)
+            replies.old.items replies.new.items
+            (shelf_state (S.files shelf.old) (S.faults shelf.old) (S.calls shelf.old))
+            (shelf_state (S.files shelf.new) (S.faults shelf.new) (S.calls shelf.new))) }
+        ensures same { OnErr result (session_in self.new.kept ≡ session_in self.old.kept) }
+        ensures setting { self.new.setting ≡ self.old.setting }
+        ensures total { total_of journal.new ≡ total_of journal.old }
+    {
+        match command {
+            Command::Load(name, file) => self.load(name, file, shelf, journal, replies),
+            Command::Save(file) => self.save(file, shelf, replies),
+            Command::SaveText(file) => self.save_text(file, shelf, replies),
+            _ => self.desk.tell(&self.base, command, journal),
+        }
+    }
+
     /// Does a command, and says what came of it. It calls the shelf at most once, and its reply comes behind the others;
     /// what is evaluated is noted in the journal. Without memory the session is as it was, and a part may be noted.
     pub fn step<S: Shelf>(
@@ -189,12 +220,7 @@ impl Editor {
         ensures most { IfOk result (λ _. length (now_of journal.new) ≤ 2 ^ 40) }
     {
         journal.begin();
-        let message = match command {
-            Command::Load(name, file) => self.load(name, file, shelf, journal, replies),
-            Command::Save(file) => self.save(file, shelf, replies),
-            Command::SaveText(file) => self.save_text(file, shelf, replies),
-            _ => self.desk.tell(&self.base, command, journal),
-        };
+        let message = self.act(command, shelf, journal, replies);
         self.facts();
         message
     }
