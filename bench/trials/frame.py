@@ -17,6 +17,15 @@ REPEATED = re.compile(r"(.{1,40}?)\1{15,}")
 SCRIPT = "script"
 
 
+class Pieces(bytes):
+    """Bytes that are some texts, each so many times, one behind the other."""
+
+    def __new__(cls, *pieces):
+        made = super().__new__(cls, b"".join(piece * times for piece, times in pieces))
+        made.pieces = pieces
+        return made
+
+
 def line_of(piece, ends):
     """The lines of a table that stand for one line of a text, where a piece that comes often stands once."""
     rows, at = [], 0
@@ -39,6 +48,8 @@ def line_of(piece, ends):
 
 def text(data):
     """The lines of a table that stand for these bytes."""
+    if isinstance(data, Pieces):
+        return "".join(text(p) if n == 1 else f"*{n} {p.decode('ascii')}\n" for p, n in data.pieces)
     lines = data.split(b"\n")
     rows = []
     for number, line in enumerate(lines):

@@ -107,32 +107,25 @@ def change(dice):
 
 
 def steps(dice):
-    """Some ways to a place, each with what is tried there."""
-    for _ in range(14):
-        way = [dice.choice(MOVES) for _ in range(dice.randrange(3))]
-        if dice.randrange(3):
-            way.append(f"goto {dice.randrange(2, 40)} {dice.randrange(1, 14)}")
-        yield way + ["copy"] * (dice.randrange(7) == 0) + [change(dice)]
+    """Rounds that begin with a tree of some size: ways to a place, each with what is tried there."""
+    for number in range(22):
+        whole = f"({tree(dice, 3)} [{tree(dice, 3)} {tree(dice, 2)} ({tree(dice, 2)} {tree(dice, 3)})])"
+        yield ["goto 2 1", f'text "{whole}"']
+        for _ in range(12):
+            way = [dice.choice(MOVES) for _ in range(dice.randrange(3))]
+            if dice.randrange(4):
+                way.append(f"goto {dice.randrange(4, 24)} {dice.randrange(3, 14)}")
+            yield way + ["copy"] * (dice.randrange(7) == 0) + [change(dice)]
+        if number % 4 == 3:
+            yield [f"save-text page{number}"]
 
 
-def long_script(table, language, seed, changes):
-    """Commands of which that many evaluate something. A page is kept now and then. The page is asked for its lines, so
-    that the term neither stays small nor grows without end; what is refused is left out but for each fourth."""
+def long_script(table, language, seed):
+    """Commands of which some 200 evaluate something. Of what is refused only a third is left in."""
     dice = random.Random(seed)
-    script, done, kept = ["new t", "next", f'text "{tree(dice, 4)}"', "copy"], 0, 0
-    while done < changes:
-        tried = list(steps(dice))
-        blocks = table.blocks_after(language, script + sum(tried, []), size=(1, 60))[len(script):]
-        for way in tried:
-            came, blocks = blocks[:len(way)], blocks[len(way):]
-            if not 14 <= len(came[-1].lines) < 50 and dice.randrange(12) and done > 3:
-                break
-            script += [c for c, b in zip(way, came) if b.message == "ok" or dice.randrange(4) == 0]
-            done += came[-1].count > 0
-        if done - kept >= changes // 7:
-            script.append(f"save-text page{done}")
-            kept = done
-    return script
+    script = ["new t", "next", "copy"] + [command for way in steps(dice) for command in way]
+    blocks = table.blocks_after(language, script, size=(1, 1))
+    return [c for c, b in zip(script, blocks) if b.message == "ok" or dice.randrange(3) == 0]
 
 
 MEET = """
@@ -226,8 +219,8 @@ def add(table):
     table.run("Two ways from one change meet; equal values stop at once.", "ways", MEET, (40, 12))
     table.run("The root, a leaf, and what puts the same term in its own place.", "ways", ROOT, (30, 8))
     table.run("One element of a list of 100 heavy ones: what stands beside it is not evaluated.", "ways", heavy(), (30, 3))
-    table.run("A long script.", "ways", long_script(table, "ways", 1, 200), (30, 1))
+    table.run("A long script.", "ways", long_script(table, "ways", 1), (30, 1))
     table.language("ranks", RANKS)
     table.run("Two visits: the same small script.", "ranks", MEET, (40, 12))
     table.run("Two visits: the root and a leaf.", "ranks", ROOT, (30, 8))
-    table.run("Two visits: a long script.", "ranks", long_script(table, "ranks", 2, 200), (30, 1))
+    table.run("Two visits: a long script.", "ranks", long_script(table, "ranks", 2), (30, 1))
