@@ -4,7 +4,9 @@ What is wanted of a case is what PROGRAM answers, which takes the command line o
 """
 import re
 import subprocess
+import sys
 import tempfile
+import time
 from pathlib import Path
 
 # The messages with which a command that names a file has called the shelf.
@@ -135,6 +137,7 @@ class Table:
     def run(self, note, language, commands, size=None, files=None, broken=()):
         """Adds the case of these commands, and answers their blocks."""
         script = "".join(f"{c}\n" for c in commands).encode("latin-1")
+        began = time.time()
         words, shelf, status, output, kept = self.answer(language, script, size, files, broken)
         blocks = blocks_of(output) if status == 0 else []
         calls, fails, stand = 2, [], set(shelf)
@@ -156,6 +159,7 @@ class Table:
         case += [f"after {name}\n{self.content(data)}" for name, data in kept.items()]
         self.blocks.append("".join(case))
         self.cases += 1
+        print(f"{time.time() - began:6.1f} s {len(self.blocks[-1]):8} bytes  {note}", file=sys.stderr)
         return blocks
 
     def whole(self):

@@ -47,6 +47,9 @@ S ::= (STRING) { STRING.value };
 parts ~ L.t; part ~ P.t; STR ~ S.t;
 """
 
+# The same without attributes, for what is large.
+PLAIN = "\n".join(line for line in KINDS.replace(' "%n= " parts.v', "").split("\n") if "$$.v" not in line and "INT v;" not in line)
+
 HEAD = b"SGT1\n"
 
 
@@ -203,10 +206,10 @@ def add(table):
     table.run("Depth 1,024 is allowed, one more is not.", "kinds", ["load a f0", "load b f1", "load c f2", "load d f3", "next"],
               (20, 1), {"f0": deep(b"Hole()", 1024), "f1": deep(b"Hole()", 1025), "f2": deep(b"Int(5)", 1023),
                         "f3": deep(b"Int(5)", 1024)})
-    files = {"f0": wide(pairs(63)), "f1": wide(pairs(63, b"Int(0)"))}
-    table.run("65,536 nodes are allowed, one more is not.", "kinds",
-              ["load a f0", "load b f1", "next", "next", "do \"pair\"", "goto 1 20", "text \"(1 2)\"", "text \"5\"", "undo"], (10, 1),
-              files)
+    table.language("plain", PLAIN)
+    table.run("65,536 nodes are allowed, one more is not.", "plain",
+              ["load b f1", "load a f0", "goto 1 20", 'do "pair"', 'text "(1 2)"', 'text "(? 2)"', 'text "5"', "undo"], (10, 1),
+              {"f0": wide(pairs(63)), "f1": wide(pairs(63, b"Int(0)"))})
     table.run("What cannot be fetched or kept.", "kinds", SESSION, (8, 3), {"locked": GOOD}, ("locked",))
     table.run("64 loads have asked for a file, and no more do; those that did not ask are not counted.", "kinds",
               ["load a bad", "load b good", "load b good"] + ["load c bad"] * 61 + ["load d good"] * 2 +
