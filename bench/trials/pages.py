@@ -239,7 +239,7 @@ tail : Tail(STR) | More(tail tail);
 STR twice(INT n, STR s) {{ n == 0 ? s : twice(n - 1, s # s) }};
 book : Book {{ local STR most; most = INT.value == 0 ? "" : twice(15, INT.value == 1 ? "a" : "\\n"); }};
 book : Book [ @ : @ {"most " * 31}@ ]
-  [ @ : @ "%t%t%t" {"most " * 31}"%n" @ ];
+  [ @ : @ "%t%t%t" {"most " * 5}"%n" @ ];
 tail : Tail [ @ ::= ^ ];
 tail : More [ @ ::= @ @ ];
 transform tail on "more" t : More(t, Tail("end"));
@@ -276,20 +276,17 @@ up
 goto 1 1
 text "0"
 save-text small
-text "2"
-goto 1015809 1
-next
 up
 alternate
+next
+text "2"
 goto 149797 3
 goto 149797 4
 goto 149797 5
 next
-next
 type "x\\ny"
-abandon
-undo
 save-text no
+abandon
 undo
 """.strip().split("\n")
 

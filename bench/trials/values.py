@@ -375,6 +375,60 @@ save-text third
 """.strip().split("\n")
 
 
+# A term of depth 1,024 whose nodes are visited twice: heights come up, what the top makes of them goes down and up again.
+DEEP = """
+root top;
+top : Top(nest);
+nest : Leaf(INT) | In(nest) | Wide(nest nest);
+nest { synthesized INT height; inherited INT below; synthesized INT sum; };
+top : Top { nest.below = nest.height; };
+nest : Leaf { $$.height = INT.value; $$.sum = $$.below; };
+nest : In { $$.height = nest$2.height + 1; nest$2.below = $$.below - 1; $$.sum = nest$2.sum + 1; };
+nest : Wide { $$.height = nest$3.height; nest$2.below = nest$3.height; nest$3.below = nest$2.height; $$.sum = nest$2.sum + nest$3.sum; };
+top : Top [ @ : "height " nest.height " sum " nest.sum "%n" @ ];
+nest : Leaf [ @ ::= ^ ":" $$.height ":" $$.below ":" $$.sum ];
+nest : In [ @ ::= "." @ ];
+nest : Wide [ @ ::= "(" @ " " @ ")" ];
+transform nest on "in" n : In(n);
+NUM : < "[0-9]+" >;
+N { synthesized nest t; };
+N ::= (NUM) { Leaf(STRtoINT(NUM.value)) } | ('.' N) { In(N$2.t) } | ('(' N '|' N ')') { Wide(N$2.t, N$3.t) };
+nest ~ N.t;
+"""
+
+DEEP_SCRIPT = f"""
+new d
+next
+text "{'.' * 1021}5"
+do "in"
+goto 2 1022
+text "6"
+text "6"
+undo
+undo
+redo
+goto 2 500
+text "{'.' * 522}5"
+copy
+text "({'.' * 521}5|{'.' * 521}6)"
+next
+paste
+undo
+delete
+undo
+save deep
+load e deep
+next
+text "{'.' * 1022}5"
+undo
+switch d
+goto 1 1
+delete
+undo
+redo
+""".strip().split("\n")
+
+
 def add(table):
     table.language("sums", SUMS)
     table.run("Synthesized and inherited attributes, locals, and an inherited attribute that nothing reads.", "sums",
@@ -391,3 +445,5 @@ def add(table):
     table.language("long", LONG)
     table.run("A list of 1,000 elements that is typed in: a change goes on as far as the numbers change.", "long", LONG_SCRIPT,
               (12, 4))
+    table.language("deep", DEEP)
+    table.run("Depth 1,024 with two visits.", "deep", DEEP_SCRIPT, (24, 2))
