@@ -134,12 +134,19 @@ class Table:
         script = "".join(f"{c}\n" for c in commands).encode("latin-1")
         return blocks_of(self.answer(language, script, **more)[3])
 
-    def run(self, note, language, commands, size=None, files=None, broken=()):
-        """Adds the case of these commands, and answers their blocks."""
+    def run(self, note, language, commands, size=None, files=None, broken=(), cut=None):
+        """Adds the case of these commands, and answers their blocks. With cut (N, M) put N fails after M bytes, where
+        the command of that put evaluates nothing."""
         script = "".join(f"{c}\n" for c in commands).encode("latin-1")
+        done = "".join(f"{c}\n" for c in commands[:cut[0]]).encode("latin-1") if cut else script
         began = time.time()
-        words, shelf, status, output, kept = self.answer(language, script, size, files, broken)
+        words, shelf, status, output, kept = self.answer(language, done, size, files, broken)
+        shelf[SCRIPT] = script
         blocks = blocks_of(output) if status == 0 else []
+        if cut:
+            assert blocks[-1].count == 0 and len(blocks) == cut[0]
+            last = "\n".join([blocks[-1].header, *("|" + line for line in blocks[-1].lines), ""])
+            output, status = output[:len(output) - len(last) + cut[1]], 6
         calls, fails, stand = 2, [], set(shelf)
         for word, block in zip(words_of(script.decode("latin-1")), blocks):
             if not block.message.startswith(CALLED.get(word[0], ())):
@@ -154,6 +161,7 @@ class Table:
         for name, data in shelf.items():
             case.append(f"file {name}\n{self.content(data)}")
         case += [f"call {number}\n" for number in fails]
+        case += [f"put {cut[0]} {cut[1]}\n"] if cut else []
         rise = sum(block.count for block in blocks)
         case.append(f"gives {status} {calls} {rise}\n{text(output)}")
         case += [f"after {name}\n{self.content(data)}" for name, data in kept.items()]

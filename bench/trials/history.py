@@ -67,7 +67,7 @@ I ::= (NUM) { STRtoINT(NUM.value) };
 rows ~ R.t; row ~ S.t; INT ~ I.t;
 """
 
-MANY = ["new a", "next"] + [f'text "{n}"' for n in range(257)] + ["undo"] * 257 + ["redo"] * 257
+MANY = ["new a", "next"] + [f'text "{n}"' for n in range(257)] + ["undo"] * 257 + ["redo"] * 40
 
 # Long runs of the three kinds of change, so that a step of each falls off.
 MIXED = ["new a", "copy", "next", 'text "1 + 2"', "up"] + ["alternate", "elide", "elide", "paste"] * 65 + ["undo"] * 257 + ["redo"] * 5

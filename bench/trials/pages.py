@@ -21,9 +21,9 @@ side : NoSide() | Side(words);
 ID : < "[a-z]+" >; NUM : < "[0-9]+" >; STRING : < "'[^']*'" >; WHITESPACE : < " +" >;
 page : Page [ @ : @ "%n%t" @ "%b%n" @ "%n-%b-%b%n-" ];
 items : NoItems [ @ ::= "%n" ]; items : Items [ @ ::= @ [ "%n" ] @ ];
-item : Line [ @ ::= "- " @ ] [ ^ : "= " @ ] [ @ : "~" ^ ] [ @ : .. ];
+item : Line [ @ ::= "- " @ ] [ @ : "~" ^ ] [ @ : .. ] [ ^ : "= " @ ];
 item : Block [ @ ::= @ " {%t%n" @ "%b%n}" ] [ @ : @ " {" .. "}" ] [ @ : "[%t%t%t" @ "%n%t%n" @ "%b%b%b%b%b]" ];
-item : Two [ @ ::= @ " & " @ ] [ ^ : @ "%n& " ^ ] [ @ : ^ "%%" .. ] [ @ : .. @ ];
+item : Two [ @ ::= @ " & " @ ] [ @ : ^ "%%" .. ] [ @ : .. @ ] [ ^ : @ "%n& " ^ ];
 item : Rule [ ^ : "%n----" ]; item : Note [ @ ::= .. @ ] [ @ : @ "%n\\"" .. "\\"\\n" ];
 words : NoWords [ @ ::= ] [ @ ::= "()" ]; words : Words [ @ ::= @ [ "," " " ] @ ] [ @ : "<" @ ">" [ ] @ ];
 word : Word [ @ ::= ^ ]; word : Number [ @ ::= "#" @ ]; word : Flag [ ^ : @ ]; word : Id [ @ ::= @ "." ];
@@ -109,33 +109,44 @@ next
 text "'x'{-a b;(=&-1 2);!'n'-c}"
 goto 3 5
 alternate
-alternate
-alternate
 next
+undo
+alternate
+alternate
+first
 alternate
 undo
-up
+undo
+undo
+first
 alternate
-alternate
-next
-goto 2 3
-elide
-elide
-goto 2 3
-alternate
-alternate
-alternate
-goto 4 7
-up
-alternate
-alternate
-alternate
-next
-goto 4 6
-elide
+first
 up
 elide
-next
+goto 5 10
+alternate
+first
+alternate
+first
+alternate
+undo
+goto 5 11
+undo
+goto 2 5
+alternate
+first
+alternate
+sibling
+first
+undo
+undo
+elide
+first
+undo
+goto 6 5
+up
+elide
+alternate
 elide
 do "note"
 alternate
@@ -145,12 +156,17 @@ do "rule"
 undo
 undo
 undo
-goto 9 1
+undo
+undo
+up
+up
+up
+sibling
 do "side"
 next
 text "a 1"
 alternate
-delete
+text ""
 alternate
 elide
 save-text marks
@@ -298,7 +314,7 @@ def add(table):
         table.run("Each move at each place.", "blocks", moves(table, begin), (30, 1))
     begin = ["new p", "next", "text \"'t'\"", "next", "text \"'x'{-a 3;(=&-)};!'n'-'b c'\"", "goto 3 5", "show"]
     table.run("Goto on each cell, and beside the page.", "blocks", every_cell(table, begin), (1, 1))
-    table.run("Schemes and marks: margins, tabs, what is not shown, and where the selection settles.", "blocks", MARKS, (40, 16))
+    table.run("Schemes and marks: margins, tabs, what is not shown, and where the selection settles.", "blocks", MARKS, (30, 10))
     table.run("Texts that are being typed, with newlines, in margins.", "blocks", CAPTURES, (40, 12))
     table.run("The window follows the selection.", "blocks", WINDOW, (8, 3))
     table.language("large", LARGE)

@@ -108,7 +108,7 @@ def change(dice):
 
 def steps(dice):
     """Rounds that begin with a tree of some size: ways to a place, each with what is tried there."""
-    for number in range(22):
+    for number in range(20):
         whole = f"({tree(dice, 3)} [{tree(dice, 3)} {tree(dice, 2)} ({tree(dice, 2)} {tree(dice, 3)})])"
         yield ["goto 2 1", f'text "{whole}"']
         for _ in range(12):

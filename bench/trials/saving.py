@@ -211,6 +211,10 @@ def add(table):
               ["load b f1", "load a f0", "goto 1 20", 'do "pair"', 'text "(1 2)"', 'text "(? 2)"', 'text "5"', "undo"], (10, 1),
               {"f0": wide(pairs(63)), "f1": wide(pairs(63, b"Int(0)"))})
     table.run("What cannot be fetched or kept.", "kinds", SESSION, (8, 3), {"locked": GOOD}, ("locked",))
+    for cut in ((5, 0), (5, 7), (5, 34), (6, 1), (8, 20)):
+        table.run("A write that fails: a front of its block stands, and its file.", "kinds",
+                  ["new a", "next", "text \"1 2\"", "show", "save kept", "save-text shown", "load b missing", "up", "save more"],
+                  (8, 3), {}, (), cut)
     table.run("64 loads have asked for a file, and no more do; those that did not ask are not counted.", "kinds",
               ["load a bad", "load b good", "load b good"] + ["load c bad"] * 61 + ["load d good"] * 2 +
               ["load b good", "load e good", "new e", "switch d", "save out", "load d out"], (4, 1),
