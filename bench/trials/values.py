@@ -2,9 +2,9 @@
 
 ABOUT = """
 Attributes that schemes show: after each edit each stored value stands on the screen, and the header tells how many
-equations were evaluated. Five languages: synthesized and inherited attributes with one that nothing reads, two visits
-with the new subterm's top between them, names in a list with functions and matching, faults as values, and a list of
-1,000 elements. Made by `bench/trials/make.py PROGRAM values`, where PROGRAM was the model of the definitions.
+equations were evaluated. Six languages: synthesized and inherited attributes with one that nothing reads, two visits
+with the new subterm's top between them, names in a list with functions and matching, faults as values, a list of 1,000
+elements, and a term of depth 1,024. Made by `bench/trials/make.py PROGRAM values`, where PROGRAM was the model of the definitions.
 """
 
 # Each node shows its depth, a number that nothing reads, its value, the greatest depth below it, and a local.
