@@ -207,10 +207,10 @@ def heavy():
     """A list of 100 trees of some 30 nodes each, of which one is exchanged many times."""
     one = "((1 (2 3)) [4 (5 6) [7 8] (9 (10 11))])"
     script = ["new h", "next", f'text "[{" ".join([one] * 100)}]"']
-    script += ["goto 2 7", "next", "sibling"]
+    script.append("goto 3 8")
     for number in range(12):
         script.append(f'text "{one.replace("6", str(6 + number % 3))}"')
-    script += ["goto 1000 12", f'text "{one.replace("3", "4")}"', "undo", "undo", "redo", "redo"]
+    script += ["goto 1027 14", f'text "{one.replace("3", "4")}"', "undo", "undo", "redo", "redo"]
     return script
 
 
