@@ -1,0 +1,5 @@
+pub mod Turn
+pub mod Turns
+pub mod Tools
+pub mod Typing
+pub mod Did
