@@ -2,6 +2,12 @@
 //! evaluates.
 #![tactic(auto)]
 
+mod history;
+pub mod laws;
+mod moving;
 mod tools;
+mod turning;
+mod typing;
 
 pub use tools::Tools;
+pub use turning::turn;
