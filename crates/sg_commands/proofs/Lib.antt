@@ -1,0 +1,7 @@
+pub mod Choosing
+pub mod Counting
+pub mod Putting
+pub mod Moving
+pub mod Undoing
+pub mod Entering
+pub mod Keeping
