@@ -5,3 +5,4 @@ pub mod Moving
 pub mod Undoing
 pub mod Entering
 pub mod Keeping
+pub mod Readers

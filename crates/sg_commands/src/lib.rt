@@ -2,9 +2,11 @@
 //! evaluates.
 #![tactic(auto)]
 
+mod entering;
 mod history;
 pub mod laws;
 mod moving;
+mod replacing;
 mod tools;
 mod turning;
 mod typing;

@@ -1,6 +1,5 @@
 //! Commands that change what is being typed.
-ghost use Rattle.std.specs.Prelude.{◌≡◌, ◌<◌, ℕ, true, length, List, None, Option, Some, IfErr, IfOk, OnErr};
-ghost use Rattle.sg_kinds.specs.Sound.{IsSound};
+ghost use Rattle.std.specs.Prelude.{◌≡◌, List, Option, Some, IfOk, OnErr};
 ghost use Rattle.sg_eval.specs.declared.journal.Instance.{Instance};
 ghost use Rattle.sg_buffer.specs.Held.{state_of};
 ghost use Rattle.sg_changes.specs.Captured.{Captured};
@@ -8,37 +7,14 @@ ghost use Rattle.sg_states.specs.States.{ended};
 ghost use Rattle.sg_edits.specs.declared.clip.Clip.{Clip as IsClipped};
 ghost use Rattle.sg_input.specs.Entered.{bad_byte as bad_byte_in};
 ghost use Rattle.sg_commands.specs.Did.{Did};
-ghost use Rattle.sg_commands.specs.Turn.{Turn, becomes, says};
-ghost use Rattle.sg_commands.specs.Turns.{enterable, entry_here, erases, is_editable_here, types};
+ghost use Rattle.sg_commands.specs.Turn.{becomes};
+ghost use Rattle.sg_commands.specs.Turns.{enterable, erases, types};
 
+use crate::entering::{entry_here, is_editable_here};
 use crate::moving::said;
 use sg_buffer::Buffer;
-use sg_edits::is_editable;
-use sg_input::entry_of;
 use sg_kinds::memory::NoMemory;
 use sg_screen::Message;
-
-/// The place of a phylum's entry for the selected node, or why no text may be entered there.
-pub fn entry_at(buffer: &Buffer) -> Result<u32, Message>
-    requires { IsSound buffer.now.grove.spec }
-    ensures entry { IfOk result (λ e. (clip : Option IsClipped) (enters : ℕ → Turn) → enterable
-        buffer.now.grove.spec clip (state_of buffer.now) enters ≡ enters e) }
-    ensures there { IfOk result (λ e. entry_here buffer.now.grove.spec (state_of buffer.now) ≡ Some e) }
-    ensures editable { IfOk result (λ _. is_editable_here buffer.now.grove.spec (state_of buffer.now) ≡ true) }
-    ensures refused { IfErr result (λ m. (clip : Option IsClipped) (enters : ℕ → Turn) → enterable
-        buffer.now.grove.spec clip (state_of buffer.now) enters ≡ says clip m (state_of buffer.now)) }
-{
-    buffer.facts();
-    let terms = buffer.terms();
-    let selected = buffer.selected();
-    if !is_editable(terms, selected) {
-        return Err(Message::NotEditable);
-    }
-    match entry_of(terms.spec(), terms.phylum(selected)) {
-        Some(entry) => Ok(entry),
-        None => Err(Message::NoEntry),
-    }
-}
 
 // the place of the first byte that is not allowed
 fn bad_byte(bytes: &[u8]) -> Option<usize>
@@ -68,8 +44,7 @@ pub fn type_in(buffer: &mut Buffer, bytes: &[u8]) -> Result<Message, NoMemory>
 
 /// `type`, where no text is being typed. One node is selected.
 pub fn begin(buffer: &mut Buffer, bytes: &[u8]) -> Result<Message, NoMemory>
-    requires sound { IsSound buffer.old.grove.spec }
-    requires one { (state_of buffer.old).spot.selection.count ≡ 1 }
+    requires { (state_of buffer.old).spot.selection.count ≡ 1 }
     ensures did { (clip : Option IsClipped) (now : List Instance) → IfOk result (λ m. Did (enterable
         buffer.old.grove.spec clip (state_of buffer.old) (λ _. types clip (state_of buffer.old) bytes.now)) m
         buffer.new clip now now) }
@@ -77,9 +52,12 @@ pub fn begin(buffer: &mut Buffer, bytes: &[u8]) -> Result<Message, NoMemory>
     ensures spec { buffer.new.grove.spec ≡ buffer.old.grove.spec }
     ensures height { buffer.new.height ≡ buffer.old.height }
 {
-    match entry_at(buffer) {
-        Ok(_) => type_in(buffer, bytes),
-        Err(why) => Ok(why),
+    if !is_editable_here(buffer) {
+        return Ok(Message::NotEditable);
+    }
+    match entry_here(buffer) {
+        Some(_) => type_in(buffer, bytes),
+        None => Ok(Message::NoEntry),
     }
 }
 
