@@ -65,5 +65,5 @@ pub fn copy(alloc: Global, buffer: &Buffer) -> Result<Clip, NoMemory>
     ensures fits { IfOk result (λ c. Fits buffer.now.grove.spec c.term c.phylum) }
 {
     buffer.facts();
-    copied(alloc, buffer.terms(), buffer.selected())
+    Ok(copied(alloc, buffer.terms(), buffer.selected())?)
 }
