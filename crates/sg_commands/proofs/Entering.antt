@@ -1,41 +1,22 @@
 -- What is typed, and where it may be, as turns.
-use Rattle.std.specs.Prelude.{◌≡◌, ◌↔◌, refl, ℕ, Bool, true, false, nat_eq, not, if◌then◌else◌, List, Option, None, Some, unwrap_or, MatchOption, ⊤}
+use Rattle.std.specs.Prelude.{◌≡◌, ◌↔◌, refl, ℕ, Bool, true, false, nat_eq, not, if◌then◌else◌, List, Option, None, Some, MatchOption, ⊤}
 use Rattle.std.proofs.Common.{sym, ap, ◌∙◌, subst}
 use Rattle.std.proofs.lemmas.Bool.{false≢true}
 use Rattle.sg_kinds.specs.Values.{Bytes}
-use Rattle.sg_kinds.specs.Terms.{Term}
 use Rattle.sg_kinds.specs.declared.spec.Spec.{Spec}
 use Rattle.sg_kinds.proofs.Elementary.{eq_is}
 use Rattle.sg_eval.specs.declared.journal.Instance.{Instance}
-use Rattle.sg_forest.specs.declared.node_id.NodeId.{NodeId}
-use Rattle.sg_forest.specs.Trees.{Climbs}
-use Rattle.sg_groves.specs.Grove.{nodes}
-use Rattle.sg_groves.specs.Holds.{Holds}
-use Rattle.sg_groves.proofs.Held.{part_held}
 use Rattle.sg_changes.specs.Captured.{Captured}
-use Rattle.sg_changes.specs.Changes.{part_of}
-use Rattle.sg_kinds.specs.Places.{sub}
 use Rattle.sg_screen.specs.declared.message.Message.TheVariants as message
-use Rattle.sg_states.specs.States.{State, erased, typed, selected_place}
-use Rattle.sg_buffer.specs.Buffers.{StandsFor}
+use Rattle.sg_states.specs.States.{State, erased, typed}
 use Rattle.sg_buffer.specs.Held.{Held, state_of}
 use Rattle.sg_edits.specs.declared.clip.Clip.{Clip}
 use Rattle.sg_input.specs.Entered.{bad_byte}
 use Rattle.sg_commands.specs.Did.{Did}
 use Rattle.sg_commands.specs.Turn.{Turn, becomes, found_or, says}
-use Rattle.sg_commands.specs.Turns.{enterable, entry_here, erases, is_editable_here, selected_term, types, types_unless}
+use Rattle.sg_commands.specs.Turns.{enterable, entry_here, erases, is_editable_here, types, types_unless}
 use Rattle.sg_commands.proofs.Moving.{done_did, said_of}
 use Rattle.sg_commands.proofs.Putting.{refused_did}
-
--- the selected node holds the selected term
-pub selected_held : (b : Held) → StandsFor b (state_of b) → (n : NodeId)
-    → Climbs (nodes b.grove) (selected_place (state_of b)) n b.root → Holds b.grove n (selected_term (state_of b))
-selected_held b stands n way =
-    let part = part_held b.grove stands.grove (selected_place (state_of b)) n b.root (state_of b).term way stands.whole.holds in
-    subst (Holds b.grove n) (sym (part_is (state_of b).term part.0 part.2)) part.1
-  where
-    part_is : (t s : Term) → sub t (selected_place (state_of b)) ≡ Some s → part_of t (selected_place (state_of b)) ≡ s
-    part_is t s at = ap (λ o. unwrap_or o t) at
 
 -- where a text may be typed
 module _ (spec : Spec) (clip : Option Clip) (st : State) (enters : ℕ → Turn) where

@@ -1,8 +1,11 @@
 pub mod Choosing
 pub mod Counting
 pub mod Putting
+pub mod Reading
+pub mod Removing
 pub mod Moving
 pub mod Undoing
 pub mod Entering
 pub mod Keeping
+pub mod Table
 pub mod Readers
