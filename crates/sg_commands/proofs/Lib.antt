@@ -1,3 +1,6 @@
 mod Counting
 mod Putting
 mod Choosing
+mod Reading
+mod Removing
+mod Entering

@@ -106,14 +106,18 @@ module _ (spec : Spec) (sound : IsSound spec) (t : Term) (u : Place) (s : Term) 
   noted_listed w (inr some) = inr (record { grove = some.grove; same = some.same; root = some.root; gained = gained_listed some.grove some.root w some.gained })
 
 module _ (old new : Held) (clip : Option Clip) (was now : List Instance) where
+  -- a message, in a state that it left
+  pub says_did : (m : Message) (st : State) → state_of new ≡ st → now ≡ was → Did (says clip m st) m new clip was now
+  says_did m st state none = record {
+    message = refl;
+    state = state;
+    copied = refl;
+    evaluated = nothing_gained new.grove new.root st.term was now none;
+  }
+
   -- a refusal
   pub refused_did : (m : Message) → new ≡ old → now ≡ was → Did (says clip m (state_of old)) m new clip was now
-  refused_did m same none = record {
-    message = refl;
-    state = ap state_of same;
-    copied = refl;
-    evaluated = nothing_gained new.grove new.root (state_of old).term was now none;
-  }
+  refused_did m same none = says_did m (state_of old) (ap state_of same) none
 
   module _ (u : Place) (s : Term) (select : Selection) where
     abbrev choice : Choice

@@ -1,3 +1,5 @@
+use Rattle.std.specs.Prelude.{Err}
+use Rattle.std.proofs.Common.{ap}
 use Rattle.sg_kinds.specs.Places.{place_of}
 use Rattle.sg_eval.specs.Journal.{now_of}
 use Rattle.sg_commands.proofs.Putting.{no_size, put_did, put_gave_up, size_did}
@@ -12,8 +14,8 @@ returns-in-Ok-clause-did c = λ clip.
 pub returns-in-Err-Size-clause-did : goal.returns-in-Err-Size-clause-did
 returns-in-Err-Size-clause-did c = λ clip.
     let e = c.in-Err-Size.ensures in
-    let size = e.size c.in-Err-Size.field-0-0 c.in-Err-Size.field-0-is in
-    let kept = e.refused c.in-Err-Size.field-0-0 c.in-Err-Size.field-0-is in
+    let size = e.size c.in-Err-Size.field-0-0 (ap Err c.in-Err-Size.field-0-is) in
+    let kept = e.refused c.in-Err-Size.field-0-0 (ap Err c.in-Err-Size.field-0-is) in
     size_did c.args.buffer.now c.replace.new.self clip (now_of c.args.journal.now) (now_of c.replace.new.journal) (place_of c.args.at.now) c.args.t.now c.args.select.now
     size.0 kept.0 kept.1
 
@@ -23,4 +25,4 @@ returns-in-Err-NoMemory-clause-gave_up c = λ clip.
     let fault = c.in-Err-NoMemory.field-0 in
     let none = c.in-Err-NoMemory.field-0-is in
     put_gave_up c.args.buffer.now c.replace.new.self clip (now_of c.args.journal.now) (now_of c.replace.new.journal) (place_of c.args.at.now) c.args.t.now c.args.select.now
-    c.requires.tools.sound (λ big. (let size = e.large big in no_size fault none size.0 size.1)) (e.as_before none).state (e.noted none)
+    c.requires.tools.sound (λ big. (let size = e.large big in no_size fault none size.0 size.1)) (e.as_before (ap Err none)).state (e.noted (ap Err none))
