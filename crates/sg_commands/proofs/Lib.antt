@@ -3,9 +3,10 @@ pub mod Counting
 pub mod Putting
 pub mod Reading
 pub mod Removing
+pub mod Entering
 pub mod Moving
 pub mod Undoing
-pub mod Entering
+pub mod Captures
 pub mod Keeping
 pub mod Table
 pub mod Readers

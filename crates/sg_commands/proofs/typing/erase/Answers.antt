@@ -2,7 +2,7 @@ use Rattle.std.proofs.Common.{sym, subst, ◌∙◌}
 use Rattle.sg_buffer.specs.Held.{state_of}
 use Rattle.sg_commands.specs.Did.{Did}
 use Rattle.sg_commands.specs.Turns.{erases}
-use Rattle.sg_commands.proofs.Entering.{erased_did}
+use Rattle.sg_commands.proofs.Captures.{erased_did}
 use Rattle.sg_commands.proofs.typing.erase.Goals as goal
 
 pub returns-clause-did : goal.returns-clause-did

@@ -1,6 +1,6 @@
 use Rattle.std.proofs.Common.{sym, refl, ◌∙◌}
 use Rattle.sg_input.proofs.Answering.{none-bad}
-use Rattle.sg_commands.proofs.Entering.{bad_did, typed_did}
+use Rattle.sg_commands.proofs.Captures.{bad_did, typed_did}
 use Rattle.sg_commands.proofs.typing.type_in.Goals as goal
 
 pub returns-in-Some-clause-did : goal.returns-in-Some-clause-did
