@@ -3,4 +3,4 @@ mod Putting
 mod Choosing
 mod Reading
 mod Removing
-mod Entering
+mod Typed
