@@ -1,6 +1,12 @@
-mod Counting
-mod Putting
-mod Choosing
-mod Reading
-mod Removing
-mod Typed
+pub mod Choosing
+pub mod Counting
+pub mod Putting
+pub mod Reading
+pub mod Removing
+pub mod Typed
+pub mod Moving
+pub mod Undoing
+pub mod Captures
+pub mod Keeping
+pub mod Table
+pub mod Readers

@@ -13,7 +13,7 @@ use Rattle.sg_input.specs.Entered.{Entered, BadByte, NoToken, Stopped, Faulted, 
 use Rattle.sg_input.specs.Parsed.{entered_of}
 use Rattle.sg_input.specs.declared.entering.EntryFault.{EntryFault}
 use Rattle.sg_commands.specs.Replaced.{entry_turn, enters_in, StopsWithin, text_turn}
-use Rattle.sg_commands.specs.Turn.{found_or, in_capture, says, Reads}
+use Rattle.sg_commands.specs.Turn.{found_or, says, Reads}
 use Rattle.sg_commands.specs.Turns.{enters, enters_typed, entry_here, is_editable_here}
 
 -- what is being typed in the state of a buffer

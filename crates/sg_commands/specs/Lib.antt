@@ -3,3 +3,4 @@ pub mod Turns
 pub mod Tools
 pub mod Typing
 pub mod Did
+pub mod Replaced

@@ -15,8 +15,8 @@ use Rattle.sg_edits.specs.declared.clip.Clip.{Clip}
 use Rattle.sg_input.specs.Entered.{Entered}
 use Rattle.sg_input.specs.declared.entering.EntryFault.{EntryFault}
 use Rattle.sg_input.specs.declared.entering.EntryFault.TheVariants as fault
-use Rattle.sg_commands.specs.Turn.{Turn, Reads, found_or, in_capture}
-use Rattle.sg_commands.specs.Turns.{enterable, enters, enters_typed, entry_here, puts, replaces, selected_term}
+use Rattle.sg_commands.specs.Turn.{Turn, Reads, found_or}
+use Rattle.sg_commands.specs.Turns.{enterable, enters, enters_captured, enters_typed, puts, replaces, selected_term}
 
 -- what is chosen of its term and its selected place
 abbrev pub chosen_in : Held → (Spec → Term → Place → Choice) → Choice
@@ -47,8 +47,8 @@ enters_in b clip a = enters_typed b.grove.spec b.height clip (state_of b) a
 
 abbrev pub text_turn : Held → Option Clip → Reads → Bytes → Turn
 text_turn b clip reads bytes = let st = state_of b in
-    enterable b.grove.spec b.height clip st (λ entry. enters b.grove.spec b.height clip st (reads entry bytes))
+    enterable b.grove.spec clip st (λ entry. enters b.grove.spec b.height clip st (reads entry bytes))
 
 abbrev pub entry_turn : Held → Option Clip → Reads → Turn
-entry_turn b clip reads = let st = state_of b in in_capture clip st (λ c. found_or clip st message.NoEntry
-    (λ entry. enters_in b clip (reads entry c.text)) (entry_here b.grove.spec st))
+entry_turn b clip reads = let st = state_of b in found_or clip st message.NotInText
+    (λ c. enters_captured b.grove.spec b.height clip st (λ entry. reads entry c.text)) st.capture

@@ -1,10 +1,9 @@
 -- What a command makes of the current buffer.
-use Rattle.std.specs.Prelude.{ℕ, ◌<◌, Bool, if◌then◌else◌, List, [], length, Option, None, Some, is_some}
+use Rattle.std.specs.Prelude.{ℕ, ◌<◌, Bool, if◌then◌else◌, List, [], length, Option, None, Some}
 use Rattle.sg_kinds.specs.Values.{Bytes}
 use Rattle.sg_kinds.specs.Places.{Place}
 use Rattle.sg_kinds.specs.Nets.{Reference}
 use Rattle.sg_kinds.specs.declared.spec.Spec.{Spec}
-use Rattle.sg_changes.specs.Captured.{Captured}
 use Rattle.sg_screen.specs.declared.message.Message.{Message}
 use Rattle.sg_screen.specs.declared.message.Message.TheVariants as message
 use Rattle.sg_states.specs.States.{State}
@@ -43,10 +42,3 @@ module _ (clip : Option Clip) where
     abbrev pub found_or : {A : Type 0} → Message → (A → Turn) → Option A → Turn
     found_or m found None = says m st
     found_or m found (Some x) = found x
-
-    -- while a text is being typed, and while none is
-    abbrev pub in_capture : (Captured → Turn) → Turn
-    in_capture turn = found_or message.NotInText turn st.capture
-
-    abbrev pub plainly : Turn → Turn
-    plainly turn = refused_if (is_some st.capture) message.InText turn

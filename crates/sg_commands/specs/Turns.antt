@@ -1,11 +1,13 @@
 -- The table of commands in the current buffer: of each its refusals in their order, and what it does.
-use Rattle.std.specs.Prelude.{ℕ, Bool, not, nat_eq, if◌then◌else◌, List, [], ◌∷◌, Option, None, Some, is_some}
+use Rattle.std.specs.Prelude.{ℕ, Bool, not, nat_eq, List, [], ◌∷◌, Option, None, Some}
+use Rattle.std.specs.Option.{option_map_or}
 use Rattle.sg_kinds.specs.Values.{Bytes}
 use Rattle.sg_kinds.specs.Terms.{Term}
 use Rattle.sg_kinds.specs.Places.{Place}
 use Rattle.sg_kinds.specs.Nets.{Reference}
 use Rattle.sg_kinds.specs.declared.spec.Spec.{Spec}
 use Rattle.sg_groves.specs.Evaluated.{evaluated}
+use Rattle.sg_changes.specs.Captured.{Captured}
 use Rattle.sg_changes.specs.Changes.{Change, Put as Putting, Mark as Marking, part_of}
 use Rattle.sg_screen.specs.declared.message.Message.TheVariants as message
 use Rattle.sg_script.specs.declared.command.Command.{Command}
@@ -20,7 +22,7 @@ use Rattle.sg_edits.specs.Choice.{Choice, Refused, Put, limited}
 use Rattle.sg_edits.specs.Edits.{phylum_in, is_editable, clip_of, done, deleted, pasted, removed, inserted, typed as typed_in}
 use Rattle.sg_edits.specs.declared.clip.Clip.{Clip}
 use Rattle.sg_input.specs.Entered.{Entered, BadByte, NoToken, Stopped, Faulted, Typed, entry_at, bad_byte}
-use Rattle.sg_commands.specs.Turn.{Turn, Reads, says, becomes, refused_if, found_or, in_capture, plainly}
+use Rattle.sg_commands.specs.Turn.{Turn, Reads, says, becomes, refused_if, found_or}
 
 -- the selected term; the entry of its phylum; whether it may be typed in
 abbrev pub selected_term : State → Term
@@ -40,6 +42,38 @@ evaluated_back spec t (Marking u old new before after) = []
 abbrev pub evaluated_forth : Spec → Term → Change → List (Reference Place)
 evaluated_forth spec t (Putting u old new before after) = evaluated spec t u new
 evaluated_forth spec t (Marking u old new before after) = []
+
+module _ (clip : Option Clip) (st : State) where
+  -- bytes typed in
+  abbrev pub types_unless : Option ℕ → Bytes → Turn
+  types_unless None bytes = becomes clip (typed bytes st)
+  types_unless (Some k) bytes = says clip (message.ByteAt k) st
+
+  abbrev pub types : Bytes → Turn
+  types bytes = types_unless (bad_byte bytes) bytes
+
+  -- a byte taken away
+  abbrev pub erases : Captured → Turn
+  erases c = refused_if clip st (nat_eq c.point 0) message.NoPlace (becomes clip (erased st))
+
+module _ (spec : Spec) (clip : Option Clip) (st : State) where
+  -- a node that may be typed in, and its entry
+  abbrev pub enterable : (ℕ → Turn) → Turn
+  enterable enters = refused_if clip st (not (is_editable_here spec st)) message.NotEditable
+      (found_or clip st message.NoEntry enters (entry_here spec st))
+
+  -- the newest change undone, and the next one done again
+  abbrev pub undoes : List Change → Turn
+  undoes [] = says clip message.NothingToUndo st
+  undoes (c ∷ cs) = record (becomes clip (undone st)) { set = evaluated_back spec st.term c }
+
+  abbrev pub redoes : List Change → Turn
+  redoes [] = says clip message.NothingToRedo st
+  redoes (c ∷ cs) = record (becomes clip (redone st)) { set = evaluated_forth spec st.term c }
+
+-- what is copied
+abbrev pub copied_of : Spec → State → Clip
+copied_of spec st = clip_of spec (selected_term st)
 
 module _ (spec : Spec) (height : ℕ) (clip : Option Clip) (st : State) where
   -- moves of the selection
@@ -66,29 +100,8 @@ module _ (spec : Spec) (height : ℕ) (clip : Option Clip) (st : State) where
   abbrev pub puts : Choice → Turn
   puts choice = replaces clip (limited st.term choice)
 
-  -- what is copied, and cut
-  abbrev pub copies : Turn
-  copies = becomes (Some (clip_of spec (selected_term st))) st
-
   abbrev pub cuts : Turn
-  cuts = replaces (Some (clip_of spec (selected_term st)))
-      (limited st.term (deleted spec st.term (selected_place st)))
-
-  -- the newest change undone, and the next one done again
-  abbrev pub undoes_of : List Change → Turn
-  undoes_of [] = says clip message.NothingToUndo st
-  undoes_of (c ∷ cs) =
-      record (becomes clip (undone st)) { set = evaluated_back spec st.term c }
-
-  abbrev pub redoes_of : List Change → Turn
-  redoes_of [] = says clip message.NothingToRedo st
-  redoes_of (c ∷ cs) =
-      record (becomes clip (redone st)) { set = evaluated_forth spec st.term c }
-
-  -- a node that may be typed in, and its entry
-  abbrev pub enterable : (ℕ → Turn) → Turn
-  enterable enters = refused_if clip st (not (is_editable_here spec st)) message.NotEditable
-      (found_or clip st message.NoEntry enters (entry_here spec st))
+  cuts = replaces (Some (copied_of spec st)) (limited st.term (deleted spec st.term (selected_place st)))
 
   -- a text that an entry read; where it was typed, the point goes where the reading failed
   abbrev pub enters : Entered → Turn
@@ -103,50 +116,55 @@ module _ (spec : Spec) (height : ℕ) (clip : Option Clip) (st : State) where
   enters_typed (Stopped k) = says clip (message.ParseAt k) (pointed k st)
   enters_typed read = enters read
 
-  -- bytes typed in
-  abbrev pub types_good : Bytes → Option ℕ → Turn
-  types_good bytes None = becomes clip (typed bytes st)
-  types_good bytes (Some k) = says clip (message.ByteAt k) st
+  -- by the entry of the node where it was typed
+  abbrev pub enters_captured : (ℕ → Entered) → Turn
+  enters_captured read = found_or clip st message.NoEntry (λ entry. enters_typed (read entry)) (entry_here spec st)
 
-  abbrev pub types : Bytes → Turn
-  types bytes = if is_some st.capture then types_good bytes (bad_byte bytes)
-      else enterable (λ entry. types_good bytes (bad_byte bytes))
+-- the table while nothing is being typed; the commands of sessions and files leave the buffer
+module _ (spec : Spec) (height : ℕ) (reads : Reads) (clip : Option Clip) (st : State) where
+  abbrev pub plain_turn : Command → Turn
+  plain_turn command.Next = goes spec height clip st Next
+  plain_turn command.Prev = goes spec height clip st Prev
+  plain_turn command.Up = goes spec height clip st Up
+  plain_turn command.First = goes spec height clip st First
+  plain_turn command.Sibling = goes spec height clip st Sibling
+  plain_turn (command.Goto line column) = picks spec height clip st line column
+  plain_turn (command.Do name) = puts spec height clip st (done spec st.term (selected_place st) name)
+  plain_turn command.Delete = puts spec height clip st (deleted spec st.term (selected_place st))
+  plain_turn command.Remove = replaces spec height clip st clip (removed spec st.term (selected_place st))
+  plain_turn command.InsertBefore = puts spec height clip st (inserted spec st.term (selected_place st) false)
+  plain_turn command.InsertAfter = puts spec height clip st (inserted spec st.term (selected_place st) true)
+  plain_turn command.Cut = cuts spec height clip st
+  plain_turn command.Copy = becomes (Some (copied_of spec st)) st
+  plain_turn command.Paste = puts spec height clip st (pasted spec st.term (selected_place st) clip)
+  plain_turn (command.Text text) =
+      enterable spec clip st (λ entry. enters spec height clip st (reads entry text))
+  plain_turn (command.TypeIn text) = enterable spec clip st (λ entry. types clip st text)
+  plain_turn command.Erase = says clip message.NotInText st
+  plain_turn command.Enter = says clip message.NotInText st
+  plain_turn command.Abandon = says clip message.NotInText st
+  plain_turn command.Alternate = marks spec height clip st Alternate
+  plain_turn command.Elide = marks spec height clip st Elide
+  plain_turn command.Undo = undoes spec clip st st.past
+  plain_turn command.Redo = redoes spec clip st st.future
+  plain_turn other = becomes clip st
 
-  abbrev pub erases : Turn
-  erases = in_capture clip st (λ c. refused_if clip st (nat_eq c.point 0) message.NoPlace (becomes clip (erased st)))
+  -- and while this text is
+  abbrev pub typing_turn : Captured → Command → Turn
+  typing_turn c (command.TypeIn text) = types clip st text
+  typing_turn c command.Erase = erases clip st c
+  typing_turn c command.Enter = enters_captured spec height clip st (λ entry. reads entry c.text)
+  typing_turn c command.Abandon = becomes clip (ended st)
+  typing_turn c command.Show = becomes clip st
+  typing_turn c (command.New name) = becomes clip st
+  typing_turn c (command.Load name file) = becomes clip st
+  typing_turn c (command.Switch name) = becomes clip st
+  typing_turn c (command.Save file) = becomes clip st
+  typing_turn c (command.SaveText file) = becomes clip st
+  typing_turn c other = says clip message.InText st
 
--- the table; the commands of sessions and files leave the buffer
+-- a command
 unfoldable pub turn : Spec → ℕ → Reads → Option Clip → State → Command → Turn
-turn spec height reads clip st command.Next = plainly clip st (goes spec height clip st Next)
-turn spec height reads clip st command.Prev = plainly clip st (goes spec height clip st Prev)
-turn spec height reads clip st command.Up = plainly clip st (goes spec height clip st Up)
-turn spec height reads clip st command.First = plainly clip st (goes spec height clip st First)
-turn spec height reads clip st command.Sibling = plainly clip st (goes spec height clip st Sibling)
-turn spec height reads clip st (command.Goto line column) = plainly clip st (picks spec height clip st line column)
-turn spec height reads clip st (command.Do name) =
-    plainly clip st (puts spec height clip st (done spec st.term (selected_place st) name))
-turn spec height reads clip st command.Delete =
-    plainly clip st (puts spec height clip st (deleted spec st.term (selected_place st)))
-turn spec height reads clip st command.Remove =
-    plainly clip st (replaces spec height clip st clip (removed spec st.term (selected_place st)))
-turn spec height reads clip st command.InsertBefore =
-    plainly clip st (puts spec height clip st (inserted spec st.term (selected_place st) false))
-turn spec height reads clip st command.InsertAfter =
-    plainly clip st (puts spec height clip st (inserted spec st.term (selected_place st) true))
-turn spec height reads clip st command.Cut = plainly clip st (cuts spec height clip st)
-turn spec height reads clip st command.Copy = plainly clip st (copies spec height clip st)
-turn spec height reads clip st command.Paste =
-    plainly clip st (puts spec height clip st (pasted spec st.term (selected_place st) clip))
-turn spec height reads clip st (command.Text text) =
-    plainly clip st (enterable spec height clip st (λ entry. enters spec height clip st (reads entry text)))
-turn spec height reads clip st (command.TypeIn text) = types spec height clip st text
-turn spec height reads clip st command.Erase = erases spec height clip st
-turn spec height reads clip st command.Enter =
-    in_capture clip st (λ c. found_or clip st message.NoEntry
-    (λ entry. enters_typed spec height clip st (reads entry c.text)) (entry_here spec st))
-turn spec height reads clip st command.Abandon = in_capture clip st (λ c. becomes clip (ended st))
-turn spec height reads clip st command.Alternate = plainly clip st (marks spec height clip st Alternate)
-turn spec height reads clip st command.Elide = plainly clip st (marks spec height clip st Elide)
-turn spec height reads clip st command.Undo = plainly clip st (undoes_of spec height clip st st.past)
-turn spec height reads clip st command.Redo = plainly clip st (redoes_of spec height clip st st.future)
-turn spec height reads clip st other = becomes clip st
+turn spec height reads clip st command =
+    option_map_or (λ c. typing_turn spec height reads clip st c command) st.capture
+    (plain_turn spec height reads clip st command)

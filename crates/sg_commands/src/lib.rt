@@ -2,6 +2,14 @@
 //! evaluates.
 #![tactic(auto)]
 
+mod entering;
+mod history;
+pub mod laws;
+mod moving;
+mod replacing;
 mod tools;
+mod turning;
+mod typing;
 
 pub use tools::Tools;
+pub use turning::turn;
