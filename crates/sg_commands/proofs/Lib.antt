@@ -4,7 +4,7 @@ pub mod Putting
 pub mod Reading
 pub mod Removing
 pub mod Typed
-pub mod Moving
+pub mod Moved
 pub mod Undoing
 pub mod Captures
 pub mod Keeping
