@@ -15,7 +15,7 @@ use Rattle.sg_input.specs.Entered.{bad_byte}
 use Rattle.sg_commands.specs.Did.{Did}
 use Rattle.sg_commands.specs.Turn.{Turn, becomes, found_or, says}
 use Rattle.sg_commands.specs.Turns.{enterable, entry_here, erases, is_editable_here, types, types_unless}
-use Rattle.sg_commands.proofs.Moving.{done_did, said_of}
+use Rattle.sg_commands.proofs.Moved.{done_did, said_of}
 use Rattle.sg_commands.proofs.Putting.{refused_did}
 
 -- where a text may be typed

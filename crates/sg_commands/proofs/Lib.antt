@@ -3,8 +3,8 @@ pub mod Counting
 pub mod Putting
 pub mod Reading
 pub mod Removing
-pub mod Entering
-pub mod Moving
+pub mod Typed
+pub mod Moved
 pub mod Undoing
 pub mod Captures
 pub mod Keeping

@@ -19,7 +19,7 @@ use Rattle.sg_edits.specs.declared.clip.Clip.{Clip}
 use Rattle.sg_commands.specs.Did.{Did, GaveUp}
 use Rattle.sg_commands.specs.Turn.{says}
 use Rattle.sg_commands.specs.Turns.{evaluated_back, evaluated_forth, undoes, redoes}
-use Rattle.sg_commands.proofs.Moving.{said_of}
+use Rattle.sg_commands.proofs.Moved.{said_of}
 use Rattle.sg_commands.proofs.Putting.{nothing_gained, refused_did, all_listed, noted_listed}
 
 no_change : (c : Change) (cs : List Change) → (c ∷ cs ≡ []) → ⊥

@@ -71,6 +71,7 @@ fn put_value(
 }
 
 // moves the point of the text that is being typed, if one is
+#[tactic(auto, using(crate::proofs::Typed::unpointed_in))]
 fn put_point(buffer: &mut Buffer, k: usize)
     requires { MatchOption buffer.old.capture ⊤ (λ c. k ≤ length c.text) }
     ensures state { state_of buffer.new ≡ pointed k (state_of buffer.old) }
@@ -83,6 +84,7 @@ fn put_point(buffer: &mut Buffer, k: usize)
 }
 
 // does what a text that was read gives; where reading failed at a token, the point of the text goes there
+#[tactic(none)]
 fn put_read(
     alloc: Global,
     tools: &Tools,
@@ -120,6 +122,7 @@ fn put_read(
 }
 
 /// `text`: what the entry of the selected node's phylum derives from a text, in its place. No text is being typed.
+#[tactic(none)]
 pub fn text(
     alloc: Global,
     tools: &Tools,
@@ -157,6 +160,7 @@ pub fn text(
 }
 
 /// `enter`: as `text`, with the text that is being typed, whose typing ends; where it is not read, its point goes there.
+#[tactic(none)]
 pub fn enter_typed(
     alloc: Global,
     tools: &Tools,

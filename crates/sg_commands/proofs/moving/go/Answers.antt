@@ -4,7 +4,7 @@ use Rattle.sg_states.specs.States.{moved}
 use Rattle.sg_buffer.specs.Held.{state_of}
 use Rattle.sg_commands.specs.Did.{Did}
 use Rattle.sg_commands.specs.Turns.{goes}
-use Rattle.sg_commands.proofs.Moving.{found_did}
+use Rattle.sg_commands.proofs.Moved.{found_did}
 use Rattle.sg_commands.proofs.moving.go.Goals as goal
 
 pub returns-clause-did : goal.returns-clause-did

@@ -4,7 +4,7 @@ use Rattle.sg_states.specs.States.{marked}
 use Rattle.sg_buffer.specs.Held.{state_of}
 use Rattle.sg_commands.specs.Did.{Did}
 use Rattle.sg_commands.specs.Turns.{marks}
-use Rattle.sg_commands.proofs.Moving.{found_did}
+use Rattle.sg_commands.proofs.Moved.{found_did}
 use Rattle.sg_commands.proofs.moving.toggle.Goals as goal
 
 pub toggle-requires-clause-alone : goal.toggle-requires-clause-alone

@@ -1,7 +1,7 @@
 use Rattle.sg_screen.specs.declared.message.Message.TheVariants as message
 use Rattle.sg_states.specs.States.{ended}
 use Rattle.sg_buffer.specs.Held.{state_of}
-use Rattle.sg_commands.proofs.Moving.{done_did}
+use Rattle.sg_commands.proofs.Moved.{done_did}
 use Rattle.sg_commands.proofs.typing.abandon.Goals as goal
 
 pub returns-clause-did : goal.returns-clause-did
