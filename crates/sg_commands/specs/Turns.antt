@@ -1,5 +1,5 @@
 -- The table of commands in the current buffer: of each its refusals in their order, and what it does.
-use Rattle.std.specs.Prelude.{ℕ, Bool, not, nat_eq, List, [], ◌∷◌, Option, None, Some}
+use Rattle.std.specs.Prelude.{ℕ, Bool, true, false, not, nat_eq, List, [], ◌∷◌, Option, None, Some}
 use Rattle.std.specs.Option.{option_map_or}
 use Rattle.sg_kinds.specs.Values.{Bytes}
 use Rattle.sg_kinds.specs.Terms.{Term}
