@@ -14,6 +14,7 @@ module _ (spec : Spec) (each : ReadsEachText spec) where
 
   read_right : (e : ℕ) (text : Bytes) (d : (e < length spec.entries) ⊎ (length spec.entries ≤ e)) → e < length spec.entries
       → IsEntered spec e text (read e text d)
+  unfolding read
   read_right e text (inl low) within = (each e low text).1
   read_right e text (inr high) within = absurd (omega (arith, high, within))
 
