@@ -84,7 +84,6 @@ fn put_point(buffer: &mut Buffer, k: usize)
 }
 
 // does what a text that was read gives; where reading failed at a token, the point of the text goes there
-#[tactic(none)]
 fn put_read(
     alloc: Global,
     tools: &Tools,
@@ -122,7 +121,6 @@ fn put_read(
 }
 
 /// `text`: what the entry of the selected node's phylum derives from a text, in its place. No text is being typed.
-#[tactic(none)]
 pub fn text(
     alloc: Global,
     tools: &Tools,
@@ -160,7 +158,6 @@ pub fn text(
 }
 
 /// `enter`: as `text`, with the text that is being typed, whose typing ends; where it is not read, its point goes there.
-#[tactic(none)]
 pub fn enter_typed(
     alloc: Global,
     tools: &Tools,

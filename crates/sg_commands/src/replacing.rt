@@ -203,7 +203,6 @@ fn paste_clip(
 }
 
 /// `paste`: what was copied, in the place of the selected node, whose phylum it must have.
-#[tactic(none)]
 pub fn paste(
     alloc: Global,
     tools: &Tools,
@@ -230,7 +229,6 @@ pub fn paste(
 }
 
 /// `cut`: the selected term is copied and then deleted. Where that is refused nothing is copied.
-#[tactic(none)]
 pub fn cut(
     alloc: Global,
     tools: &Tools,

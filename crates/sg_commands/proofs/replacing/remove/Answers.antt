@@ -39,5 +39,5 @@ returns-clause-gave_up c = λ clip.
 pub returns-in_err-choice-clause-gave_up : goal.returns-in_err-choice-clause-gave_up
 returns-in_err-choice-clause-gave_up c = λ clip.
     let b = c.args.buffer.now in
-    let p = err_from_is_err_and c.from_residual-in_err-choice.result c.from_residual-in_err-choice.ensures.1 in
+    let p = err_from_is_err_and c.from_residual.result c.from_residual.ensures.1 in
     rw p.1 (gave_up_before b b clip (now_of c.args.journal.now) (now_of c.args.journal.now) (replaces_in b clip (chosen_in b (edits.removed))) refl refl)
