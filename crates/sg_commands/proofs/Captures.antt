@@ -1,7 +1,8 @@
 -- What is typed, and where it may be, as turns.
-use Rattle.std.specs.Prelude.{◌≡◌, ◌↔◌, refl, ℕ, Bool, true, false, nat_eq, not, if◌then◌else◌, List, Option, None, Some, MatchOption, ⊤}
+use Rattle.std.specs.Prelude.{◌≡◌, ◌↔◌, refl, ℕ, Bool, true, false, nat_eq, not, if◌then◌else◌, List, Option, None, Some, option_map, MatchOption, ⊤}
 use Rattle.std.proofs.Common.{sym, ap, ◌∙◌, subst}
 use Rattle.std.proofs.lemmas.Bool.{false≢true}
+use Rattle.std.proofs.lemmas.Option.{none-some}
 use Rattle.sg_kinds.specs.Values.{Bytes}
 use Rattle.sg_kinds.specs.declared.spec.Spec.{Spec}
 use Rattle.sg_kinds.proofs.Elementary.{eq_is}
@@ -17,6 +18,12 @@ use Rattle.sg_commands.specs.Turn.{Turn, becomes, found_or, says}
 use Rattle.sg_commands.specs.Turns.{enterable, entry_here, erases, is_editable_here, types, types_unless}
 use Rattle.sg_commands.proofs.Moved.{done_did, said_of}
 use Rattle.sg_commands.proofs.Putting.{refused_did}
+
+-- what is being typed, by its text
+pub has_capture : (o : Option Captured) (text : Bytes) → option_map (λ (c : Captured). c.text) o ≡ Some text
+    → (c : Captured) × (o ≡ Some c)
+has_capture None text at = absurd (none-some text at)
+has_capture (Some c) text at = (c, refl)
 
 -- where a text may be typed
 module _ (spec : Spec) (clip : Option Clip) (st : State) (enters : ℕ → Turn) where
