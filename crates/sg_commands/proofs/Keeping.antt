@@ -64,7 +64,7 @@ module _ (spec : Spec) (height : ℕ) (st : State) (is : IsTyping spec st) where
       → ((s : Spot) → IsOne s → AreOnes (change s)) → IsTyping spec (changed spec height t change select st)
   changed_typing t change select one ones =
       let here = one_or (bytes_eq (settled spec t (place_in select)) (place_in select)
-          && is_selection spec t (settled spec t (place_in select)) select.count) select.count one in
+      && is_selection spec t (settled spec t (place_in select)) select.count) select.count one in
       record {
         one = here;
         past = All-take AreOnes 256 _ (All-cons AreOnes _ st.past (ones _ here) is.past);

@@ -103,7 +103,13 @@ pub fn transform(
     ensures total { total_of journal.new ≡ total_of journal.old }
 {
     buffer.facts();
-    let choice = done(alloc, buffer.terms(), tools.evaluator, buffer.selected(), name)?;
+    let choice = done(
+        alloc,
+        buffer.terms(),
+        tools.evaluator,
+        buffer.selected(),
+        name,
+    )?;
     put_choice(tools, buffer, choice, journal)
 }
 
