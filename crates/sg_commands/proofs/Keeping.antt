@@ -6,13 +6,13 @@ use Rattle.std.proofs.lemmas.List.Elements.{All-nil, All-cons, All-tail, All-tak
 use Rattle.sg_kinds.specs.Values.{Bytes, is_text}
 use Rattle.sg_kinds.specs.Fits.{Fits}
 use Rattle.sg_kinds.specs.Nets.{Reference}
-use Rattle.sg_kinds.specs.Places.{Place}
+use Rattle.sg_kinds.specs.Places.{Place, put}
 use Rattle.sg_kinds.specs.Terms.{Term}
 use Rattle.sg_kinds.specs.declared.spec.Spec.{Spec}
 use Rattle.sg_groves.proofs.EvaluatedOnce.{evaluated_apart}
 use Rattle.sg_groves.proofs.Lists.{apart_none, contains_first}
 use Rattle.sg_changes.specs.Captured.{Captured, captured, put_in, taken_out}
-use Rattle.sg_changes.specs.Changes.{Change, Put as Putting, Mark as Marking, before_of, after_of, marks_of, part_of}
+use Rattle.sg_changes.specs.Changes.{Change, Put as Putting, Mark as Marking, before_of, after_of, marked as marked_term, marks_of, part_of}
 use Rattle.sg_changes.specs.declared.spot.Selection.{Selection}
 use Rattle.sg_changes.specs.declared.spot.Spot.{Spot}
 use Rattle.sg_changes.specs.declared.step.Marks.{Marks}
@@ -23,7 +23,7 @@ use Rattle.sg_script.specs.declared.command.Command.{Command}
 use Rattle.sg_script.specs.declared.command.Command.TheVariants as command
 use Rattle.sg_states.specs.Selections.{alone, is_selection, place_in, settled_selection}
 use Rattle.sg_states.specs.States.{State, begun, capture_of, changed, ended, erased, marked, moved, picked, pointed, redone, redone_by, remarked, replaced, selected, selected_place, target, typed, undone, undone_by}
-use Rattle.sg_states.specs.Seen.{marks_seen, nothing_typed}
+use Rattle.sg_states.specs.Seen.{marks_seen, nothing_typed, seen}
 use Rattle.sg_unparse.specs.Page.{cells_of, owner_at}
 use Rattle.sg_states.specs.declared.marks.Mark.TheVariants.{Alternate, Elide}
 use Rattle.sg_states.specs.declared.marks.Move.TheVariants.{Next, Prev, Up, First, Sibling}
@@ -32,7 +32,7 @@ use Rattle.sg_select.specs.RestingPlaces.{settled}
 use Rattle.sg_states.specs.declared.marks.Mark.{Mark}
 use Rattle.sg_states.specs.declared.marks.Move.{Move}
 use Rattle.sg_edits.specs.Choice.{Choice, Refused, Put, limited}
-use Rattle.sg_edits.specs.Edits.{phylum_in}
+use Rattle.sg_edits.specs.Edits.{deleted, done, inserted, pasted, removed, typed as typed_in}
 use Rattle.sg_edits.specs.declared.clip.Clip.{Clip}
 use Rattle.sg_input.specs.Entered.{Entered, BadByte, NoToken, Stopped, Faulted, Typed, bad_byte}
 use Rattle.sg_input.proofs.Answering.{none-bad}
@@ -64,16 +64,17 @@ module _ (spec : Spec) (height : ℕ) (st : State) (is : IsTyping spec st) where
       → ((s : Spot) → IsOne s → AreOnes (change s)) → IsTyping spec (changed spec height t change select st)
   changed_typing t change select one ones =
       let here = one_or (bytes_eq (settled spec t (place_in select)) (place_in select)
-      && is_selection spec t (settled spec t (place_in select)) select.count) select.count one in
+          && is_selection spec t (settled spec t (place_in select)) select.count) select.count one in
+      let spot = seen spec height t (settled_selection spec t select) st.spot.top in
       record {
         one = here;
-        past = All-take AreOnes 256 _ (All-cons AreOnes _ st.past (ones _ here) is.past);
+        past = All-take AreOnes 256 (change spot ∷ st.past) (All-cons AreOnes (change spot) st.past (ones spot here) is.past);
         future = All-nil AreOnes;
         typed = tt;
       }
 
   replaced_typing : (u : Place) (s : Term) (v : Place) → IsTyping spec (replaced spec height u s (alone v) st)
-  replaced_typing u s v = changed_typing _ _ (alone v) refl (λ spot one. (is.one, one))
+  replaced_typing u s v = changed_typing (put st.term u s) (Putting u (part_of st.term u) s st.spot) (alone v) refl (λ spot one. (is.one, one))
 
   module _ (none : st.capture ≡ None) where
     plain_typing : (spot : Spot) → IsOne spot → IsTyping spec (record st { spot = spot })
@@ -177,7 +178,9 @@ module _ (spec : Spec) (height : ℕ) (clip : Option Clip) (st : State) (is : Is
   marks_kept mark =
       let x = part_of st.term (selected_place st) in
       found_kept message.NoAlternate (turned_in spec mark x) (λ new. remarked spec height (unwrap_or (marks_of x) new) new st)
-      (λ new. changed_typing spec height st is _ _ (alone (selected_place st)) refl (λ spot one. (is.one, one)))
+      (λ new. changed_typing spec height st is (marked_term st.term (selected_place st) new)
+      (Marking (selected_place st) (unwrap_or (marks_of x) new) new st.spot) (alone (selected_place st)) refl
+      (λ spot one. (is.one, one)))
 
   enterable_kept : (f : ℕ → Turn)
       → ((e : ℕ) → is_editable_here spec st ≡ true → is_some (entry_here spec st) ≡ true → IsKept spec (f e))
@@ -195,7 +198,7 @@ module _ (spec : Spec) (height : ℕ) (clip : Option Clip) (st : State) (is : Is
   enters_kept (NoToken k) = refused_kept (message.LexicalAt k)
   enters_kept (Stopped k) = refused_kept (message.ParseAt k)
   enters_kept (Faulted why) = refused_kept (message.Result why)
-  enters_kept (Typed v) = puts_kept _
+  enters_kept (Typed v) = puts_kept (typed_in spec st.term (selected_place st) v)
 
   types_kept : (bytes : Bytes) → is_editable_here spec st ≡ true → is_some (entry_here spec st) ≡ true
       → IsKept spec (types clip st bytes)
@@ -222,14 +225,14 @@ module _ (spec : Spec) (height : ℕ) (clip : Option Clip) (st : State) (is : Is
           found_kept message.NoPlace (owner_at (cells_of (marks_seen spec st.term nothing_typed)) line column)
           (λ v. selected spec height (settled spec st.term v) st)
           (λ v. selected_typing spec height st is none (settled spec st.term v))
-      plain_kept (command.Do name) = puts_kept _
-      plain_kept command.Delete = puts_kept _
-      plain_kept command.Remove = replaces_kept clip fits _
-      plain_kept command.InsertBefore = puts_kept _
-      plain_kept command.InsertAfter = puts_kept _
-      plain_kept command.Cut = replaces_kept (Some (copied_of spec st)) copied _
+      plain_kept (command.Do name) = puts_kept (done spec st.term (selected_place st) name)
+      plain_kept command.Delete = puts_kept (deleted spec st.term (selected_place st))
+      plain_kept command.Remove = replaces_kept clip fits (removed spec st.term (selected_place st))
+      plain_kept command.InsertBefore = puts_kept (inserted spec st.term (selected_place st) false)
+      plain_kept command.InsertAfter = puts_kept (inserted spec st.term (selected_place st) true)
+      plain_kept command.Cut = replaces_kept (Some (copied_of spec st)) copied (limited st.term (deleted spec st.term (selected_place st)))
       plain_kept command.Copy = record { typing = is; clip = copied; once = apart_none }
-      plain_kept command.Paste = puts_kept _
+      plain_kept command.Paste = puts_kept (pasted spec st.term (selected_place st) clip)
       plain_kept (command.Text text) =
           enterable_kept (λ e. enters spec height clip st (reads e text)) (λ e editable entry. enters_kept (reads e text))
       plain_kept (command.TypeIn text) = enterable_kept (λ e. types clip st text) (λ e editable entry. types_kept text editable entry)
@@ -285,7 +288,7 @@ module _ (spec : Spec) (height : ℕ) (clip : Option Clip) (st : State) (is : Is
       enters_typed_kept (Stopped k) = pointed_kept (message.ParseAt k) k
       enters_typed_kept (BadByte k) = refused_kept (message.ByteAt k)
       enters_typed_kept (Faulted why) = refused_kept (message.Result why)
-      enters_typed_kept (Typed v) = puts_kept _
+      enters_typed_kept (Typed v) = puts_kept (typed_in spec st.term (selected_place st) v)
 
       captured_kept : (o : Option ℕ)
           → IsKept spec (found_or clip st message.NoEntry (λ e. enters_typed spec height clip st (reads e c.text)) o)

@@ -1,14 +1,14 @@
 -- Calls of a buffer that may find nothing to do are turns.
 use Rattle.std.specs.Prelude.{◌≡◌, refl, Bool, true, false, if◌then◌else◌, List, Option, None, Some, MatchOption}
-use Rattle.std.proofs.Common.{sym, subst}
+use Rattle.std.proofs.Common.{inl, sym, subst}
 use Rattle.sg_eval.specs.declared.journal.Instance.{Instance}
 use Rattle.sg_screen.specs.declared.message.Message.{Message}
 use Rattle.sg_screen.specs.declared.message.Message.TheVariants as message
 use Rattle.sg_states.specs.States.{State}
 use Rattle.sg_buffer.specs.Held.{Held, state_of}
 use Rattle.sg_edits.specs.declared.clip.Clip.{Clip}
-use Rattle.sg_commands.specs.Did.{Did}
-use Rattle.sg_commands.specs.Turn.{becomes, found_or, says}
+use Rattle.sg_commands.specs.Did.{Did, GaveUp}
+use Rattle.sg_commands.specs.Turn.{Turn, becomes, found_or, says}
 use Rattle.sg_commands.proofs.Putting.{nothing_gained, refused_did}
 
 -- what is said, by whether it was done
@@ -35,3 +35,7 @@ module _ (old new : Held) (clip : Option Clip) (now : List Instance) where
   found_did m (Some st) r answered =
       subst (λ b. Did (becomes clip st) (said_of b m) new clip now now) (sym answered.0)
       (done_did message.Fine st answered.1)
+
+  -- without memory
+  pub stayed : (turn : Turn) → state_of new ≡ state_of old → GaveUp old.grove.spec turn old new clip clip now now
+  stayed turn state = record { state = state; copied = refl; noted = inl refl }

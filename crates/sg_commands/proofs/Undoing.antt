@@ -1,6 +1,6 @@
 -- Changes undone and done again are turns.
 use Rattle.std.specs.Prelude.{◌≡◌, ◌≢◌, ◌↔◌, refl, Bool, true, false, List, [], ◌∷◌, Contains, Option}
-use Rattle.std.proofs.Common.{sym, ap, ◌∙◌, subst}
+use Rattle.std.proofs.Common.{sym, ap, ◌∙◌, subst, inl}
 use Rattle.std.proofs.lemmas.Bool.{false≢true}
 use Rattle.sg_kinds.specs.Terms.{Term}
 use Rattle.sg_kinds.specs.Sound.{IsSound}
@@ -23,7 +23,7 @@ use Rattle.sg_commands.proofs.Moved.{said_of}
 use Rattle.sg_commands.proofs.Putting.{nothing_gained, refused_did, all_listed, noted_listed}
 
 no_change : (c : Change) (cs : List Change) → (c ∷ cs ≡ []) → ⊥
-no_change c cs = cc
+no_change c cs same = absurd (let e = same in cc)
 
 module _ (spec : Spec) (sound : IsSound spec) (t : Term) (was now : List Instance) where
   -- what is evaluated where a change is undone or done again, listed

@@ -5,7 +5,8 @@ ghost use Rattle.sg_kinds.specs.Fits.{Fits};
 ghost use Rattle.sg_buffer.specs.Held.{state_of};
 ghost use Rattle.sg_edits.specs.declared.clip.Clip.{Clip as IsClipped};
 ghost use Rattle.sg_screen.specs.declared.message.Message.TheVariants as messages;
-ghost use Rattle.sg_commands.specs.Did.{Did};
+ghost use Rattle.sg_commands.specs.Did.{Did, GaveUp};
+ghost use Rattle.sg_commands.specs.Turn.{Turn};
 ghost use Rattle.sg_commands.specs.Turns.{copied_of, goes, marks, picks};
 
 use sg_buffer::Buffer;
@@ -53,7 +54,8 @@ pub fn toggle(buffer: &mut Buffer, mark: Mark) -> Result<Message, NoMemory>
     requires one { (state_of buffer.old).spot.selection.count ≡ 1 }
     ensures did { (clip : Option IsClipped) (now : List Instance) → IfOk result (λ m. Did (marks
         buffer.old.grove.spec buffer.old.height clip (state_of buffer.old) mark) m buffer.new clip now now) }
-    ensures err { OnErr result (state_of buffer.new ≡ state_of buffer.old) }
+    ensures gave_up { (turn : Turn) (clip : Option IsClipped) (now : List Instance) → OnErr result (GaveUp
+        buffer.old.grove.spec turn buffer.old buffer.new clip clip now now) }
     ensures spec { buffer.new.grove.spec ≡ buffer.old.grove.spec }
     ensures height { buffer.new.height ≡ buffer.old.height }
 {

@@ -6,8 +6,8 @@ ghost use Rattle.sg_changes.specs.Captured.{Captured};
 ghost use Rattle.sg_states.specs.States.{ended};
 ghost use Rattle.sg_edits.specs.declared.clip.Clip.{Clip as IsClipped};
 ghost use Rattle.sg_input.specs.Entered.{bad_byte as bad_byte_in};
-ghost use Rattle.sg_commands.specs.Did.{Did};
-ghost use Rattle.sg_commands.specs.Turn.{becomes};
+ghost use Rattle.sg_commands.specs.Did.{Did, GaveUp};
+ghost use Rattle.sg_commands.specs.Turn.{Turn, becomes};
 ghost use Rattle.sg_commands.specs.Turns.{enterable, erases, types};
 
 use crate::entering::{entry_here, is_editable_here};
@@ -30,7 +30,8 @@ pub fn type_in(buffer: &mut Buffer, bytes: &[u8]) -> Result<Message, NoMemory>
     requires { (state_of buffer.old).spot.selection.count ≡ 1 }
     ensures did { (clip : Option IsClipped) (now : List Instance) → IfOk result (λ m. Did (types clip
         (state_of buffer.old) bytes.now) m buffer.new clip now now) }
-    ensures err { OnErr result (buffer.new ≡ buffer.old) }
+    ensures gave_up { (turn : Turn) (clip : Option IsClipped) (now : List Instance) → OnErr result (GaveUp
+        buffer.old.grove.spec turn buffer.old buffer.new clip clip now now) }
     ensures spec { buffer.new.grove.spec ≡ buffer.old.grove.spec }
     ensures height { buffer.new.height ≡ buffer.old.height }
 {
@@ -48,7 +49,8 @@ pub fn begin(buffer: &mut Buffer, bytes: &[u8]) -> Result<Message, NoMemory>
     ensures did { (clip : Option IsClipped) (now : List Instance) → IfOk result (λ m. Did (enterable
         buffer.old.grove.spec clip (state_of buffer.old) (λ _. types clip (state_of buffer.old) bytes.now)) m
         buffer.new clip now now) }
-    ensures err { OnErr result (buffer.new ≡ buffer.old) }
+    ensures gave_up { (turn : Turn) (clip : Option IsClipped) (now : List Instance) → OnErr result (GaveUp
+        buffer.old.grove.spec turn buffer.old buffer.new clip clip now now) }
     ensures spec { buffer.new.grove.spec ≡ buffer.old.grove.spec }
     ensures height { buffer.new.height ≡ buffer.old.height }
 {
@@ -65,7 +67,8 @@ pub fn begin(buffer: &mut Buffer, bytes: &[u8]) -> Result<Message, NoMemory>
 pub fn erase(buffer: &mut Buffer) -> Result<Message, NoMemory>
     ensures did { (c : Captured) → (state_of buffer.old).capture ≡ Some c → (clip : Option IsClipped)
         (now : List Instance) → IfOk result (λ m. Did (erases clip (state_of buffer.old) c) m buffer.new clip now now) }
-    ensures err { OnErr result (buffer.new ≡ buffer.old) }
+    ensures gave_up { (turn : Turn) (clip : Option IsClipped) (now : List Instance) → OnErr result (GaveUp
+        buffer.old.grove.spec turn buffer.old buffer.new clip clip now now) }
     ensures spec { buffer.new.grove.spec ≡ buffer.old.grove.spec }
     ensures height { buffer.new.height ≡ buffer.old.height }
 {
@@ -78,7 +81,8 @@ pub fn erase(buffer: &mut Buffer) -> Result<Message, NoMemory>
 pub fn abandon(buffer: &mut Buffer) -> Result<Message, NoMemory>
     ensures did { (clip : Option IsClipped) (now : List Instance) → IfOk result (λ m. Did (becomes clip
         (ended (state_of buffer.old))) m buffer.new clip now now) }
-    ensures err { OnErr result (buffer.new ≡ buffer.old) }
+    ensures gave_up { (turn : Turn) (clip : Option IsClipped) (now : List Instance) → OnErr result (GaveUp
+        buffer.old.grove.spec turn buffer.old buffer.new clip clip now now) }
     ensures spec { buffer.new.grove.spec ≡ buffer.old.grove.spec }
     ensures height { buffer.new.height ≡ buffer.old.height }
 {

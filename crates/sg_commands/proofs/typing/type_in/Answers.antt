@@ -1,4 +1,6 @@
-use Rattle.std.proofs.Common.{sym, refl, ◌∙◌}
+use Rattle.std.proofs.Common.{ap, sym, refl, ◌∙◌}
+use Rattle.sg_buffer.specs.Held.{state_of}
+use Rattle.sg_commands.proofs.Moved.{stayed}
 use Rattle.sg_input.proofs.Answering.{none-bad}
 use Rattle.sg_commands.proofs.Captures.{bad_did, typed_did}
 use Rattle.sg_commands.proofs.typing.type_in.Goals as goal
@@ -16,3 +18,7 @@ type_in-requires-clause-alone c = c.facts.ensures.count ∙ c.requires
 pub returns-clause-did : goal.returns-clause-did
 returns-clause-did c = λ clip now.
     typed_did c.args.buffer.now c.type_in.new.self clip now c.args.bytes.now (sym c.in-None.is ∙ c.bad_byte.ensures) c.in_ok-type_in.ensures.typed
+
+pub returns-in_err-type_in-clause-gave_up : goal.returns-in_err-type_in-clause-gave_up
+returns-in_err-type_in-clause-gave_up c = λ turn clip now.
+    stayed c.args.buffer.now c.type_in.new.self clip now turn (ap state_of c.in_err-type_in.ensures.err)
