@@ -1,12 +1,9 @@
 //! Commands that read a text.
-ghost use Rattle.std.specs.Prelude.{◌≡◌, ℕ, ◌≤◌, List, length, Option, None, IfOk, IfSome, OnErr, MatchOption, ⊤};
-ghost use Rattle.sg_kinds.specs.Fits.{Fits};
-ghost use Rattle.sg_kinds.specs.Plain.{plain};
+ghost use Rattle.std.specs.Prelude.{◌≡◌, ◌≤◌, List, length, Option, None, IfOk, IfSome, OnErr, MatchOption, ⊤};
 ghost use Rattle.sg_eval.specs.Journal.{now_of, total_of};
 ghost use Rattle.sg_eval.specs.declared.journal.Instance.{Instance as IsInstance};
 ghost use Rattle.sg_states.specs.States.{pointed};
 ghost use Rattle.sg_buffer.specs.Held.{state_of};
-ghost use Rattle.sg_edits.specs.Edits.{phylum_in};
 ghost use Rattle.sg_edits.specs.Edits as edits;
 ghost use Rattle.sg_edits.specs.declared.clip.Clip.{Clip as IsClipped};
 ghost use Rattle.sg_input.specs.Entered.{Entered};
@@ -15,7 +12,7 @@ ghost use Rattle.sg_commands.specs.Did.{Did, GaveUp};
 ghost use Rattle.sg_commands.specs.Replaced.{chosen_in, enters_in, entry_turn, puts_in, FitsHere, StopsWithin, text_turn};
 ghost use Rattle.sg_commands.specs.Tools.{AreTools};
 ghost use Rattle.sg_commands.specs.Turn.{AreReads, Reads};
-ghost use Rattle.sg_commands.specs.Turns.{entry_here, is_editable_here, selected_term};
+ghost use Rattle.sg_commands.specs.Turns.{entry_here, is_editable_here};
 
 use crate::replacing::put_choice;
 use crate::tools::Tools;

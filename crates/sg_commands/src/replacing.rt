@@ -1,5 +1,5 @@
 //! Commands that put another term in the place of a subterm.
-ghost use Rattle.std.specs.Prelude.{◌≡◌, Option, Some, IfOk, OnErr};
+ghost use Rattle.std.specs.Prelude.{◌≡◌, Option, IfOk, OnErr};
 ghost use Rattle.sg_kinds.specs.Fits.{Fits};
 ghost use Rattle.sg_kinds.specs.Places.{place_of};
 ghost use Rattle.sg_eval.specs.Journal.{now_of, total_of};
