@@ -62,9 +62,9 @@ module _ {X : Type 0} where
   most_among (x ∷ xs) ys apart each =
       let p = parts ys x (each x (contains_first x xs)) in
       let short : length xs ≤ length (p.before ++ p.behind) =
-          most_among xs (p.before ++ p.behind) (apart_rest x xs apart)
-          (λ y has. elsewhere p.before p.behind x y (subst (λ l. Contains l y) p.are (each y (contains_later x xs y has)))
-            (λ same. apart_first x xs apart (subst (Contains xs) (sym same) has))) in
+      most_among xs (p.before ++ p.behind) (apart_rest x xs apart)
+      (λ y has. elsewhere p.before p.behind x y (subst (λ l. Contains l y) p.are (each y (contains_later x xs y has)))
+      (λ same. apart_first x xs apart (subst (Contains xs) (sym same) has))) in
       let one : length (p.before ++ p.behind) ≡ length p.before + length p.behind = length-append p.before p.behind in
       let two : length (p.before ++ x ∷ p.behind) ≡ length p.before + length (x ∷ p.behind) = length-append p.before (x ∷ p.behind) in
       let long : length ys ≡ length (p.before ++ x ∷ p.behind) = ap length p.are in

@@ -1,5 +1,5 @@
 -- A replacement in a buffer is the turn of its choice.
-use Rattle.std.specs.Prelude.{◌≡◌, ◌⊎◌, refl, ℕ, Bool, true, false, cond, ◌&&◌, nat_le, List, [], Contains, Option, Some, None}
+use Rattle.std.specs.Prelude.{◌≡◌, refl, ℕ, Bool, true, false, cond, ◌&&◌, nat_le, List, [], Contains, Option, Some, None, Result, Ok, Err, OnErr}
 use Rattle.std.proofs.Common.{sym, ap, ◌∙◌, subst, inl, inr, arith}
 use Rattle.std.proofs.lemmas.Bool.{and_parts, false≢true}
 use Rattle.std.proofs.lemmas.List.{append-nil}
@@ -185,3 +185,8 @@ deletes spec t u r = by (sub t u)
     by : (o : Option Term) → limited t (option_map_or (λ x. Put u (completing spec (phylum_in spec x)) u) o (Refused message.NoPlace)) ≡ Refused r → message.Fine ≡ r → ⊥
     by None e fine = cc
     by (Some x) e fine = over (fits_limits t u (completing spec (phylum_in spec x)) u) (completing spec (phylum_in spec x)) e fine
+
+-- what is kept without memory gives more
+pub then_on_err : {A E : Type 0} (r : Result A E) (P Q : Type 0) → OnErr r P → (P → Q) → OnErr r Q
+then_on_err (Ok x) P Q p f = tt
+then_on_err (Err e) P Q p f = f p

@@ -1,5 +1,5 @@
 -- What is read from an entry, and where reading fails.
-use Rattle.std.specs.Prelude.{◌≡◌, refl, ℕ, ◌+◌, ◌<◌, ◌≤◌, true, List, [], ◌∷◌, ◌++◌, length, All, Option, Some, None, slice_get, option_map, unwrap_or, nat_eq, get_or, Result, Ok, Err, IfOk, IfSome, MatchOption, ⊤}
+use Rattle.std.specs.Prelude.{◌≡◌, refl, ℕ, ◌+◌, ◌<◌, ◌≤◌, List, [], ◌∷◌, length, All, Option, Some, None, slice_get, option_map, unwrap_or, nat_eq, get_or, Result, Ok, Err, IfOk, IfSome, MatchOption, ⊤}
 use Rattle.std.proofs.Common.{sym, ap, ◌∙◌, subst, arith}
 use Rattle.std.proofs.lemmas.List.Elements.{All-nil, All-cons, All-append, All-weaker}
 use Rattle.std.proofs.lemmas.List.Quantifiers.{position-Some}

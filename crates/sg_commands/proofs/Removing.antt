@@ -1,6 +1,5 @@
 -- What is removed never gets over a limit.
 use Rattle.std.specs.Prelude.{◌≡◌, refl}
-use Rattle.std.proofs.Common.{sym, subst}
 use Rattle.sg_kinds.specs.Terms.{Term}
 use Rattle.sg_kinds.specs.Places.{Place}
 use Rattle.sg_kinds.specs.Sound.{IsSmall}

@@ -43,7 +43,7 @@ copied_fits b stands =
     let live = live_here b stands b.grove refl b.selected stands.selected in
     let x = selected_term (state_of b) in
     let fits = held_fits b.grove stands.grove b.selected live.node x live.found
-        (selected_held b stands b.grove refl b.selected stands.selected) in
+    (selected_held b stands b.grove refl b.selected stands.selected) in
     subst (Fits b.grove.spec x) (sym (fits_phylum b.grove.spec x live.node.label.phylum fits)) fits
 
 module _ (t : Turn) (old new : Held) (had has : Option Clip) (was now : List Instance) (kept : IsKept old.grove.spec t)

@@ -1,5 +1,5 @@
 -- The turns of a text that is entered.
-use Rattle.std.specs.Prelude.{◌≡◌, refl, ℕ, Bool, true, false, not, cond, length, Option, Some, None, option_map, Result, Ok, Err, IfSome, MatchOption, ⊤}
+use Rattle.std.specs.Prelude.{◌≡◌, refl, ℕ, true, false, not, cond, length, Option, Some, None, option_map, Result, IfSome, MatchOption, ⊤}
 use Rattle.std.proofs.Common.{sym, ap, ◌∙◌, subst}
 use Rattle.std.proofs.lemmas.Option.{none-some, same_Some}
 use Rattle.sg_kinds.specs.Values.{Bytes, Value}

@@ -1,11 +1,9 @@
 //! Commands that read a text.
-ghost use Rattle.std.specs.Prelude.{◌≡◌, ℕ, ◌≤◌, length, Option, None, IfOk, IfSome, OnErr, MatchOption, ⊤};
-ghost use Rattle.sg_kinds.specs.Fits.{Fits};
-ghost use Rattle.sg_kinds.specs.Plain.{plain};
+ghost use Rattle.std.specs.Prelude.{◌≡◌, ◌≤◌, List, length, Option, None, IfOk, IfSome, OnErr, MatchOption, ⊤};
 ghost use Rattle.sg_eval.specs.Journal.{now_of, total_of};
+ghost use Rattle.sg_eval.specs.declared.journal.Instance.{Instance as IsInstance};
 ghost use Rattle.sg_states.specs.States.{pointed};
 ghost use Rattle.sg_buffer.specs.Held.{state_of};
-ghost use Rattle.sg_edits.specs.Edits.{phylum_in};
 ghost use Rattle.sg_edits.specs.Edits as edits;
 ghost use Rattle.sg_edits.specs.declared.clip.Clip.{Clip as IsClipped};
 ghost use Rattle.sg_input.specs.Entered.{Entered};
@@ -14,7 +12,7 @@ ghost use Rattle.sg_commands.specs.Did.{Did, GaveUp};
 ghost use Rattle.sg_commands.specs.Replaced.{chosen_in, enters_in, entry_turn, puts_in, FitsHere, StopsWithin, text_turn};
 ghost use Rattle.sg_commands.specs.Tools.{AreTools};
 ghost use Rattle.sg_commands.specs.Turn.{AreReads, Reads};
-ghost use Rattle.sg_commands.specs.Turns.{entry_here, is_editable_here, selected_term};
+ghost use Rattle.sg_commands.specs.Turns.{entry_here, is_editable_here};
 
 use crate::replacing::put_choice;
 use crate::tools::Tools;
@@ -83,7 +81,32 @@ fn put_point(buffer: &mut Buffer, k: usize)
     }
 }
 
-// does what a text that was read gives; where reading failed at a token, the point of the text goes there
+// says why a text was not read; where reading failed at a token, the point of the text that is being typed goes there
+fn tell(buffer: &mut Buffer, fault: EntryFault) -> Result<Message, NoMemory>
+    requires { MatchOption buffer.old.capture ⊤ (λ c. StopsWithin (length c.text) (Err fault)) }
+    ensures did { (clip : Option IsClipped) (was : List IsInstance) (a : Entered)
+        → IfSome (entered_of (Err fault)) (λ b. b ≡ a)
+        → IfOk result (λ m. Did (enters_in buffer.old clip a) m buffer.new clip was was) }
+    ensures err { OnErr result (buffer.new ≡ buffer.old) }
+    ensures spec { buffer.new.grove.spec ≡ buffer.old.grove.spec }
+    ensures height { buffer.new.height ≡ buffer.old.height }
+{
+    match fault {
+        EntryFault::Byte(k) => Ok(Message::ByteAt(k)),
+        EntryFault::Lexical(k) => {
+            put_point(buffer, k);
+            Ok(Message::LexicalAt(k))
+        }
+        EntryFault::Parse(k) => {
+            put_point(buffer, k);
+            Ok(Message::ParseAt(k))
+        }
+        EntryFault::Outcome(why) => Ok(Message::Result(why)),
+        EntryFault::NoMemory => Err(NoMemory),
+    }
+}
+
+// does what a text that was read gives
 fn put_read(
     alloc: Global,
     tools: &Tools,
@@ -106,17 +129,7 @@ fn put_read(
 {
     match read {
         Ok(v) => put_value(alloc, tools, buffer, &v, journal),
-        Err(EntryFault::Byte(k)) => Ok(Message::ByteAt(k)),
-        Err(EntryFault::Lexical(k)) => {
-            put_point(buffer, k);
-            Ok(Message::LexicalAt(k))
-        }
-        Err(EntryFault::Parse(k)) => {
-            put_point(buffer, k);
-            Ok(Message::ParseAt(k))
-        }
-        Err(EntryFault::Outcome(why)) => Ok(Message::Result(why)),
-        Err(EntryFault::NoMemory) => Err(NoMemory),
+        Err(fault) => tell(buffer, fault),
     }
 }
 

@@ -42,7 +42,10 @@ pub fn pick(buffer: &mut Buffer, line: u32, column: u32) -> Message
     ensures spec { buffer.new.grove.spec ≡ buffer.old.grove.spec }
     ensures height { buffer.new.height ≡ buffer.old.height }
 {
-    said(buffer.pick(line as usize, column as usize), Message::NoPlace)
+    said(
+        buffer.pick(line as usize, column as usize),
+        Message::NoPlace,
+    )
 }
 
 /// `alternate` and `elide`. One node is selected, and no text is being typed.

@@ -1,5 +1,5 @@
 //! Commands that put another term in the place of a subterm.
-ghost use Rattle.std.specs.Prelude.{◌≡◌, Option, Some, IfOk, OnErr};
+ghost use Rattle.std.specs.Prelude.{◌≡◌, Option, IfOk, OnErr};
 ghost use Rattle.sg_kinds.specs.Fits.{Fits};
 ghost use Rattle.sg_kinds.specs.Places.{place_of};
 ghost use Rattle.sg_eval.specs.Journal.{now_of, total_of};
@@ -103,7 +103,13 @@ pub fn transform(
     ensures total { total_of journal.new ≡ total_of journal.old }
 {
     buffer.facts();
-    let choice = done(alloc, buffer.terms(), tools.evaluator, buffer.selected(), name)?;
+    let choice = done(
+        alloc,
+        buffer.terms(),
+        tools.evaluator,
+        buffer.selected(),
+        name,
+    )?;
     put_choice(tools, buffer, choice, journal)
 }
 

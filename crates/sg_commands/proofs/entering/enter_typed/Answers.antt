@@ -1,16 +1,13 @@
-use Rattle.std.specs.Prelude.{length, Some, IfOk, OnErr}
+use Rattle.std.specs.Prelude.{IfOk, OnErr}
 use Rattle.std.proofs.Common.{refl, sym, ap, ◌∙◌, subst}
-use Rattle.std.proofs.lemmas.Option.{MatchOption-from_none}
 use Rattle.sg_kinds.specs.Sound.{IsSound}
 use Rattle.sg_kinds.specs.declared.spec.Spec.{Spec}
 use Rattle.sg_patterns.specs.LexemesOf.{AreLexemesOf}
 use Rattle.sg_grammar.specs.Numbered.{grammar_of}
-use Rattle.sg_changes.specs.Captured.{Captured}
 use Rattle.sg_eval.specs.Journal.{now_of}
 use Rattle.sg_screen.specs.declared.message.Message.{Message}
 use Rattle.sg_screen.specs.declared.message.Message.TheVariants as message
 use Rattle.sg_commands.specs.Did.{Did, GaveUp}
-use Rattle.sg_commands.specs.Replaced.{StopsWithin}
 use Rattle.sg_commands.specs.Turn.{Turn}
 use Rattle.sg_commands.proofs.Putting.{refused_did}
 use Rattle.sg_commands.proofs.Reading.{fits_there, low_there, reads_there, stops_within}

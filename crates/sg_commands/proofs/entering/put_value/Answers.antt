@@ -1,5 +1,5 @@
 use Rattle.std.specs.Prelude.{IfOk, OnErr}
-use Rattle.std.proofs.Common.{refl, sym, ap, ◌∙◌, subst}
+use Rattle.std.proofs.Common.{refl, subst}
 use Rattle.std.proofs.lemmas.Result.{err_from_is_err_and}
 use Rattle.sg_eval.specs.Journal.{now_of}
 use Rattle.sg_screen.specs.declared.message.Message.{Message}

@@ -1,4 +1,4 @@
-use Rattle.std.specs.Prelude.{length, Some, IfOk, OnErr}
+use Rattle.std.specs.Prelude.{length, IfOk, OnErr}
 use Rattle.std.proofs.Common.{refl, sym, ap, ◌∙◌, subst}
 use Rattle.std.proofs.lemmas.Option.{MatchOption-from_none}
 use Rattle.sg_kinds.specs.Sound.{IsSound}
@@ -13,7 +13,7 @@ use Rattle.sg_commands.specs.Did.{Did, GaveUp}
 use Rattle.sg_commands.specs.Replaced.{StopsWithin}
 use Rattle.sg_commands.specs.Turn.{Turn}
 use Rattle.sg_commands.proofs.Putting.{refused_did}
-use Rattle.sg_commands.proofs.Reading.{fits_there, low_there, reads_there, stops_within}
+use Rattle.sg_commands.proofs.Reading.{fits_there, low_there, reads_there}
 use Rattle.sg_commands.proofs.Typed.{no_entry, not_editable, text_read}
 use Rattle.sg_commands.proofs.entering.text.Goals as goal
 

@@ -44,7 +44,7 @@ returns-in-Fine-clause-did c =
     let now = now_of c.delete.new.journal in
     let turn = cuts b.grove.spec b.height clip (state_of b) in
     let did = set_clip b new clip was now b.grove.spec b.height (state_of b) (Some (copied_of b.grove.spec (state_of b))) (limited (state_of b).term (deleted b.grove.spec (state_of b).term (selected_place (state_of b)))) (deletes b.grove.spec (state_of b).term (selected_place (state_of b)))
-        (subst (λ (m : Message). Did (puts_in b clip (chosen_in b deleted)) m new clip was now) c.in-Fine.is (c.in_ok-said.ensures.did clip)) in
+    (subst (λ (m : Message). Did (puts_in b clip (chosen_in b deleted)) m new clip was now) c.in-Fine.is (c.in_ok-said.ensures.did clip)) in
     subst (λ (m : Message). Did turn m new (Some c.in_ok-copy.copy) was now) (sym c.in-Fine.is)
     (subst (λ (k : Clip). Did turn Fine new (Some k) was now) (sym (copied_told c.args.buffer.now c.facts.ensures c.terms.result.now c.terms.ensures c.selected.result c.selected.ensures.place c.in_ok-copy.copy c.in_ok-copy.ensures.clip)) did)
 

@@ -1,4 +1,4 @@
-use Rattle.std.specs.Prelude.{Option, Some, IfOk, OnErr, ⊤}
+use Rattle.std.specs.Prelude.{Option, IfOk, OnErr, ⊤}
 use Rattle.std.proofs.Common.{refl, sym, subst}
 use Rattle.std.proofs.lemmas.Option.{MatchOption-at_some}
 use Rattle.sg_kinds.specs.Fits.{Fits}

@@ -13,7 +13,7 @@ pub returns-clause-counted : goal.returns-clause-counted
 returns-clause-counted c = λ reads are none.
     let b = c.args.buffer.now in
     let kept = turn_kept b.grove.spec b.height c.args.clip.now (state_of b) c.requires.typing c.requires.clip reads
-        (copied_fits b c.facts.ensures) c.args.command.now in
+    (copied_fits b c.facts.ensures) c.args.command.now in
     counted_of (turn_of b reads c.args.clip.now c.args.command.now) b c.turned.new.buffer c.args.clip.now c.turned.new.clip
     (now_of c.args.journal.now) (now_of c.turned.new.journal) kept c.turned.ensures.spec c.turned.result
     (c.turned.ensures.did reads are) none
@@ -22,7 +22,7 @@ pub returns-clause-fewer : goal.returns-clause-fewer
 returns-clause-fewer c = λ reads are none.
     let b = c.args.buffer.now in
     let kept = turn_kept b.grove.spec b.height c.args.clip.now (state_of b) c.requires.typing c.requires.clip reads
-        (copied_fits b c.facts.ensures) c.args.command.now in
+    (copied_fits b c.facts.ensures) c.args.command.now in
     fewer_of (turn_of b reads c.args.clip.now c.args.command.now) b c.turned.new.buffer c.args.clip.now c.turned.new.clip
     (now_of c.args.journal.now) (now_of c.turned.new.journal) kept c.turned.ensures.spec c.turned.result
     (c.turned.ensures.gave_up reads are) none
@@ -32,9 +32,9 @@ returns-clause-typing c =
     let b = c.args.buffer.now in
     let t = c.requires.tools in
     let r = reads_there b.grove.spec (λ entry within text. each-text b.grove.spec t.sound c.args.tools.now.lexemes.now t.lexemes
-        c.args.tools.now.tables.now t.grammar c.sound.ensures c.decided.ensures entry within text) in
+    c.args.tools.now.tables.now t.grammar c.sound.ensures c.decided.ensures entry within text) in
     let kept = turn_kept b.grove.spec b.height c.args.clip.now (state_of b) c.requires.typing c.requires.clip r.0
-        (copied_fits b c.facts.ensures) c.args.command.now in
+    (copied_fits b c.facts.ensures) c.args.command.now in
     typing_of (turn_of b r.0 c.args.clip.now c.args.command.now) b c.turned.new.buffer c.args.clip.now c.turned.new.clip
     (now_of c.args.journal.now) (now_of c.turned.new.journal) kept c.turned.ensures.spec c.turned.result
     (c.turned.ensures.did r.0 r.1) (c.turned.ensures.gave_up r.0 r.1) c.requires.typing
@@ -44,9 +44,9 @@ returns-clause-fits c =
     let b = c.args.buffer.now in
     let t = c.requires.tools in
     let r = reads_there b.grove.spec (λ entry within text. each-text b.grove.spec t.sound c.args.tools.now.lexemes.now t.lexemes
-        c.args.tools.now.tables.now t.grammar c.sound.ensures c.decided.ensures entry within text) in
+    c.args.tools.now.tables.now t.grammar c.sound.ensures c.decided.ensures entry within text) in
     let kept = turn_kept b.grove.spec b.height c.args.clip.now (state_of b) c.requires.typing c.requires.clip r.0
-        (copied_fits b c.facts.ensures) c.args.command.now in
+    (copied_fits b c.facts.ensures) c.args.command.now in
     fits_of (turn_of b r.0 c.args.clip.now c.args.command.now) b c.turned.new.buffer c.args.clip.now c.turned.new.clip
     (now_of c.args.journal.now) (now_of c.turned.new.journal) kept c.turned.ensures.spec c.turned.result
     (c.turned.ensures.did r.0 r.1) (c.turned.ensures.gave_up r.0 r.1) c.requires.clip
