@@ -1,5 +1,5 @@
 -- What is typed, and where it may be, as turns.
-use Rattle.std.specs.Prelude.{◌≡◌, ◌↔◌, refl, ℕ, Bool, true, false, nat_eq, not, if◌then◌else◌, List, Option, None, Some, option_map, MatchOption, ⊤}
+use Rattle.std.specs.Prelude.{◌≡◌, ◌↔◌, refl, ℕ, Bool, true, false, nat_eq, not, if◌then◌else◌, List, Option, None, Some, is_some, option_map, MatchOption, ⊤}
 use Rattle.std.proofs.Common.{sym, ap, ◌∙◌, subst}
 use Rattle.std.proofs.lemmas.Bool.{false≢true}
 use Rattle.std.proofs.lemmas.Option.{none-some}
@@ -24,6 +24,14 @@ pub has_capture : (o : Option Captured) (text : Bytes) → option_map (λ (c : C
     → (c : Captured) × (o ≡ Some c)
 has_capture None text at = absurd (none-some text at)
 has_capture (Some c) text at = (c, refl)
+
+pub opened : (o : Option Captured) → is_some o ≡ true → (c : Captured) × (o ≡ Some c)
+opened None test = absurd (false≢true test)
+opened (Some c) test = (c, refl)
+
+pub closed : (o : Option Captured) → is_some o ≡ false → o ≡ None
+closed None test = refl
+closed (Some c) test = absurd (false≢true (sym test))
 
 -- where a text may be typed
 module _ (spec : Spec) (clip : Option Clip) (st : State) (enters : ℕ → Turn) where

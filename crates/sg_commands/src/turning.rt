@@ -1,5 +1,5 @@
 //! The table of commands.
-ghost use Rattle.std.specs.Prelude.{◌≡◌, ◌≤◌, [], length, None, Option, Some, IfOk, OnErr};
+ghost use Rattle.std.specs.Prelude.{◌≡◌, ◌≤◌, [], length, is_some, None, Option, Some, IfOk, OnErr};
 ghost use Rattle.sg_eval.specs.Journal.{now_of, total_of};
 ghost use Rattle.sg_changes.specs.Captured.{Captured};
 ghost use Rattle.sg_buffer.specs.Held.{state_of};
@@ -26,6 +26,7 @@ use sg_states::{Mark, Move};
 use std::alloc::Global;
 
 // a command while no text is being typed
+#[tactic(auto, using(crate::proofs::Putting::refused_did))]
 fn plain(
     alloc: Global,
     tools: &Tools,
@@ -83,6 +84,7 @@ fn plain(
 }
 
 // a command while a text is being typed
+#[tactic(auto, using(crate::proofs::Putting::refused_did))]
 fn typing(
     alloc: Global,
     tools: &Tools,
@@ -119,6 +121,16 @@ fn typing(
     }
 }
 
+// whether a text is being typed
+fn is_typing(buffer: &Buffer) -> bool
+    ensures { result ≡ is_some (state_of buffer.now).capture }
+{
+    match buffer.captured() {
+        Some(_) => true,
+        None => false,
+    }
+}
+
 // a command
 fn turned(
     alloc: Global,
@@ -142,7 +154,7 @@ fn turned(
     ensures total { total_of journal.new ≡ total_of journal.old }
 {
     buffer.facts();
-    if buffer.captured().is_some() {
+    if is_typing(buffer) {
         typing(alloc, tools, buffer, command, journal)
     } else {
         plain(alloc, tools, buffer, clip, command, journal)

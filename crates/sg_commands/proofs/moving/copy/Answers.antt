@@ -11,8 +11,8 @@ copied-requires c =
 pub returns-clause-clip : goal.returns-clause-clip
 returns-clause-clip c =
     copied_told c.args.buffer.now c.facts.ensures c.terms.result.now c.terms.ensures c.selected.result c.selected.ensures.place
-    c.in_ok-copied.value c.in_ok-copied.ensures.clip
+    c.in_ok-copied.field-0 c.in_ok-copied.ensures.clip
 
 pub returns-clause-fits : goal.returns-clause-fits
 returns-clause-fits c =
-    subst (λ (g : Grove). Fits g.spec c.in_ok-copied.value.term c.in_ok-copied.value.phylum) c.terms.ensures c.in_ok-copied.ensures.fits
+    subst (λ (g : Grove). Fits g.spec c.in_ok-copied.field-0.term c.in_ok-copied.field-0.phylum) c.terms.ensures c.in_ok-copied.ensures.fits

@@ -1,3 +1,4 @@
+use Rattle.std.proofs.lemmas.Result.{err_from_is_err_and}
 use Rattle.std.proofs.Common.{sym, subst, ◌∙◌}
 use Rattle.sg_screen.specs.declared.message.Message.TheVariants as message
 use Rattle.sg_states.specs.States.{marked}
@@ -18,4 +19,6 @@ returns-clause-did c = λ clip now.
 
 pub returns-in_err-done-clause-gave_up : goal.returns-in_err-done-clause-gave_up
 returns-in_err-done-clause-gave_up c = λ turn clip now.
-    stayed c.args.buffer.now c.toggle.new.self clip now turn c.in_err-done.ensures.err.state
+    let p = err_from_is_err_and c.from_residual.result c.from_residual.ensures.1 in
+    rw p.1
+    (stayed c.args.buffer.now c.toggle.new.self clip now turn c.in_err-done.ensures.err.state)

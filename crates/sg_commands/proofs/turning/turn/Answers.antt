@@ -1,4 +1,3 @@
-use Rattle.std.proofs.Common.{◌×◌}
 use Rattle.sg_eval.specs.Journal.{now_of}
 use Rattle.sg_buffer.specs.Held.{state_of}
 use Rattle.sg_input.proofs.Texts.{each-text}

@@ -1,3 +1,4 @@
+use Rattle.std.proofs.lemmas.Result.{err_from_is_err_and}
 use Rattle.std.proofs.Common.{ap}
 use Rattle.sg_screen.specs.declared.message.Message.TheVariants as message
 use Rattle.sg_states.specs.States.{ended}
@@ -11,4 +12,6 @@ returns-clause-did c = λ clip now.
 
 pub returns-in_err-end_capture-clause-gave_up : goal.returns-in_err-end_capture-clause-gave_up
 returns-in_err-end_capture-clause-gave_up c = λ turn clip now.
-    stayed c.args.buffer.now c.end_capture.new.self clip now turn (ap state_of c.in_err-end_capture.ensures.err)
+    let p = err_from_is_err_and c.from_residual.result c.from_residual.ensures.1 in
+    rw p.1
+    (stayed c.args.buffer.now c.end_capture.new.self clip now turn (ap state_of c.in_err-end_capture.ensures.err))

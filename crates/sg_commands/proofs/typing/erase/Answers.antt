@@ -1,3 +1,4 @@
+use Rattle.std.proofs.lemmas.Result.{err_from_is_err_and}
 use Rattle.std.proofs.Common.{ap, sym, subst, ◌∙◌}
 use Rattle.sg_buffer.specs.Held.{state_of}
 use Rattle.sg_commands.specs.Did.{Did}
@@ -15,4 +16,6 @@ returns-clause-did c = λ x some clip now.
 
 pub returns-in_err-done-clause-gave_up : goal.returns-in_err-done-clause-gave_up
 returns-in_err-done-clause-gave_up c = λ turn clip now.
-    stayed c.args.buffer.now c.erase.new.self clip now turn (ap state_of c.in_err-done.ensures.err)
+    let p = err_from_is_err_and c.from_residual.result c.from_residual.ensures.1 in
+    rw p.1
+    (stayed c.args.buffer.now c.erase.new.self clip now turn (ap state_of c.in_err-done.ensures.err))

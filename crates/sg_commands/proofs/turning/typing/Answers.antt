@@ -1,0 +1,27 @@
+use Rattle.std.specs.Prelude.{IfOk, OnErr}
+use Rattle.std.proofs.Common.{sym, subst}
+use Rattle.sg_eval.specs.Journal.{now_of}
+use Rattle.sg_buffer.specs.Held.{state_of}
+use Rattle.sg_screen.specs.declared.message.Message.TheVariants as message
+use Rattle.sg_commands.specs.Did.{Did, GaveUp}
+use Rattle.sg_commands.specs.Turn.{found_or}
+use Rattle.sg_commands.specs.Turns.{enters_captured, typing_turn}
+use Rattle.sg_commands.proofs.turning.typing.Goals as goal
+
+pub returns-in-Enter-clause-did : goal.returns-in-Enter-clause-did
+returns-in-Enter-clause-did c = λ x at reads are clip.
+    let b = c.args.buffer.now in
+    let was = now_of c.args.journal.now in
+    subst (λ k. IfOk c.enter_typed.result (λ m. Did (typing_turn b.grove.spec b.height reads clip (state_of b) x k) m c.enter_typed.new.buffer clip was (now_of c.enter_typed.new.journal)))
+    (sym c.in-Enter.is)
+    (subst (λ o. IfOk c.enter_typed.result (λ m. Did (found_or clip (state_of b) message.NotInText (λ y. enters_captured b.grove.spec b.height clip (state_of b) (λ entry. reads entry y.text)) o) m c.enter_typed.new.buffer clip was (now_of c.enter_typed.new.journal)))
+    at (c.enter_typed.ensures.did clip reads are))
+
+pub returns-in-Enter-clause-gave_up : goal.returns-in-Enter-clause-gave_up
+returns-in-Enter-clause-gave_up c = λ x at reads are clip.
+    let b = c.args.buffer.now in
+    let was = now_of c.args.journal.now in
+    subst (λ k. OnErr c.enter_typed.result (GaveUp b.grove.spec (typing_turn b.grove.spec b.height reads clip (state_of b) x k) b c.enter_typed.new.buffer clip clip was (now_of c.enter_typed.new.journal)))
+    (sym c.in-Enter.is)
+    (subst (λ o. OnErr c.enter_typed.result (GaveUp b.grove.spec (found_or clip (state_of b) message.NotInText (λ y. enters_captured b.grove.spec b.height clip (state_of b) (λ entry. reads entry y.text)) o) b c.enter_typed.new.buffer clip clip was (now_of c.enter_typed.new.journal)))
+    at (c.enter_typed.ensures.gave_up clip reads are))
