@@ -26,7 +26,6 @@ use sg_states::{Mark, Move};
 use std::alloc::Global;
 
 // a command while no text is being typed
-#[tactic(auto, using(crate::proofs::Putting::refused_did))]
 fn plain(
     alloc: Global,
     tools: &Tools,
@@ -84,7 +83,6 @@ fn plain(
 }
 
 // a command while a text is being typed
-#[tactic(auto, using(crate::proofs::Putting::refused_did))]
 fn typing(
     alloc: Global,
     tools: &Tools,
@@ -117,7 +115,25 @@ fn typing(
         | Command::Show
         | Command::Save(_)
         | Command::SaveText(_) => Ok(Message::Fine),
-        _ => Ok(Message::InText),
+        Command::Next
+        | Command::Prev
+        | Command::Up
+        | Command::First
+        | Command::Sibling
+        | Command::Goto(_, _)
+        | Command::Do(_)
+        | Command::Delete
+        | Command::Remove
+        | Command::InsertBefore
+        | Command::InsertAfter
+        | Command::Cut
+        | Command::Copy
+        | Command::Paste
+        | Command::Text(_)
+        | Command::Alternate
+        | Command::Elide
+        | Command::Undo
+        | Command::Redo => Ok(Message::InText),
     }
 }
 

@@ -2,10 +2,11 @@ use Rattle.std.specs.Prelude.{Some, IfOk, OnErr}
 use Rattle.std.proofs.Common.{refl, sym, ap, subst}
 use Rattle.sg_eval.specs.Journal.{now_of}
 use Rattle.sg_buffer.specs.Held.{state_of}
+use Rattle.sg_screen.specs.declared.message.Message.TheVariants as message
 use Rattle.sg_commands.specs.Did.{Did, GaveUp}
 use Rattle.sg_commands.specs.Replaced.{text_turn}
 use Rattle.sg_commands.specs.Turns.{enterable, plain_turn, types}
-use Rattle.sg_commands.proofs.Putting.{nothing_gained}
+use Rattle.sg_commands.proofs.Putting.{nothing_gained, refused_did}
 use Rattle.sg_commands.proofs.turning.plain.Goals as goal
 
 pub returns-in-Next-clause-did : goal.returns-in-Next-clause-did
@@ -54,7 +55,7 @@ pub returns-in_ok-copy-in-Copy-clause-did : goal.returns-in_ok-copy-in-Copy-clau
 returns-in_ok-copy-in-Copy-clause-did c = λ reads are.
     let b = c.args.buffer.now in
     let was = now_of c.args.journal.now in
-    subst (λ x. Did (plain_turn b.grove.spec b.height reads c.args.clip.now (state_of b) x) _ b (Some c.in_ok-copy-in-Copy.field-0) was was)
+    subst (λ x. Did (plain_turn b.grove.spec b.height reads c.args.clip.now (state_of b) x) message.Fine b (Some c.in_ok-copy-in-Copy.field-0) was was)
     (sym c.in-Copy.is)
     (record {
       message = refl;
@@ -90,3 +91,66 @@ returns-in-TypeIn-clause-did c = λ reads are.
     (sym c.in-TypeIn.is)
     (subst (λ s. IfOk c.begin.result (λ m. Did (enterable b.grove.spec clip (state_of b) (λ entry. types clip (state_of b) s)) m c.begin.new.buffer clip was was))
     c.as_slice-in-TypeIn.ensures (c.begin.ensures.did clip was))
+
+pub returns-in-New-clause-did : goal.returns-in-New-clause-did
+returns-in-New-clause-did c = λ reads are.
+    let b = c.args.buffer.now in
+    let was = now_of c.args.journal.now in
+    subst (λ x. Did (plain_turn b.grove.spec b.height reads c.args.clip.now (state_of b) x) message.Fine b c.args.clip.now was was)
+    (sym c.in-New.is) (refused_did b b c.args.clip.now was was message.Fine refl refl)
+
+pub returns-in-New-2-clause-did : goal.returns-in-New-2-clause-did
+returns-in-New-2-clause-did c = λ reads are.
+    let b = c.args.buffer.now in
+    let was = now_of c.args.journal.now in
+    subst (λ x. Did (plain_turn b.grove.spec b.height reads c.args.clip.now (state_of b) x) message.Fine b c.args.clip.now was was)
+    (sym c.in-New.is) (refused_did b b c.args.clip.now was was message.Fine refl refl)
+
+pub returns-in-New-3-clause-did : goal.returns-in-New-3-clause-did
+returns-in-New-3-clause-did c = λ reads are.
+    let b = c.args.buffer.now in
+    let was = now_of c.args.journal.now in
+    subst (λ x. Did (plain_turn b.grove.spec b.height reads c.args.clip.now (state_of b) x) message.Fine b c.args.clip.now was was)
+    (sym c.in-New.is) (refused_did b b c.args.clip.now was was message.Fine refl refl)
+
+pub returns-in-New-4-clause-did : goal.returns-in-New-4-clause-did
+returns-in-New-4-clause-did c = λ reads are.
+    let b = c.args.buffer.now in
+    let was = now_of c.args.journal.now in
+    subst (λ x. Did (plain_turn b.grove.spec b.height reads c.args.clip.now (state_of b) x) message.Fine b c.args.clip.now was was)
+    (sym c.in-New.is) (refused_did b b c.args.clip.now was was message.Fine refl refl)
+
+pub returns-in-New-5-clause-did : goal.returns-in-New-5-clause-did
+returns-in-New-5-clause-did c = λ reads are.
+    let b = c.args.buffer.now in
+    let was = now_of c.args.journal.now in
+    subst (λ x. Did (plain_turn b.grove.spec b.height reads c.args.clip.now (state_of b) x) message.Fine b c.args.clip.now was was)
+    (sym c.in-New.is) (refused_did b b c.args.clip.now was was message.Fine refl refl)
+
+pub returns-in-New-6-clause-did : goal.returns-in-New-6-clause-did
+returns-in-New-6-clause-did c = λ reads are.
+    let b = c.args.buffer.now in
+    let was = now_of c.args.journal.now in
+    subst (λ x. Did (plain_turn b.grove.spec b.height reads c.args.clip.now (state_of b) x) message.Fine b c.args.clip.now was was)
+    (sym c.in-New.is) (refused_did b b c.args.clip.now was was message.Fine refl refl)
+
+pub returns-in-Erase-clause-did : goal.returns-in-Erase-clause-did
+returns-in-Erase-clause-did c = λ reads are.
+    let b = c.args.buffer.now in
+    let was = now_of c.args.journal.now in
+    subst (λ x. Did (plain_turn b.grove.spec b.height reads c.args.clip.now (state_of b) x) message.NotInText b c.args.clip.now was was)
+    (sym c.in-Erase.is) (refused_did b b c.args.clip.now was was message.NotInText refl refl)
+
+pub returns-in-Erase-2-clause-did : goal.returns-in-Erase-2-clause-did
+returns-in-Erase-2-clause-did c = λ reads are.
+    let b = c.args.buffer.now in
+    let was = now_of c.args.journal.now in
+    subst (λ x. Did (plain_turn b.grove.spec b.height reads c.args.clip.now (state_of b) x) message.NotInText b c.args.clip.now was was)
+    (sym c.in-Erase.is) (refused_did b b c.args.clip.now was was message.NotInText refl refl)
+
+pub returns-in-Erase-3-clause-did : goal.returns-in-Erase-3-clause-did
+returns-in-Erase-3-clause-did c = λ reads are.
+    let b = c.args.buffer.now in
+    let was = now_of c.args.journal.now in
+    subst (λ x. Did (plain_turn b.grove.spec b.height reads c.args.clip.now (state_of b) x) message.NotInText b c.args.clip.now was was)
+    (sym c.in-Erase.is) (refused_did b b c.args.clip.now was was message.NotInText refl refl)
