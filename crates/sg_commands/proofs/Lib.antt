@@ -10,3 +10,4 @@ pub mod Captures
 pub mod Keeping
 pub mod Table
 pub mod Readers
+pub mod Alike

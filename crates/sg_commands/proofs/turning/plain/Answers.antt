@@ -6,6 +6,7 @@ use Rattle.sg_screen.specs.declared.message.Message.TheVariants as message
 use Rattle.sg_commands.specs.Did.{Did, GaveUp}
 use Rattle.sg_commands.specs.Replaced.{text_turn}
 use Rattle.sg_commands.specs.Turns.{enterable, plain_turn, types}
+use Rattle.sg_commands.proofs.Alike.{plain_stays, plain_wants}
 use Rattle.sg_commands.proofs.Putting.{nothing_gained, refused_did}
 use Rattle.sg_commands.proofs.turning.plain.Goals as goal
 
@@ -96,61 +97,61 @@ pub returns-in-New-clause-did : goal.returns-in-New-clause-did
 returns-in-New-clause-did c = λ reads are.
     let b = c.args.buffer.now in
     let was = now_of c.args.journal.now in
-    subst (λ x. Did (plain_turn b.grove.spec b.height reads c.args.clip.now (state_of b) x) message.Fine b c.args.clip.now was was)
-    (sym c.in-New.is) (refused_did b b c.args.clip.now was was message.Fine refl refl)
+    subst (λ t. Did t message.Fine b c.args.clip.now was was)
+    (sym (plain_stays b.grove.spec b.height reads c.args.clip.now (state_of b) c.args.command.now c.in-New.is)) (refused_did b b c.args.clip.now was was message.Fine refl refl)
 
 pub returns-in-New-2-clause-did : goal.returns-in-New-2-clause-did
 returns-in-New-2-clause-did c = λ reads are.
     let b = c.args.buffer.now in
     let was = now_of c.args.journal.now in
-    subst (λ x. Did (plain_turn b.grove.spec b.height reads c.args.clip.now (state_of b) x) message.Fine b c.args.clip.now was was)
-    (sym c.in-New.is) (refused_did b b c.args.clip.now was was message.Fine refl refl)
+    subst (λ t. Did t message.Fine b c.args.clip.now was was)
+    (sym (plain_stays b.grove.spec b.height reads c.args.clip.now (state_of b) c.args.command.now c.in-New.is)) (refused_did b b c.args.clip.now was was message.Fine refl refl)
 
 pub returns-in-New-3-clause-did : goal.returns-in-New-3-clause-did
 returns-in-New-3-clause-did c = λ reads are.
     let b = c.args.buffer.now in
     let was = now_of c.args.journal.now in
-    subst (λ x. Did (plain_turn b.grove.spec b.height reads c.args.clip.now (state_of b) x) message.Fine b c.args.clip.now was was)
-    (sym c.in-New.is) (refused_did b b c.args.clip.now was was message.Fine refl refl)
+    subst (λ t. Did t message.Fine b c.args.clip.now was was)
+    (sym (plain_stays b.grove.spec b.height reads c.args.clip.now (state_of b) c.args.command.now c.in-New.is)) (refused_did b b c.args.clip.now was was message.Fine refl refl)
 
 pub returns-in-New-4-clause-did : goal.returns-in-New-4-clause-did
 returns-in-New-4-clause-did c = λ reads are.
     let b = c.args.buffer.now in
     let was = now_of c.args.journal.now in
-    subst (λ x. Did (plain_turn b.grove.spec b.height reads c.args.clip.now (state_of b) x) message.Fine b c.args.clip.now was was)
-    (sym c.in-New.is) (refused_did b b c.args.clip.now was was message.Fine refl refl)
+    subst (λ t. Did t message.Fine b c.args.clip.now was was)
+    (sym (plain_stays b.grove.spec b.height reads c.args.clip.now (state_of b) c.args.command.now c.in-New.is)) (refused_did b b c.args.clip.now was was message.Fine refl refl)
 
 pub returns-in-New-5-clause-did : goal.returns-in-New-5-clause-did
 returns-in-New-5-clause-did c = λ reads are.
     let b = c.args.buffer.now in
     let was = now_of c.args.journal.now in
-    subst (λ x. Did (plain_turn b.grove.spec b.height reads c.args.clip.now (state_of b) x) message.Fine b c.args.clip.now was was)
-    (sym c.in-New.is) (refused_did b b c.args.clip.now was was message.Fine refl refl)
+    subst (λ t. Did t message.Fine b c.args.clip.now was was)
+    (sym (plain_stays b.grove.spec b.height reads c.args.clip.now (state_of b) c.args.command.now c.in-New.is)) (refused_did b b c.args.clip.now was was message.Fine refl refl)
 
 pub returns-in-New-6-clause-did : goal.returns-in-New-6-clause-did
 returns-in-New-6-clause-did c = λ reads are.
     let b = c.args.buffer.now in
     let was = now_of c.args.journal.now in
-    subst (λ x. Did (plain_turn b.grove.spec b.height reads c.args.clip.now (state_of b) x) message.Fine b c.args.clip.now was was)
-    (sym c.in-New.is) (refused_did b b c.args.clip.now was was message.Fine refl refl)
+    subst (λ t. Did t message.Fine b c.args.clip.now was was)
+    (sym (plain_stays b.grove.spec b.height reads c.args.clip.now (state_of b) c.args.command.now c.in-New.is)) (refused_did b b c.args.clip.now was was message.Fine refl refl)
 
 pub returns-in-Erase-clause-did : goal.returns-in-Erase-clause-did
 returns-in-Erase-clause-did c = λ reads are.
     let b = c.args.buffer.now in
     let was = now_of c.args.journal.now in
-    subst (λ x. Did (plain_turn b.grove.spec b.height reads c.args.clip.now (state_of b) x) message.NotInText b c.args.clip.now was was)
-    (sym c.in-Erase.is) (refused_did b b c.args.clip.now was was message.NotInText refl refl)
+    subst (λ t. Did t message.NotInText b c.args.clip.now was was)
+    (sym (plain_wants b.grove.spec b.height reads c.args.clip.now (state_of b) c.args.command.now c.in-Erase.is)) (refused_did b b c.args.clip.now was was message.NotInText refl refl)
 
 pub returns-in-Erase-2-clause-did : goal.returns-in-Erase-2-clause-did
 returns-in-Erase-2-clause-did c = λ reads are.
     let b = c.args.buffer.now in
     let was = now_of c.args.journal.now in
-    subst (λ x. Did (plain_turn b.grove.spec b.height reads c.args.clip.now (state_of b) x) message.NotInText b c.args.clip.now was was)
-    (sym c.in-Erase.is) (refused_did b b c.args.clip.now was was message.NotInText refl refl)
+    subst (λ t. Did t message.NotInText b c.args.clip.now was was)
+    (sym (plain_wants b.grove.spec b.height reads c.args.clip.now (state_of b) c.args.command.now c.in-Erase.is)) (refused_did b b c.args.clip.now was was message.NotInText refl refl)
 
 pub returns-in-Erase-3-clause-did : goal.returns-in-Erase-3-clause-did
 returns-in-Erase-3-clause-did c = λ reads are.
     let b = c.args.buffer.now in
     let was = now_of c.args.journal.now in
-    subst (λ x. Did (plain_turn b.grove.spec b.height reads c.args.clip.now (state_of b) x) message.NotInText b c.args.clip.now was was)
-    (sym c.in-Erase.is) (refused_did b b c.args.clip.now was was message.NotInText refl refl)
+    subst (λ t. Did t message.NotInText b c.args.clip.now was was)
+    (sym (plain_wants b.grove.spec b.height reads c.args.clip.now (state_of b) c.args.command.now c.in-Erase.is)) (refused_did b b c.args.clip.now was was message.NotInText refl refl)
