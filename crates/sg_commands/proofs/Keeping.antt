@@ -1,28 +1,25 @@
 -- Each turn keeps what is asked of a buffer and of what was copied, and evaluates nothing twice.
-use Rattle.std.specs.Prelude.{◌≡◌, ◌≢◌, refl, ℕ, ◌+◌, ◌-◌, Bool, true, false, cond, not, nat_eq, bytes_eq, ◌&&◌, if◌then◌else◌, List, [], ◌∷◌, ◌++◌, take, drop, All, AllPairs, Option, None, Some, is_some, option_map, unwrap_or, MatchOption, IsTrue, ⊤}
+use Rattle.std.specs.Prelude.{◌≡◌, ◌≢◌, refl, ℕ, ◌-◌, Bool, true, false, cond, not, nat_eq, bytes_eq, ◌&&◌, if◌then◌else◌, List, [], ◌∷◌, ◌++◌, take, drop, All, AllPairs, Option, None, Some, is_some, option_map, unwrap_or, MatchOption, IsTrue, ⊤}
 use Rattle.std.specs.Option.{option_map_or}
-use Rattle.std.proofs.Common.{sym, ap, ◌∙◌, subst}
+use Rattle.std.proofs.Common.{sym, ap, subst}
 use Rattle.std.proofs.lemmas.List.Elements.{All-nil, All-cons, All-tail, All-take, All-contains}
 use Rattle.sg_kinds.specs.Values.{Bytes, is_text}
-use Rattle.sg_kinds.specs.Fits.{Fits}
-use Rattle.sg_kinds.specs.Nets.{Reference}
 use Rattle.sg_kinds.specs.Places.{Place, put}
 use Rattle.sg_kinds.specs.Terms.{Term}
 use Rattle.sg_kinds.specs.declared.spec.Spec.{Spec}
 use Rattle.sg_groves.proofs.EvaluatedOnce.{evaluated_apart}
 use Rattle.sg_groves.proofs.Lists.{apart_none, contains_first}
 use Rattle.sg_changes.specs.Captured.{Captured, captured, put_in, taken_out}
-use Rattle.sg_changes.specs.Changes.{Change, Put as Putting, Mark as Marking, before_of, after_of, marked as marked_term, marks_of, part_of}
+use Rattle.sg_changes.specs.Changes.{Change, Put as Putting, Mark as Marking, marked as marked_term, marks_of, part_of}
 use Rattle.sg_changes.specs.declared.spot.Selection.{Selection}
 use Rattle.sg_changes.specs.declared.spot.Spot.{Spot}
-use Rattle.sg_changes.specs.declared.step.Marks.{Marks}
 use Rattle.sg_changes.proofs.Texts.{text_joined, text_put}
 use Rattle.sg_screen.specs.declared.message.Message.{Message}
 use Rattle.sg_screen.specs.declared.message.Message.TheVariants as message
 use Rattle.sg_script.specs.declared.command.Command.{Command}
 use Rattle.sg_script.specs.declared.command.Command.TheVariants as command
 use Rattle.sg_states.specs.Selections.{alone, is_selection, place_in, settled_selection}
-use Rattle.sg_states.specs.States.{State, begun, capture_of, changed, ended, erased, marked, moved, picked, pointed, redone, redone_by, remarked, replaced, selected, selected_place, target, typed, undone, undone_by}
+use Rattle.sg_states.specs.States.{State, begun, capture_of, changed, ended, erased, pointed, redone_by, remarked, replaced, selected, selected_place, target, typed, undone_by}
 use Rattle.sg_states.specs.Seen.{marks_seen, nothing_typed, seen}
 use Rattle.sg_unparse.specs.Page.{cells_of, owner_at}
 use Rattle.sg_states.specs.declared.marks.Mark.TheVariants.{Alternate, Elide}
@@ -38,7 +35,7 @@ use Rattle.sg_input.specs.Entered.{Entered, BadByte, NoToken, Stopped, Faulted, 
 use Rattle.sg_input.proofs.Answering.{none-bad}
 use Rattle.sg_commands.specs.Tools.{IsClip}
 use Rattle.sg_commands.specs.Turn.{Reads, Turn, becomes, found_or, says}
-use Rattle.sg_commands.specs.Turns.{copied_of, enterable, enters, enters_captured, enters_typed, entry_here, erases, evaluated_back, evaluated_forth, goes, is_editable_here, marks, picks, plain_turn, puts, redoes, replaces, selected_term, turn, types, types_unless, typing_turn, undoes}
+use Rattle.sg_commands.specs.Turns.{copied_of, enterable, enters, enters_typed, entry_here, evaluated_back, evaluated_forth, goes, is_editable_here, marks, plain_turn, puts, redoes, replaces, turn, types, types_unless, typing_turn, undoes}
 use Rattle.sg_commands.specs.Typing.{AreOnes, IsOne, IsTyping, MayEnter}
 
 pub record IsKept (spec : Spec) (t : Turn) : Type 0 where
@@ -64,7 +61,7 @@ module _ (spec : Spec) (height : ℕ) (st : State) (is : IsTyping spec st) where
       → ((s : Spot) → IsOne s → AreOnes (change s)) → IsTyping spec (changed spec height t change select st)
   changed_typing t change select one ones =
       let here = one_or (bytes_eq (settled spec t (place_in select)) (place_in select)
-          && is_selection spec t (settled spec t (place_in select)) select.count) select.count one in
+      && is_selection spec t (settled spec t (place_in select)) select.count) select.count one in
       let spot = seen spec height t (settled_selection spec t select) st.spot.top in
       record {
         one = here;

@@ -1,9 +1,8 @@
 -- The table of commands by what is being typed, and what follows from a turn that was done or given up.
 use Rattle.std.specs.Prelude.{◌≡◌, ◌≤◌, refl, ℕ, List, [], length, Option, None, Some, Result, Ok, Err, IfOk, OnErr}
 use Rattle.std.specs.Option.{option_map_or}
-use Rattle.std.proofs.Common.{sym, ap, ◌∙◌, subst}
+use Rattle.std.proofs.Common.{sym, ap, subst}
 use Rattle.sg_kinds.specs.Fits.{Fits}
-use Rattle.sg_kinds.specs.Terms.{Term}
 use Rattle.sg_kinds.specs.declared.spec.Spec.{Spec}
 use Rattle.sg_eval.specs.declared.journal.Instance.{Instance}
 use Rattle.sg_groves.proofs.Held.{held_fits}
@@ -13,17 +12,16 @@ use Rattle.sg_script.specs.declared.command.Command.{Command}
 use Rattle.sg_states.specs.States.{State}
 use Rattle.sg_buffer.specs.Buffers.{StandsFor}
 use Rattle.sg_buffer.specs.Held.{Held, state_of}
-use Rattle.sg_edits.specs.Edits.{phylum_in}
 use Rattle.sg_edits.specs.declared.clip.Clip.{Clip}
 use Rattle.sg_edits.proofs.Placed.{fits_phylum}
-use Rattle.sg_commands.specs.Did.{Did, GaveUp, turn_of}
+use Rattle.sg_commands.specs.Did.{Did, GaveUp}
 use Rattle.sg_commands.specs.Tools.{IsClip}
-use Rattle.sg_commands.specs.Turn.{AreReads, Reads, Turn}
+use Rattle.sg_commands.specs.Turn.{Reads, Turn}
 use Rattle.sg_commands.specs.Turns.{copied_of, plain_turn, selected_term, turn, typing_turn}
 use Rattle.sg_commands.specs.Typing.{IsTyping}
 use Rattle.sg_commands.proofs.Choosing.{live_here, selected_held}
 use Rattle.sg_commands.proofs.Counting.{gained_count, noted_most}
-use Rattle.sg_commands.proofs.Keeping.{IsKept, turn_kept}
+use Rattle.sg_commands.proofs.Keeping.{IsKept}
 
 module _ (spec : Spec) (height : ℕ) (reads : Reads) (clip : Option Clip) (st : State) (x : Command) where
   pub turn_plain : st.capture ≡ None → turn spec height reads clip st x ≡ plain_turn spec height reads clip st x

@@ -1,6 +1,6 @@
 -- Changes undone and done again are turns.
 use Rattle.std.specs.Prelude.{◌≡◌, ◌≢◌, ◌↔◌, refl, Bool, true, false, List, [], ◌∷◌, Contains, Option}
-use Rattle.std.proofs.Common.{sym, ap, ◌∙◌, subst, inl}
+use Rattle.std.proofs.Common.{sym, ap, subst, inl}
 use Rattle.std.proofs.lemmas.Bool.{false≢true}
 use Rattle.sg_kinds.specs.Terms.{Term}
 use Rattle.sg_kinds.specs.Sound.{IsSound}
@@ -17,7 +17,6 @@ use Rattle.sg_buffer.specs.Gains.{GainedBack, GainedForth, NotedBack, NotedForth
 use Rattle.sg_buffer.specs.Held.{Held, state_of}
 use Rattle.sg_edits.specs.declared.clip.Clip.{Clip}
 use Rattle.sg_commands.specs.Did.{Did, GaveUp}
-use Rattle.sg_commands.specs.Turn.{says}
 use Rattle.sg_commands.specs.Turns.{evaluated_back, evaluated_forth, undoes, redoes}
 use Rattle.sg_commands.proofs.Moved.{said_of}
 use Rattle.sg_commands.proofs.Putting.{nothing_gained, refused_did, all_listed, noted_listed}

@@ -1,5 +1,5 @@
 -- What is kept of a buffer by all commands: one node is selected, and what is being typed may be entered there.
-use Rattle.std.specs.Prelude.{◌≡◌, ℕ, true, List, All, ⊤, MatchOption, IsTrue, is_some}
+use Rattle.std.specs.Prelude.{◌≡◌, true, All, ⊤, MatchOption, IsTrue, is_some}
 use Rattle.sg_kinds.specs.Values.{is_text}
 use Rattle.sg_kinds.specs.declared.spec.Spec.{Spec}
 use Rattle.sg_changes.specs.Captured.{Captured}

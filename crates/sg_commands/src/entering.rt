@@ -170,7 +170,8 @@ pub fn text(
     put_read(alloc, tools, buffer, read, journal)
 }
 
-/// `enter`: as `text`, with the text that is being typed, whose typing ends; where it is not read, its point goes there.
+/// `enter`: as `text`, with the text that is being typed, whose typing ends; where it is not read, its point goes
+/// there.
 pub fn enter_typed(
     alloc: Global,
     tools: &Tools,

@@ -19,10 +19,11 @@ pub fn undo(tools: &Tools, buffer: &mut Buffer, journal: &mut Journal) -> Result
     requires tools { AreTools buffer.old.grove.spec tools.now }
     requires none { buffer.old.capture ≡ None }
     ensures did { (clip : Option IsClipped) → IfOk result (λ m. Did (undoes buffer.old.grove.spec clip
-        (state_of buffer.old) (state_of buffer.old).past) m buffer.new clip (now_of journal.old) (now_of journal.new)) }
-    ensures gave_up { (clip : Option IsClipped) → OnErr result (GaveUp buffer.old.grove.spec (undoes
-        buffer.old.grove.spec clip (state_of buffer.old) (state_of buffer.old).past) buffer.old buffer.new clip clip (now_of journal.old)
+        (state_of buffer.old) (state_of buffer.old).past) m buffer.new clip (now_of journal.old)
         (now_of journal.new)) }
+    ensures gave_up { (clip : Option IsClipped) → OnErr result (GaveUp buffer.old.grove.spec (undoes
+        buffer.old.grove.spec clip (state_of buffer.old) (state_of buffer.old).past) buffer.old buffer.new clip clip
+        (now_of journal.old) (now_of journal.new)) }
     ensures spec { buffer.new.grove.spec ≡ buffer.old.grove.spec }
     ensures height { buffer.new.height ≡ buffer.old.height }
     ensures total { total_of journal.new ≡ total_of journal.old }
@@ -36,10 +37,11 @@ pub fn redo(tools: &Tools, buffer: &mut Buffer, journal: &mut Journal) -> Result
     requires tools { AreTools buffer.old.grove.spec tools.now }
     requires none { buffer.old.capture ≡ None }
     ensures did { (clip : Option IsClipped) → IfOk result (λ m. Did (redoes buffer.old.grove.spec clip
-        (state_of buffer.old) (state_of buffer.old).future) m buffer.new clip (now_of journal.old) (now_of journal.new)) }
-    ensures gave_up { (clip : Option IsClipped) → OnErr result (GaveUp buffer.old.grove.spec (redoes
-        buffer.old.grove.spec clip (state_of buffer.old) (state_of buffer.old).future) buffer.old buffer.new clip clip (now_of journal.old)
+        (state_of buffer.old) (state_of buffer.old).future) m buffer.new clip (now_of journal.old)
         (now_of journal.new)) }
+    ensures gave_up { (clip : Option IsClipped) → OnErr result (GaveUp buffer.old.grove.spec (redoes
+        buffer.old.grove.spec clip (state_of buffer.old) (state_of buffer.old).future) buffer.old buffer.new clip clip
+        (now_of journal.old) (now_of journal.new)) }
     ensures spec { buffer.new.grove.spec ≡ buffer.old.grove.spec }
     ensures height { buffer.new.height ≡ buffer.old.height }
     ensures total { total_of journal.new ≡ total_of journal.old }

@@ -147,8 +147,8 @@ pub fn remove(
     ensures did { (clip : Option IsClipped) → IfOk result (λ m. Did (replaces_in buffer.old clip
         (chosen_in buffer.old edits.removed)) m
         buffer.new clip (now_of journal.old) (now_of journal.new)) }
-    ensures gave_up { (clip : Option IsClipped) → OnErr result (GaveUp buffer.old.grove.spec (replaces_in buffer.old clip
-        (chosen_in buffer.old edits.removed))
+    ensures gave_up { (clip : Option IsClipped) → OnErr result (GaveUp buffer.old.grove.spec
+        (replaces_in buffer.old clip (chosen_in buffer.old edits.removed))
         buffer.old buffer.new clip clip (now_of journal.old) (now_of journal.new)) }
     ensures spec { buffer.new.grove.spec ≡ buffer.old.grove.spec }
     ensures height { buffer.new.height ≡ buffer.old.height }

@@ -2,8 +2,7 @@ use Rattle.sg_eval.specs.Journal.{now_of}
 use Rattle.sg_buffer.specs.Held.{state_of}
 use Rattle.sg_input.proofs.Texts.{each-text}
 use Rattle.sg_commands.specs.Did.{turn_of}
-use Rattle.sg_commands.specs.Turn.{AreReads, Reads}
-use Rattle.sg_commands.proofs.Keeping.{IsKept, turn_kept}
+use Rattle.sg_commands.proofs.Keeping.{turn_kept}
 use Rattle.sg_commands.proofs.Readers.{reads_there}
 use Rattle.sg_commands.proofs.Table.{copied_fits, counted_of, fewer_of, fits_of, typing_of}
 use Rattle.sg_commands.proofs.turning.turn.Goals as goal
