@@ -1,0 +1,5 @@
+pub mod Pieces
+pub mod Texts
+pub mod Checking
+pub mod Building
+pub mod Reading

@@ -1,0 +1,125 @@
+-- What the bytes of a note's subterm say of it.
+use Rattle.std.proofs.Common.{◌≡◌, ℕ, ℤ, eqb-true, ◌==◌, ◌+◌, ◌-◌, ◌<◌, ◌≤◌, Bool, true, false, cond, List, [], ◌∷◌, ◌++◌, length, drop, take, slice_range, refl, sym, ap, ◌∙◌, subst, arith, append_assoc, length-append, Option, Some, None, option_map, option_and_then}
+use Rattle.std.specs.Prelude.{bytes_eq}
+use Rattle.std.specs.List.{position, position_from}
+use Rattle.std.proofs.lemmas.List.{take_at, length-drop}
+use Rattle.std.proofs.lemmas.Iterator.Adapters.{position_from-zero}
+use Rattle.sg_kinds.specs.Values.{Bytes}
+use Rattle.sg_kinds.specs.declared.spec.Operator.{Operator}
+use Rattle.sg_text.specs.Bytes.{newline, double_quote, backslash, letter_n}
+use Rattle.sg_text.specs.Strings.{unescaped, unescaped_after}
+use Rattle.sg_saved_form.specs.Files.{Raw, Raws, Branch, Whole, Quote, Flag, left_parenthesis, right_parenthesis, escaped, escaped_byte, spelled, spelled_all, IsRaw}
+use Rattle.sg_saved_form.specs.Notes.{count_of, notes_of}
+use Rattle.sg_saved_form.specs.declared.notes.Note.{Note}
+use Rattle.sg_saved_form.specs.declared.notes.Noted.{Noted}
+use Rattle.sg_saved_form.specs.declared.notes.Noted.TheVariants as noted
+use Rattle.sg_names.specs.Names as names
+use Rattle.sg_saved.specs.Misfits.{op_named}
+use Rattle.sg_saved_read.specs.Heads.{IsNoteOf}
+use Rattle.sg_saved_read.proofs.Pieces.{name-stands, drop-one}
+
+-- the operator of a name, counted from a place on
+named-from : (name : Bytes) (ops : List Operator) (k : ℕ) → position_from (λ (o : Operator). bytes_eq name o.name) k ops ≡ option_map (λ i. k + i) (op_named ops name)
+named-from name [] k = refl
+named-from name (o ∷ ops) k = by (bytes_eq name o.name) (op_named ops name) (named-from name ops (k + 1))
+  where
+    by : (t : Bool) (r : Option ℕ) → position_from (λ (o : Operator). bytes_eq name o.name) (k + 1) ops ≡ option_map (λ i. k + 1 + i) r
+        → cond t (Some k) (position_from (λ (o : Operator). bytes_eq name o.name) (k + 1) ops) ≡ option_map (λ i. k + i) (cond t (Some 0) (option_map (λ i. i + 1) r))
+    by true r rest = refl
+    by false None rest = rest
+    by false (Some i) rest = rest ∙ ap Some (omega arith)
+
+pub named-is : (name : Bytes) (ops : List Operator) → names.op_named ops name ≡ op_named ops name
+named-is name ops = position_from-zero (λ (o : Operator). bytes_eq name o.name) ops ∙ named-from name ops 0 ∙ same (op_named ops name)
+  where
+    same : (o : Option ℕ) → option_map (λ i. 0 + i) o ≡ o
+    same None = refl
+    same (Some i) = ap Some (omega arith)
+
+-- what is escaped is got back
+escaped-back : (s : Bytes) → unescaped_after false (escaped s) ≡ s
+escaped-back [] = refl
+escaped-back (b ∷ bs) = by (b == double_quote) (b == backslash) (b == newline) refl refl refl
+  where
+    by : (q t n : Bool) → (b == double_quote) ≡ q → (b == backslash) ≡ t → (b == newline) ≡ n
+        → unescaped_after false (cond q (backslash ∷ double_quote ∷ []) (cond t (backslash ∷ backslash ∷ []) (cond n (backslash ∷ letter_n ∷ []) (b ∷ []))) ++ escaped bs) ≡ b ∷ bs
+    by true t n quote slash line = (λ i. sym (eqb-true b double_quote quote) i ∷ escaped-back bs i)
+    by false true n quote slash line = (λ i. sym (eqb-true b backslash slash) i ∷ escaped-back bs i)
+    by false false true quote slash line = (λ i. sym (eqb-true b newline line) i ∷ escaped-back bs i)
+    by false false false quote slash line = ap (λ t. cond t (unescaped_after t (escaped bs)) (b ∷ unescaped_after t (escaped bs))) slash ∙ ap (λ s. b ∷ s) (escaped-back bs)
+
+-- a part of a text
+part-is : (bytes a b : Bytes) (from to : ℕ) → drop from bytes ≡ a ++ b → to ≡ from + length a → slice_range bytes from to ≡ a
+part-is bytes a b from to is end = ap (take (to - from)) is ∙ take_at a b (to - from) (omega arith)
+
+part-within : (bytes a b : Bytes) (from to : ℕ) → drop from bytes ≡ a ++ b → to ≡ from + length a → 0 < length b → to ≤ length bytes
+part-within bytes a b from to is end some =
+    let len : length bytes - from ≡ length a + length b = sym (length-drop from bytes) ∙ ap length is ∙ length-append a b in
+    omega arith
+
+-- a note of an operator is that of a node
+pub record IsNode (bytes : Bytes) (note : Note) (end : ℕ) (r : Raw) : Type 0 where
+  pub name : Bytes
+  pub kids : Raws
+  pub is : r ≡ Branch name kids
+  pub low : note.from ≤ end
+  pub within : end ≤ length bytes
+  pub named : slice_range bytes note.from end ≡ name
+  pub count : note.kids ≡ count_of kids
+
+pub record IsQuote (bytes : Bytes) (note : Note) (last : ℕ) (r : Raw) : Type 0 where
+  pub text : Bytes
+  pub is : r ≡ Quote text
+  pub low : note.from + 1 ≤ last
+  pub within : last ≤ length bytes
+  pub inner : unescaped (slice_range bytes (note.from + 1) last) ≡ text
+
+pub is-node : (bytes : Bytes) (note : Note) (end : ℕ) (r : Raw) → note.what ≡ noted.Operator end → IsNoteOf bytes note r → IsNode bytes note end r
+is-node bytes note end (Branch name rs) what n =
+    let head : record { from = note.from; kids = count_of rs; what = noted.Operator (note.from + length name) } ≡ note = cc in
+    let place : noted.Operator (note.from + length name) ≡ noted.Operator end = ap (λ x. x.what) head ∙ what in
+    let to : end ≡ note.from + length name = cc in
+    let rest : Bytes = left_parenthesis ∷ (spelled_all rs ++ right_parenthesis ∷ n.more) in
+    let text = name-stands bytes note.from name rs n.more n.text in
+    record {
+      name = name;
+      kids = rs;
+      is = refl;
+      low = omega arith;
+      within = part-within bytes name rest note.from end text to (omega arith);
+      named = part-is bytes name rest note.from end text to;
+      count = sym (ap (λ x. x.kids) head);
+    }
+is-node bytes note end (Whole z) what n = absurd (let head : record { from = note.from; kids = 0; what = noted.Number z } ≡ note = cc in let e : noted.Number z ≡ noted.Operator end = ap (λ x. x.what) head ∙ what in cc)
+is-node bytes note end (Quote s) what n = absurd (let head : record { from = note.from; kids = 0; what = noted.Text (note.from + 1 + length (escaped s)) } ≡ note = cc in let e : noted.Text (note.from + 1 + length (escaped s)) ≡ noted.Operator end = ap (λ x. x.what) head ∙ what in cc)
+is-node bytes note end (Flag b) what n = absurd (let head : record { from = note.from; kids = 0; what = noted.Truth b } ≡ note = cc in let e : noted.Truth b ≡ noted.Operator end = ap (λ x. x.what) head ∙ what in cc)
+
+pub is-quote : (bytes : Bytes) (note : Note) (last : ℕ) (r : Raw) → note.what ≡ noted.Text last → IsNoteOf bytes note r → IsQuote bytes note last r
+is-quote bytes note last (Quote s) what n =
+    let head : record { from = note.from; kids = 0; what = noted.Text (note.from + 1 + length (escaped s)) } ≡ note = cc in
+    let place : noted.Text (note.from + 1 + length (escaped s)) ≡ noted.Text last = ap (λ x. x.what) head ∙ what in
+    let to : last ≡ note.from + 1 + length (escaped s) = cc in
+    let text : drop (note.from + 1) bytes ≡ escaped s ++ double_quote ∷ n.more =
+        drop-one bytes ((escaped s ++ double_quote ∷ []) ++ n.more) double_quote note.from n.text ∙ append_assoc (escaped s) (double_quote ∷ []) n.more in
+    record {
+      text = s;
+      is = refl;
+      low = omega arith;
+      within = part-within bytes (escaped s) (double_quote ∷ n.more) (note.from + 1) last text to (omega arith);
+      inner = ap unescaped (part-is bytes (escaped s) (double_quote ∷ n.more) (note.from + 1) last text to) ∙ escaped-back s;
+    }
+is-quote bytes note last (Branch name rs) what n = absurd (let head : record { from = note.from; kids = count_of rs; what = noted.Operator (note.from + length name) } ≡ note = cc in let e : noted.Operator (note.from + length name) ≡ noted.Text last = ap (λ x. x.what) head ∙ what in cc)
+is-quote bytes note last (Whole z) what n = absurd (let head : record { from = note.from; kids = 0; what = noted.Number z } ≡ note = cc in let e : noted.Number z ≡ noted.Text last = ap (λ x. x.what) head ∙ what in cc)
+is-quote bytes note last (Flag b) what n = absurd (let head : record { from = note.from; kids = 0; what = noted.Truth b } ≡ note = cc in let e : noted.Truth b ≡ noted.Text last = ap (λ x. x.what) head ∙ what in cc)
+
+pub is-whole : (bytes : Bytes) (note : Note) (z : ℤ) (r : Raw) → note.what ≡ noted.Number z → IsNoteOf bytes note r → r ≡ Whole z
+is-whole bytes note z (Whole y) what n = let head : record { from = note.from; kids = 0; what = noted.Number y } ≡ note = cc in let e : noted.Number y ≡ noted.Number z = ap (λ x. x.what) head ∙ what in cc
+is-whole bytes note z (Branch name rs) what n = absurd (let head : record { from = note.from; kids = count_of rs; what = noted.Operator (note.from + length name) } ≡ note = cc in let e : noted.Operator (note.from + length name) ≡ noted.Number z = ap (λ x. x.what) head ∙ what in cc)
+is-whole bytes note z (Quote s) what n = absurd (let head : record { from = note.from; kids = 0; what = noted.Text (note.from + 1 + length (escaped s)) } ≡ note = cc in let e : noted.Text (note.from + 1 + length (escaped s)) ≡ noted.Number z = ap (λ x. x.what) head ∙ what in cc)
+is-whole bytes note z (Flag b) what n = absurd (let head : record { from = note.from; kids = 0; what = noted.Truth b } ≡ note = cc in let e : noted.Truth b ≡ noted.Number z = ap (λ x. x.what) head ∙ what in cc)
+
+pub is-flag : (bytes : Bytes) (note : Note) (b : Bool) (r : Raw) → note.what ≡ noted.Truth b → IsNoteOf bytes note r → r ≡ Flag b
+is-flag bytes note b (Flag a) what n = let head : record { from = note.from; kids = 0; what = noted.Truth a } ≡ note = cc in let e : noted.Truth a ≡ noted.Truth b = ap (λ x. x.what) head ∙ what in cc
+is-flag bytes note b (Branch name rs) what n = absurd (let head : record { from = note.from; kids = count_of rs; what = noted.Operator (note.from + length name) } ≡ note = cc in let e : noted.Operator (note.from + length name) ≡ noted.Truth b = ap (λ x. x.what) head ∙ what in cc)
+is-flag bytes note b (Whole z) what n = absurd (let head : record { from = note.from; kids = 0; what = noted.Number z } ≡ note = cc in let e : noted.Number z ≡ noted.Truth b = ap (λ x. x.what) head ∙ what in cc)
+is-flag bytes note b (Quote s) what n = absurd (let head : record { from = note.from; kids = 0; what = noted.Text (note.from + 1 + length (escaped s)) } ≡ note = cc in let e : noted.Text (note.from + 1 + length (escaped s)) ≡ noted.Truth b = ap (λ x. x.what) head ∙ what in cc)
