@@ -1,14 +1,13 @@
 //! What a note tells of its subterm without the children.
-ghost use Rattle.std.specs.Prelude.{◌≡◌, ◌↔◌, ◌++◌, ◌<◌, ℕ, Some, length, reverse, IsTrue, IfOk, OnOk, MatchOption};
+ghost use Rattle.std.specs.Prelude.{◌≡◌, ◌↔◌, List, Some, length, IsTrue, IfOk, MatchOption};
+ghost use Rattle.sg_kinds.specs.Fits.{IsLexeme, MayHold};
 ghost use Rattle.sg_kinds.specs.Specification.{args_of, phylum_of};
-ghost use Rattle.sg_saved_form.specs.Files.{Raw, IsRaw};
-ghost use Rattle.sg_saved.specs.Misfits.{op_named, value_of, LeafFits, HeadFits};
-ghost use Rattle.sg_kinds.specs.Values.{Bytes};
-ghost use Rattle.sg_kinds.specs.Fits.{IsLexeme};
 ghost use Rattle.sg_kinds.specs.declared.spec.Operator.{Operator};
 ghost use Rattle.sg_kinds.specs.declared.spec.Spec.{Spec as IsSpec};
-ghost use Rattle.std.specs.Prelude.{List};
-ghost use Rattle.sg_saved_read.specs.Heads.{AreNames, IsNoteOf, head_of, args_in};
+ghost use Rattle.sg_saved_form.specs.Files.{Raw, IsRaw};
+ghost use Rattle.sg_saved.specs.Misfits.{op_named, LeafFits, HeadFits};
+ghost use Rattle.sg_saved_read.specs.Heads.{AreNames, IsNoteOf, head_of};
+ghost use Rattle.sg_saved_read.specs.declared.heads.Head.TheVariants.{Leaf};
 
 use sg_kinds::ids::{OpId, PhylumId};
 use sg_kinds::marks::Shape;
@@ -74,46 +73,67 @@ fn is_lexeme(spec: &Spec, matcher: &mut Matcher, place: u32, text: &[u8]) -> boo
     ensures matched { IsTrue result ↔ IsLexeme spec.now place text.now }
     ensures same { matcher.new ≡ matcher.old }
 {
-    if text.is_empty() {
-        return true;
-    }
     let place = place as usize;
-    place < spec.lexemes.len() && matcher.matches(place, text)
+    if text.is_empty() {
+        true
+    } else if place < spec.lexemes.len() {
+        matcher.matches(place, text)
+    } else {
+        false
+    }
+}
+
+/// Whether a leaf of a phylum of this shape may hold the value of a leaf.
+fn may_hold(spec: &Spec, matcher: &mut Matcher, shape: Shape, value: &Value) -> bool
+    requires { matcher.old ≡ spec.now.lexemes }
+    ensures held { (r : Raw) → IsRaw r → Leaf value.now ≡ head_of spec.now r
+        → IsTrue result ↔ MayHold spec.now shape value.now }
+    ensures same { matcher.new ≡ matcher.old }
+{
+    match &value.node {
+        ValueNode::Bool(_) => matches!(shape, Shape::Truths),
+        ValueNode::Int(_) => matches!(shape, Shape::Numbers),
+        ValueNode::Text(text) => match shape {
+            Shape::Texts => true,
+            Shape::Lexemes(place) => is_lexeme(spec, matcher, place, text.as_slice()),
+            _ => false,
+        },
+        ValueNode::Tree(_, _) | ValueNode::Fault(_) => false,
+    }
 }
 
 /// Whether the value of a leaf fits a phylum.
 fn leaf_fits(spec: &Spec, matcher: &mut Matcher, value: &Value, wanted: PhylumId) -> bool
     requires { matcher.old ≡ spec.now.lexemes }
-    ensures fits { (r : Raw) → IsRaw r → value.now ≡ value_of spec.now r
+    ensures fits { (r : Raw) → IsRaw r → Leaf value.now ≡ head_of spec.now r
         → IsTrue result ↔ LeafFits spec.now wanted value.now }
     ensures same { matcher.new ≡ matcher.old }
 {
-    let Some(phylum) = spec.phyla.place(wanted.number) else {
-        return false;
-    };
-    match (phylum.shape, &value.node) {
-        (Shape::Truths, ValueNode::Bool(_)) => true,
-        (Shape::Numbers, ValueNode::Int(_)) => true,
-        (Shape::Texts, ValueNode::Text(_)) => true,
-        (Shape::Lexemes(place), ValueNode::Text(text)) => {
-            is_lexeme(spec, matcher, place, text.as_slice())
-        }
-        _ => false,
+    match spec.phyla.place(wanted.number) {
+        Some(phylum) => may_hold(spec, matcher, phylum.shape, value),
+        None => false,
     }
 }
 
 /// Whether an operator is of a phylum and has so many arguments.
+fn operator_fits(spec: &Spec, op: OpId, kids: u32, wanted: PhylumId) -> bool
+    ensures { IsTrue result ↔ (phylum_of spec.now.ops op ≡ Some wanted) × (length (args_of spec.now.ops op) ≡ kids) }
+{
+    match spec.ops.place(op.number) {
+        Some(operator) => operator.phylum == wanted && operator.args.len() == kids as usize,
+        None => false,
+    }
+}
+
+/// Whether there is an operator, of a phylum and with so many arguments.
 fn node_fits(spec: &Spec, op: Option<OpId>, kids: u32, wanted: PhylumId) -> bool
     ensures { IsTrue result ↔ MatchOption op ⊥ (λ k. (phylum_of spec.now.ops k ≡ Some wanted)
         × (length (args_of spec.now.ops k) ≡ kids)) }
 {
-    let Some(op) = op else {
-        return false;
-    };
-    let Some(operator) = spec.ops.place(op.number) else {
-        return false;
-    };
-    operator.phylum == wanted && operator.args.len() == kids as usize
+    match op {
+        Some(op) => operator_fits(spec, op, kids, wanted),
+        None => false,
+    }
 }
 
 /// Whether a subterm fits a phylum, whatever its children.
