@@ -18,7 +18,9 @@ use Rattle.sg_names.specs.declared.index.Index.{Index}
 use Rattle.sg_names.specs.declared.table.Callable.{Callable}
 use Rattle.sg_names.specs.declared.table.Callable.TheVariants.{Operator as OperatorOf, Function as FunctionOf, Builtin as BuiltinOf}
 use Rattle.sg_saved.specs.Misfits.{op_named, LeafFits}
-use Rattle.sg_saved_read.specs.Heads.{AreNames}
+use Rattle.sg_saved_form.specs.Files.{Raw, Branch, Whole, Quote, Flag, IsRaw}
+use Rattle.sg_saved_read.specs.Heads.{AreNames, head_of}
+use Rattle.sg_saved_read.specs.declared.heads.Head.TheVariants.{Leaf}
 use Rattle.sg_saved_read.proofs.Texts.{named-is}
 
 -- what a name means is the operator of the name
@@ -66,3 +68,15 @@ leaf-there spec p x v r is may = subst (λ o. IsTrue r ↔ MatchOption o ⊥ (λ
 
 pub leaf-missing : (spec : Spec) (p : ℕ) (v : Value) → slice_get spec.phyla p ≡ None → IsTrue false ↔ LeafFits spec p v
 leaf-missing spec p v is = subst (λ o. IsTrue false ↔ MatchOption o ⊥ (λ (y : Phylum). MayHold spec y.shape v)) (sym is) (λ e. absurd (let k : false ≡ true = e in cc), λ h. absurd h)
+
+pub quote-held : (spec : Spec) (r : Raw) (s : Bytes) → IsRaw r → Leaf (Chars s) ≡ head_of spec r → is_text s ≡ true
+quote-held spec (Quote t) s is same = let e : s ≡ t = cc in ap is_text e ∙ is
+quote-held spec (Branch name rs) s is same = absurd (cc)
+quote-held spec (Whole z) s is same = absurd (cc)
+quote-held spec (Flag b) s is same = absurd (cc)
+
+pub whole-held : (spec : Spec) (r : Raw) (z : ℤ) → IsRaw r → Leaf (Number z) ≡ head_of spec r → is_number z ≡ true
+whole-held spec (Whole y) z is same = let e : z ≡ y = cc in ap is_number e ∙ is
+whole-held spec (Branch name rs) z is same = absurd (cc)
+whole-held spec (Quote s) z is same = absurd (cc)
+whole-held spec (Flag b) z is same = absurd (cc)

@@ -3,4 +3,4 @@ pub mod Texts
 pub mod Leaves
 pub mod Checking
 pub mod Building
-pub mod Reading
+pub mod Outlined
