@@ -41,15 +41,15 @@ module _ (spec : Spec) where
     pub none-built : (i : ℕ) (values : List Value) → length notes ≤ i → values ≡ [] → Built i values
     none-built i values all is xs l = is ∙ ap (λ ys. reverse (values_in ys)) (sym (none-left bytes notes i xs all l))
 
-    pub kids-on-top : (i : ℕ) (note : Note) (values : List Value) (xs : List Piece) (f : First bytes notes i note xs) → Built (i + 1) values → values ≡ reverse (values_in f.rest) ++ reverse (kid_values spec f.raw)
+    pub kids-on-top : (i : ℕ) (note : Note) (values : List Value) (xs : List Piece) (f : First bytes notes i note xs) → Built (i + 1) values → values ≡ reverse (values_in f.rest) ++ reverse (kid_values spec f.piece.raw)
     kids-on-top i note values xs f b =
-        b (kids_of f.at f.raw ++ f.rest) f.left
-        ∙ ap reverse (map-append (λ (x : Piece). value_of spec x.raw) (kids_of f.at f.raw) f.rest ∙ ap (λ vs. vs ++ values_in f.rest) (kids-values f.at f.raw))
-        ∙ reverse-append (kid_values spec f.raw) (values_in f.rest)
+        b (kids_of f.piece.at f.piece.raw ++ f.rest) f.left
+        ∙ ap reverse (map-append (λ (x : Piece). value_of spec x.raw) (kids_of f.piece.at f.piece.raw) f.rest ∙ ap (λ vs. vs ++ values_in f.rest) (kids-values f.piece.at f.piece.raw))
+        ∙ reverse-append (kid_values spec f.piece.raw) (values_in f.rest)
 
     -- a value is made of those of its children
     pub one-built : (i : ℕ) (note : Note) (values : List Value) → i < length notes → note ≡ get_or notes i note → Built (i + 1) values
-        → (next : List Value) → ((xs : List Piece) (f : First bytes notes i note xs) → next ≡ reverse (values_in f.rest) ++ value_of spec f.raw ∷ []) → Built i next
+        → (next : List Value) → ((xs : List Piece) (f : First bytes notes i note xs) → next ≡ reverse (values_in f.rest) ++ value_of spec f.piece.raw ∷ []) → Built i next
     one-built i note values low is b next made xs l =
         let f = first-left bytes notes i note xs low is l in
-        made xs f ∙ sym (reverse-append (value_of spec f.raw ∷ []) (values_in f.rest)) ∙ ap (λ ys. reverse (values_in ys)) (sym f.are)
+        made xs f ∙ sym (reverse-append (value_of spec f.piece.raw ∷ []) (values_in f.rest)) ∙ ap (λ ys. reverse (values_in ys)) (sym f.are)

@@ -89,7 +89,7 @@ module _ (spec : Spec) where
       pub stack : wanted ≡ reverse phyla ++ phylum ∷ []
       pub count : length phyla ≡ length first.rest
       pub done : List Part
-      pub parts : parts_of spec spec.root first_place whole ≡ done ++ (parts_of spec phylum first.at first.raw ++ parts_in phyla first.rest)
+      pub parts : parts_of spec spec.root first_place whole ≡ done ++ (parts_of spec phylum first.piece.at first.piece.raw ++ parts_in phyla first.rest)
       pub fit : EachFits spec done
 
     pub next : (i : ℕ) (note : Note) (wanted : List ℕ) → i < length notes → note ≡ get_or notes i note → Checked i wanted → Next i note wanted
@@ -116,38 +116,38 @@ module _ (spec : Spec) where
     taken i note wanted rest None n is less = absurd (let e : length wanted ≡ length rest = ap length (is ∙ append-nil rest) in omega arith)
     taken i note wanted rest (Some p) n is less = let e = same_from_push rest (reverse n.phyla) p n.phylum (sym is ∙ n.stack) in (ap Some e.1, e.0)
 
-    pub goes-on : (i : ℕ) (note : Note) (wanted rest more : List ℕ) (n : Next i note wanted) → rest ≡ reverse n.phyla → HeadFits spec n.phylum n.first.raw → more ≡ rest ++ reverse (args_in spec (head_of spec n.first.raw)) → Checked (i + 1) more
+    pub goes-on : (i : ℕ) (note : Note) (wanted rest more : List ℕ) (n : Next i note wanted) → rest ≡ reverse n.phyla → HeadFits spec n.phylum n.first.piece.raw → more ≡ rest ++ reverse (args_in spec (head_of spec n.first.piece.raw)) → Checked (i + 1) more
     goes-on i note wanted rest more n was fits is =
         let f = n.first in
-        let args : List ℕ = args_in spec (head_of spec f.raw) in
-        let same = args-count n.phylum f.at f.raw fits in
-        let part : Part = part_at n.phylum f.at f.raw in
+        let args : List ℕ = args_in spec (head_of spec f.piece.raw) in
+        let same = args-count n.phylum f.piece.at f.piece.raw fits in
+        let part : Part = part_at n.phylum f.piece.at f.piece.raw in
         record {
           phyla = args ++ n.phyla;
-          pieces = kids_of f.at f.raw ++ f.rest;
+          pieces = kids_of f.piece.at f.piece.raw ++ f.rest;
           stack = is ∙ ap (λ x. x ++ reverse args) was ∙ sym (reverse-append args n.phyla);
-          count = length-append args n.phyla ∙ (λ i. same i + n.count i) ∙ sym (length-append (kids_of f.at f.raw) f.rest);
+          count = length-append args n.phyla ∙ (λ i. same i + n.count i) ∙ sym (length-append (kids_of f.piece.at f.piece.raw) f.rest);
           left = f.left;
           done = n.done ++ part ∷ [];
           parts =
-              n.parts ∙ ap (λ x. n.done ++ (x ++ parts_in n.phyla f.rest)) (first-part n.phylum f.at f.raw)
-              ∙ sym (append_assoc n.done (part ∷ []) (parts_in args (kids_of f.at f.raw) ++ parts_in n.phyla f.rest))
-              ∙ ap (λ x. (n.done ++ part ∷ []) ++ x) (sym (parts-append args n.phyla (kids_of f.at f.raw) f.rest same));
+              n.parts ∙ ap (λ x. n.done ++ (x ++ parts_in n.phyla f.rest)) (first-part n.phylum f.piece.at f.piece.raw)
+              ∙ sym (append_assoc n.done (part ∷ []) (parts_in args (kids_of f.piece.at f.piece.raw) ++ parts_in n.phyla f.rest))
+              ∙ ap (λ x. (n.done ++ part ∷ []) ++ x) (sym (parts-append args n.phyla (kids_of f.piece.at f.piece.raw) f.rest same));
           fit = one-more-fits n.done part n.fit fits;
         }
 
-    pub misfits : (i : ℕ) (note : Note) (wanted : List ℕ) (n : Next i note wanted) → (HeadFits spec n.phylum n.first.raw → ⊥) → IsMisfit spec whole note.from
+    pub misfits : (i : ℕ) (note : Note) (wanted : List ℕ) (n : Next i note wanted) → (HeadFits spec n.phylum n.first.piece.raw → ⊥) → IsMisfit spec whole note.from
     misfits i note wanted n misfit =
         let f = n.first in
-        let part : Part = part_at n.phylum f.at f.raw in
+        let part : Part = part_at n.phylum f.piece.at f.piece.raw in
         record {
           before = n.done;
           part = part;
-          behind = parts_in (args_in spec (head_of spec f.raw)) (kids_of f.at f.raw) ++ parts_in n.phyla f.rest;
-          are = n.parts ∙ ap (λ x. n.done ++ (x ++ parts_in n.phyla f.rest)) (first-part n.phylum f.at f.raw);
+          behind = parts_in (args_in spec (head_of spec f.piece.raw)) (kids_of f.piece.at f.piece.raw) ++ parts_in n.phyla f.rest;
+          are = n.parts ∙ ap (λ x. n.done ++ (x ++ parts_in n.phyla f.rest)) (first-part n.phylum f.piece.at f.piece.raw);
           fit = n.fit;
           misfit = misfit;
-          place = sym (ap (λ x. x.from) f.note ∙ note-from f.at f.raw);
+          place = sym (ap (λ x. x.from) f.noted ∙ note-from f.piece.at f.piece.raw);
         }
 
     pub all-checked : (i : ℕ) (wanted : List ℕ) → length notes ≤ i → Checked i wanted → EachFits spec (parts_of spec spec.root first_place whole)

@@ -4,7 +4,7 @@ use Rattle.std.proofs.lemmas.List.{drop-drop, drop_more, drop_all}
 use Rattle.std.proofs.Math.Seq.{drop-append_seam}
 use Rattle.std.specs.Prelude.{⊤}
 use Rattle.sg_kinds.specs.Values.{Bytes}
-use Rattle.sg_saved_form.specs.Files.{Raw, Raws, Branch, Whole, Quote, Flag, NoRaw, AndRaw, left_parenthesis, right_parenthesis, comma, frame, file_of, spelled, spelled_all, escaped, IsRaw, AreRaw}
+use Rattle.sg_saved_form.specs.Files.{Raw, Raws, Branch, Whole, Quote, Flag, NoRaw, AndRaw, left_parenthesis, right_parenthesis, comma, frame, file_of, spelled, spelled_all, spelled_more, escaped, IsRaw, AreRaw}
 use Rattle.sg_saved_form.specs.Notes.{count_of, notes_of, notes_of_all, first_place, IsOutline}
 use Rattle.sg_saved_form.specs.declared.notes.Note.{Note}
 use Rattle.sg_saved_form.specs.declared.notes.Noted.TheVariants.{Operator, Number, Text, Truth}
@@ -61,6 +61,10 @@ first-note at (Whole z) = refl
 first-note at (Quote s) = refl
 first-note at (Flag b) = refl
 
+-- the note is the first of the term
+pub note-is : (bytes : Bytes) (note : Note) (r : Raw) → IsNoteOf bytes note r → note_at note.from r ≡ note
+note-is bytes note r n = let e : note_at note.from r ∷ notes_in (kids_of note.from r) ≡ note ∷ n.rest = sym (first-note note.from r) ∙ n.notes in cc
+
 -- a term stands in a text at a place
 pub record StandsAt (bytes : Bytes) (at : ℕ) (r : Raw) : Type 0 where
   pub is : IsRaw r
@@ -82,14 +86,23 @@ drop-past bytes a b at is = sym (drop-drop (length a) at bytes) ∙ ap (drop (le
 pub drop-one : (bytes b : Bytes) (c at : ℕ) → drop at bytes ≡ c ∷ b → drop (at + 1) bytes ≡ b
 drop-one bytes b c at is = drop-past bytes (c ∷ []) b at is
 
+one-stands : (bytes : Bytes) (at : ℕ) (r : Raw) (rest more : Bytes) → IsRaw r → drop at bytes ≡ (spelled r ++ rest) ++ more
+    → StandsAt bytes at r × (drop (at + length (spelled r)) bytes ≡ rest ++ more)
+one-stands bytes at r rest more are is =
+    let text : drop at bytes ≡ spelled r ++ (rest ++ more) = is ∙ append_assoc (spelled r) rest more in
+    (record { is = are; more = rest ++ more; text = text }, drop-past bytes (spelled r) (rest ++ more) at text)
+
+more-stand : (bytes : Bytes) (at : ℕ) (rs : Raws) (more : Bytes) → AreRaw rs → drop at bytes ≡ spelled_more rs ++ more → AllStand bytes (pieces_of (at + 1) rs)
+more-stand bytes at NoRaw more are is = tt
+more-stand bytes at (AndRaw r rs) more are is =
+    let s = one-stands bytes (at + 1) r (spelled_more rs) more are.0 (drop-one bytes ((spelled r ++ spelled_more rs) ++ more) comma at is) in
+    (s.0, more-stand bytes (at + 1 + length (spelled r)) rs more are.1 s.1)
+
 kids-stand : (bytes : Bytes) (at : ℕ) (rs : Raws) (more : Bytes) → AreRaw rs → drop at bytes ≡ spelled_all rs ++ more → AllStand bytes (pieces_of at rs)
 kids-stand bytes at NoRaw more are is = tt
-kids-stand bytes at (AndRaw r NoRaw) more are is = (record { is = are.0; more = more; text = is ∙ append_assoc (spelled r) [] more }, tt)
-kids-stand bytes at (AndRaw r (AndRaw s rs)) more are is =
-    let rest : Bytes = comma ∷ (spelled_all (AndRaw s rs) ++ more) in
-    let text : drop at bytes ≡ spelled r ++ rest = is ∙ append_assoc (spelled r) (comma ∷ spelled_all (AndRaw s rs)) more in
-    let behind : drop (at + length (spelled r) + 1) bytes ≡ spelled_all (AndRaw s rs) ++ more = drop-one bytes (spelled_all (AndRaw s rs) ++ more) comma (at + length (spelled r)) (drop-past bytes (spelled r) rest at text) in
-    (record { is = are.0; more = rest; text = text }, kids-stand bytes (at + length (spelled r) + 1) (AndRaw s rs) more are.1 behind)
+kids-stand bytes at (AndRaw r rs) more are is =
+    let s = one-stands bytes at r (spelled_more rs) more are.0 is in
+    (s.0, more-stand bytes (at + length (spelled r)) rs more are.1 s.1)
 
 pub name-stands : (bytes : Bytes) (at : ℕ) (name : Bytes) (rs : Raws) (more : Bytes) → drop at bytes ≡ spelled (Branch name rs) ++ more
     → drop at bytes ≡ name ++ left_parenthesis ∷ (spelled_all rs ++ right_parenthesis ∷ more)
@@ -111,52 +124,50 @@ kids-of-stand bytes at (Flag b) s = tt
 module _ (bytes : Bytes) (notes : List Note) where
   pub record Left (i : ℕ) (xs : List Piece) : Type 0 where
     pub stand : AllStand bytes xs
-    pub notes : drop i notes ≡ notes_in xs
+    pub behind : drop i notes ≡ notes_in xs
 
   pub record First (i : ℕ) (note : Note) (xs : List Piece) : Type 0 where
-    pub at : ℕ
-    pub raw : Raw
+    pub piece : Piece
     pub rest : List Piece
-    pub are : xs ≡ record { at = at; raw = raw } ∷ rest
-    pub stands : StandsAt bytes at raw
-    pub note : note ≡ note_at at raw
-    pub left : Left (i + 1) (kids_of at raw ++ rest)
+    pub are : xs ≡ piece ∷ rest
+    pub stands : StandsAt bytes piece.at piece.raw
+    pub noted : note ≡ note_at piece.at piece.raw
+    pub left : Left (i + 1) (kids_of piece.at piece.raw ++ rest)
 
   pub first-left : (i : ℕ) (note : Note) (xs : List Piece) → i < length notes → note ≡ get_or notes i note → Left i xs → First i note xs
-  first-left i note [] low is l = absurd (let e : get_or notes i note ∷ drop (i + 1) notes ≡ [] = sym (drop_more notes i note low) ∙ l.notes in cc)
+  first-left i note [] low is l = absurd (let e : get_or notes i note ∷ drop (i + 1) notes ≡ [] = sym (drop_more notes i note low) ∙ l.behind in cc)
   first-left i note (x ∷ xs) low is l =
       let e : note ∷ drop (i + 1) notes ≡ note_at x.at x.raw ∷ (notes_in (kids_of x.at x.raw) ++ notes_in xs) =
-          ap (λ n. n ∷ drop (i + 1) notes) is ∙ sym (drop_more notes i note low) ∙ l.notes ∙ ap (λ n. n ++ notes_in xs) (first-note x.at x.raw) in
+          ap (λ n. n ∷ drop (i + 1) notes) is ∙ sym (drop_more notes i note low) ∙ l.behind ∙ ap (λ n. n ++ notes_in xs) (first-note x.at x.raw) in
       let here : note ≡ note_at x.at x.raw = cc in
       let behind : drop (i + 1) notes ≡ notes_in (kids_of x.at x.raw) ++ notes_in xs = cc in
       record {
-        at = x.at;
-        raw = x.raw;
+        piece = x;
         rest = xs;
         are = refl;
         stands = l.stand.0;
-        note = here;
+        noted = here;
         left = record {
           stand = both-stand bytes (kids_of x.at x.raw) xs (kids-of-stand bytes x.at x.raw l.stand.0) l.stand.1;
-          notes = behind ∙ sym (notes-append (kids_of x.at x.raw) xs);
+          behind = behind ∙ sym (notes-append (kids_of x.at x.raw) xs);
         };
       }
 
-  pub note-of : (i : ℕ) (note : Note) (xs : List Piece) (f : First i note xs) → IsNoteOf bytes note f.raw
+  pub note-of : (i : ℕ) (note : Note) (xs : List Piece) (f : First i note xs) → IsNoteOf bytes note f.piece.raw
   note-of i note xs f =
-      let from : note.from ≡ f.at = ap (λ n. n.from) f.note ∙ note-from f.at f.raw in
+      let from : note.from ≡ f.piece.at = ap (λ n. n.from) f.noted ∙ note-from f.piece.at f.piece.raw in
       record {
         is = f.stands.is;
         more = f.stands.more;
         text = ap (λ k. drop k bytes) from ∙ f.stands.text;
-        rest = notes_in (kids_of f.at f.raw);
-        notes = ap (λ k. notes_of k f.raw) from ∙ first-note f.at f.raw ∙ ap (λ n. n ∷ notes_in (kids_of f.at f.raw)) (sym f.note);
+        rest = notes_in (kids_of f.piece.at f.piece.raw);
+        notes = ap (λ k. notes_of k f.piece.raw) from ∙ first-note f.piece.at f.piece.raw ∙ ap (λ n. n ∷ notes_in (kids_of f.piece.at f.piece.raw)) (sym f.noted);
       }
 
   pub none-left : (i : ℕ) (xs : List Piece) → length notes ≤ i → Left i xs → xs ≡ []
   none-left i [] all l = refl
   none-left i (x ∷ xs) all l =
-      let e : [] ≡ note_at x.at x.raw ∷ (notes_in (kids_of x.at x.raw) ++ notes_in xs) = sym (drop_all i notes all) ∙ l.notes ∙ ap (λ n. n ++ notes_in xs) (first-note x.at x.raw) in
+      let e : [] ≡ note_at x.at x.raw ∷ (notes_in (kids_of x.at x.raw) ++ notes_in xs) = sym (drop_all i notes all) ∙ l.behind ∙ ap (λ n. n ++ notes_in xs) (first-note x.at x.raw) in
       absurd (cc)
 
   -- some subterms are left behind each note
@@ -165,7 +176,8 @@ module _ (bytes : Bytes) (notes : List Note) where
   left-at xs l (suc i) low =
       let before = left-at xs l i (omega arith) in
       let f = first-left i (get_or notes i none) before.0 (omega arith) refl before.1 in
-      (kids_of f.at f.raw ++ f.rest, subst (λ k. Left k (kids_of f.at f.raw ++ f.rest)) (omega arith) f.left)
+      let next : i + 1 ≡ suc i = omega arith in
+      (kids_of f.piece.at f.piece.raw ++ f.rest, subst (λ k. Left k (kids_of f.piece.at f.piece.raw ++ f.rest)) next f.left)
     where
       none : Note
       none = record { from = 0; kids = 0; what = Truth true }
@@ -174,5 +186,5 @@ module _ (bytes : Bytes) (notes : List Note) where
 pub whole-left : (bytes : Bytes) (o : Outline) (is : IsOutline bytes o) → Left bytes o.notes.items 0 (record { at = first_place; raw = is.raw } ∷ [])
 whole-left bytes o is = record {
   stand = (record { is = is.is; more = 10 ∷ []; text = ap (drop first_place) is.same }, tt);
-  notes = is.notes ∙ sym (append-nil (notes_of first_place is.raw));
+  behind = is.notes ∙ sym (append-nil (notes_of first_place is.raw));
 }

@@ -1,11 +1,12 @@
 -- What the bytes of a note's subterm say of it.
-use Rattle.std.proofs.Common.{◌≡◌, ℕ, ℤ, eqb-true, ◌==◌, ◌+◌, ◌-◌, ◌<◌, ◌≤◌, Bool, true, false, cond, List, [], ◌∷◌, ◌++◌, length, drop, take, slice_range, refl, sym, ap, ◌∙◌, subst, arith, append_assoc, length-append, Option, Some, None, option_map, option_and_then}
+use Rattle.std.proofs.Common.{◌≡◌, ℕ, suc, ℤ, eqb-true, ◌==◌, ◌+◌, ◌-◌, ◌<◌, ◌≤◌, Bool, true, false, cond, List, [], ◌∷◌, ◌++◌, length, drop, take, slice_range, refl, sym, ap, ◌∙◌, subst, arith, append_assoc, length-append, Option, Some, None, option_map, option_and_then}
 use Rattle.std.specs.Prelude.{bytes_eq}
 use Rattle.std.specs.List.{position, position_from}
 use Rattle.std.proofs.lemmas.List.{take_at, length-drop}
 use Rattle.std.proofs.lemmas.Iterator.Adapters.{position_from-zero}
-use Rattle.sg_kinds.specs.Values.{Bytes}
+use Rattle.sg_kinds.specs.Values.{Bytes, Truth, Number, Chars}
 use Rattle.sg_kinds.specs.declared.spec.Operator.{Operator}
+use Rattle.sg_kinds.specs.declared.spec.Spec.{Spec}
 use Rattle.sg_text.specs.Bytes.{newline, double_quote, backslash, letter_n}
 use Rattle.sg_text.specs.Strings.{unescaped, unescaped_after}
 use Rattle.sg_saved_form.specs.Files.{Raw, Raws, Branch, Whole, Quote, Flag, left_parenthesis, right_parenthesis, escaped, escaped_byte, spelled, spelled_all, IsRaw}
@@ -15,8 +16,9 @@ use Rattle.sg_saved_form.specs.declared.notes.Noted.{Noted}
 use Rattle.sg_saved_form.specs.declared.notes.Noted.TheVariants as noted
 use Rattle.sg_names.specs.Names as names
 use Rattle.sg_saved.specs.Misfits.{op_named}
-use Rattle.sg_saved_read.specs.Heads.{IsNoteOf}
-use Rattle.sg_saved_read.proofs.Pieces.{name-stands, drop-one}
+use Rattle.sg_saved_read.specs.Heads.{IsNoteOf, head_of}
+use Rattle.sg_saved_read.specs.declared.heads.Head.TheVariants.{Node, Leaf}
+use Rattle.sg_saved_read.proofs.Pieces.{note_at, note-is, name-stands, drop-one}
 
 -- the operator of a name, counted from a place on
 named-from : (name : Bytes) (ops : List Operator) (k : ℕ) → position_from (λ (o : Operator). bytes_eq name o.name) k ops ≡ option_map (λ i. k + i) (op_named ops name)
@@ -24,10 +26,10 @@ named-from name [] k = refl
 named-from name (o ∷ ops) k = by (bytes_eq name o.name) (op_named ops name) (named-from name ops (k + 1))
   where
     by : (t : Bool) (r : Option ℕ) → position_from (λ (o : Operator). bytes_eq name o.name) (k + 1) ops ≡ option_map (λ i. k + 1 + i) r
-        → cond t (Some k) (position_from (λ (o : Operator). bytes_eq name o.name) (k + 1) ops) ≡ option_map (λ i. k + i) (cond t (Some 0) (option_map (λ i. i + 1) r))
+        → cond t (Some k) (position_from (λ (o : Operator). bytes_eq name o.name) (k + 1) ops) ≡ option_map (λ i. k + i) (cond t (Some 0) (option_map suc r))
     by true r rest = refl
     by false None rest = rest
-    by false (Some i) rest = rest ∙ ap Some (omega arith)
+    by false (Some i) rest = let e : k + 1 + i ≡ k + suc i = omega arith in rest ∙ ap Some e
 
 pub named-is : (name : Bytes) (ops : List Operator) → names.op_named ops name ≡ op_named ops name
 named-is name ops = position_from-zero (λ (o : Operator). bytes_eq name o.name) ops ∙ named-from name ops 0 ∙ same (op_named ops name)
@@ -74,10 +76,13 @@ pub record IsQuote (bytes : Bytes) (note : Note) (last : ℕ) (r : Raw) : Type 0
   pub within : last ≤ length bytes
   pub inner : unescaped (slice_range bytes (note.from + 1) last) ≡ text
 
+-- what the note says that its subterm is
+what-is : (bytes : Bytes) (note : Note) (r : Raw) (w : Noted) → note.what ≡ w → IsNoteOf bytes note r → (note_at note.from r).what ≡ w
+what-is bytes note r w what n = ap (λ x. x.what) (note-is bytes note r n) ∙ what
+
 pub is-node : (bytes : Bytes) (note : Note) (end : ℕ) (r : Raw) → note.what ≡ noted.Operator end → IsNoteOf bytes note r → IsNode bytes note end r
 is-node bytes note end (Branch name rs) what n =
-    let head : record { from = note.from; kids = count_of rs; what = noted.Operator (note.from + length name) } ≡ note = cc in
-    let place : noted.Operator (note.from + length name) ≡ noted.Operator end = ap (λ x. x.what) head ∙ what in
+    let place : noted.Operator (note.from + length name) ≡ noted.Operator end = what-is bytes note (Branch name rs) (noted.Operator end) what n in
     let to : end ≡ note.from + length name = cc in
     let rest : Bytes = left_parenthesis ∷ (spelled_all rs ++ right_parenthesis ∷ n.more) in
     let text = name-stands bytes note.from name rs n.more n.text in
@@ -88,16 +93,15 @@ is-node bytes note end (Branch name rs) what n =
       low = omega arith;
       within = part-within bytes name rest note.from end text to (omega arith);
       named = part-is bytes name rest note.from end text to;
-      count = sym (ap (λ x. x.kids) head);
+      count = sym (ap (λ x. x.kids) (note-is bytes note (Branch name rs) n));
     }
-is-node bytes note end (Whole z) what n = absurd (let head : record { from = note.from; kids = 0; what = noted.Number z } ≡ note = cc in let e : noted.Number z ≡ noted.Operator end = ap (λ x. x.what) head ∙ what in cc)
-is-node bytes note end (Quote s) what n = absurd (let head : record { from = note.from; kids = 0; what = noted.Text (note.from + 1 + length (escaped s)) } ≡ note = cc in let e : noted.Text (note.from + 1 + length (escaped s)) ≡ noted.Operator end = ap (λ x. x.what) head ∙ what in cc)
-is-node bytes note end (Flag b) what n = absurd (let head : record { from = note.from; kids = 0; what = noted.Truth b } ≡ note = cc in let e : noted.Truth b ≡ noted.Operator end = ap (λ x. x.what) head ∙ what in cc)
+is-node bytes note end (Whole z) what n = let e : noted.Number z ≡ noted.Operator end = what-is bytes note (Whole z) (noted.Operator end) what n in absurd (cc)
+is-node bytes note end (Quote s) what n = let e : noted.Text (note.from + 1 + length (escaped s)) ≡ noted.Operator end = what-is bytes note (Quote s) (noted.Operator end) what n in absurd (cc)
+is-node bytes note end (Flag b) what n = let e : noted.Truth b ≡ noted.Operator end = what-is bytes note (Flag b) (noted.Operator end) what n in absurd (cc)
 
 pub is-quote : (bytes : Bytes) (note : Note) (last : ℕ) (r : Raw) → note.what ≡ noted.Text last → IsNoteOf bytes note r → IsQuote bytes note last r
 is-quote bytes note last (Quote s) what n =
-    let head : record { from = note.from; kids = 0; what = noted.Text (note.from + 1 + length (escaped s)) } ≡ note = cc in
-    let place : noted.Text (note.from + 1 + length (escaped s)) ≡ noted.Text last = ap (λ x. x.what) head ∙ what in
+    let place : noted.Text (note.from + 1 + length (escaped s)) ≡ noted.Text last = what-is bytes note (Quote s) (noted.Text last) what n in
     let to : last ≡ note.from + 1 + length (escaped s) = cc in
     let text : drop (note.from + 1) bytes ≡ escaped s ++ double_quote ∷ n.more =
         drop-one bytes ((escaped s ++ double_quote ∷ []) ++ n.more) double_quote note.from n.text ∙ append_assoc (escaped s) (double_quote ∷ []) n.more in
@@ -108,18 +112,35 @@ is-quote bytes note last (Quote s) what n =
       within = part-within bytes (escaped s) (double_quote ∷ n.more) (note.from + 1) last text to (omega arith);
       inner = ap unescaped (part-is bytes (escaped s) (double_quote ∷ n.more) (note.from + 1) last text to) ∙ escaped-back s;
     }
-is-quote bytes note last (Branch name rs) what n = absurd (let head : record { from = note.from; kids = count_of rs; what = noted.Operator (note.from + length name) } ≡ note = cc in let e : noted.Operator (note.from + length name) ≡ noted.Text last = ap (λ x. x.what) head ∙ what in cc)
-is-quote bytes note last (Whole z) what n = absurd (let head : record { from = note.from; kids = 0; what = noted.Number z } ≡ note = cc in let e : noted.Number z ≡ noted.Text last = ap (λ x. x.what) head ∙ what in cc)
-is-quote bytes note last (Flag b) what n = absurd (let head : record { from = note.from; kids = 0; what = noted.Truth b } ≡ note = cc in let e : noted.Truth b ≡ noted.Text last = ap (λ x. x.what) head ∙ what in cc)
+is-quote bytes note last (Branch name rs) what n = let e : noted.Operator (note.from + length name) ≡ noted.Text last = what-is bytes note (Branch name rs) (noted.Text last) what n in absurd (cc)
+is-quote bytes note last (Whole z) what n = let e : noted.Number z ≡ noted.Text last = what-is bytes note (Whole z) (noted.Text last) what n in absurd (cc)
+is-quote bytes note last (Flag b) what n = let e : noted.Truth b ≡ noted.Text last = what-is bytes note (Flag b) (noted.Text last) what n in absurd (cc)
 
 pub is-whole : (bytes : Bytes) (note : Note) (z : ℤ) (r : Raw) → note.what ≡ noted.Number z → IsNoteOf bytes note r → r ≡ Whole z
-is-whole bytes note z (Whole y) what n = let head : record { from = note.from; kids = 0; what = noted.Number y } ≡ note = cc in let e : noted.Number y ≡ noted.Number z = ap (λ x. x.what) head ∙ what in cc
-is-whole bytes note z (Branch name rs) what n = absurd (let head : record { from = note.from; kids = count_of rs; what = noted.Operator (note.from + length name) } ≡ note = cc in let e : noted.Operator (note.from + length name) ≡ noted.Number z = ap (λ x. x.what) head ∙ what in cc)
-is-whole bytes note z (Quote s) what n = absurd (let head : record { from = note.from; kids = 0; what = noted.Text (note.from + 1 + length (escaped s)) } ≡ note = cc in let e : noted.Text (note.from + 1 + length (escaped s)) ≡ noted.Number z = ap (λ x. x.what) head ∙ what in cc)
-is-whole bytes note z (Flag b) what n = absurd (let head : record { from = note.from; kids = 0; what = noted.Truth b } ≡ note = cc in let e : noted.Truth b ≡ noted.Number z = ap (λ x. x.what) head ∙ what in cc)
+is-whole bytes note z (Whole y) what n = let e : noted.Number y ≡ noted.Number z = what-is bytes note (Whole y) (noted.Number z) what n in cc
+is-whole bytes note z (Branch name rs) what n = let e : noted.Operator (note.from + length name) ≡ noted.Number z = what-is bytes note (Branch name rs) (noted.Number z) what n in absurd (cc)
+is-whole bytes note z (Quote s) what n = let e : noted.Text (note.from + 1 + length (escaped s)) ≡ noted.Number z = what-is bytes note (Quote s) (noted.Number z) what n in absurd (cc)
+is-whole bytes note z (Flag b) what n = let e : noted.Truth b ≡ noted.Number z = what-is bytes note (Flag b) (noted.Number z) what n in absurd (cc)
 
 pub is-flag : (bytes : Bytes) (note : Note) (b : Bool) (r : Raw) → note.what ≡ noted.Truth b → IsNoteOf bytes note r → r ≡ Flag b
-is-flag bytes note b (Flag a) what n = let head : record { from = note.from; kids = 0; what = noted.Truth a } ≡ note = cc in let e : noted.Truth a ≡ noted.Truth b = ap (λ x. x.what) head ∙ what in cc
-is-flag bytes note b (Branch name rs) what n = absurd (let head : record { from = note.from; kids = count_of rs; what = noted.Operator (note.from + length name) } ≡ note = cc in let e : noted.Operator (note.from + length name) ≡ noted.Truth b = ap (λ x. x.what) head ∙ what in cc)
-is-flag bytes note b (Whole z) what n = absurd (let head : record { from = note.from; kids = 0; what = noted.Number z } ≡ note = cc in let e : noted.Number z ≡ noted.Truth b = ap (λ x. x.what) head ∙ what in cc)
-is-flag bytes note b (Quote s) what n = absurd (let head : record { from = note.from; kids = 0; what = noted.Text (note.from + 1 + length (escaped s)) } ≡ note = cc in let e : noted.Text (note.from + 1 + length (escaped s)) ≡ noted.Truth b = ap (λ x. x.what) head ∙ what in cc)
+is-flag bytes note b (Flag a) what n = let e : noted.Truth a ≡ noted.Truth b = what-is bytes note (Flag a) (noted.Truth b) what n in cc
+is-flag bytes note b (Branch name rs) what n = let e : noted.Operator (note.from + length name) ≡ noted.Truth b = what-is bytes note (Branch name rs) (noted.Truth b) what n in absurd (cc)
+is-flag bytes note b (Whole z) what n = let e : noted.Number z ≡ noted.Truth b = what-is bytes note (Whole z) (noted.Truth b) what n in absurd (cc)
+is-flag bytes note b (Quote s) what n = let e : noted.Text (note.from + 1 + length (escaped s)) ≡ noted.Truth b = what-is bytes note (Quote s) (noted.Truth b) what n in absurd (cc)
+
+-- what the head of a note is
+pub node-head : (spec : Spec) (bytes : Bytes) (note : Note) (end : ℕ) (r : Raw) (op : Option ℕ) → note.what ≡ noted.Operator end → IsNoteOf bytes note r
+    → op ≡ op_named spec.ops (slice_range bytes note.from end) → Node op note.kids ≡ head_of spec r
+node-head spec bytes note end r op what n found =
+    let m = is-node bytes note end r what n in
+    (λ i. Node ((found ∙ ap (op_named spec.ops) m.named) i) (m.count i)) ∙ ap (head_of spec) (sym m.is)
+
+pub quote-head : (spec : Spec) (bytes : Bytes) (note : Note) (last : ℕ) (r : Raw) (s : Bytes) → note.what ≡ noted.Text last → IsNoteOf bytes note r
+    → s ≡ unescaped (slice_range bytes (note.from + 1) last) → Leaf (Chars s) ≡ head_of spec r
+quote-head spec bytes note last r s what n same = let m = is-quote bytes note last r what n in ap (λ t. Leaf (Chars t)) (same ∙ m.inner) ∙ ap (head_of spec) (sym m.is)
+
+pub whole-head : (spec : Spec) (bytes : Bytes) (note : Note) (z : ℤ) (r : Raw) → note.what ≡ noted.Number z → IsNoteOf bytes note r → Leaf (Number z) ≡ head_of spec r
+whole-head spec bytes note z r what n = ap (head_of spec) (sym (is-whole bytes note z r what n))
+
+pub flag-head : (spec : Spec) (bytes : Bytes) (note : Note) (b : Bool) (r : Raw) → note.what ≡ noted.Truth b → IsNoteOf bytes note r → Leaf (Truth b) ≡ head_of spec r
+flag-head spec bytes note b r what n = ap (head_of spec) (sym (is-flag bytes note b r what n))
