@@ -1,14 +1,16 @@
 -- The values of the subterms that are left behind a note, which are made from the last note to the first.
-use Rattle.std.proofs.Common.{◌≡◌, ℕ, suc, ◌+◌, ◌<◌, ◌≤◌, List, [], ◌∷◌, ◌++◌, length, get_or, map, reverse, refl, sym, ap, ◌∙◌, subst, arith, append-nil, reverse-append}
-use Rattle.std.proofs.lemmas.List.{map-append, length-map}
+use Rattle.std.proofs.Common.{◌≡◌, ℕ, suc, ◌+◌, ◌<◌, ◌≤◌, List, [], ◌∷◌, ◌++◌, length, get_or, map, reverse, Option, unwrap_or, refl, sym, ap, ◌∙◌, subst, arith, append-nil, reverse-append}
+use Rattle.std.proofs.lemmas.List.{map-append, same_from_push}
 use Rattle.sg_kinds.specs.Values.{Bytes, Value, Values, Tree, NoValue, AndValue, row_of, list_of}
 use Rattle.sg_kinds.specs.declared.spec.Spec.{Spec}
 use Rattle.sg_saved_form.specs.Files.{Raw, Raws, Branch, Whole, Quote, Flag, NoRaw, AndRaw, spelled}
-use Rattle.sg_saved_form.specs.Notes.{count_of}
+use Rattle.sg_saved_form.specs.Notes.{count_of, first_place, IsOutline}
+use Rattle.sg_saved_form.specs.declared.notes.Outline.{Outline}
 use Rattle.sg_saved_form.specs.declared.notes.Note.{Note}
-use Rattle.sg_saved.specs.Misfits.{value_of, values_of}
-use Rattle.sg_saved_read.specs.Heads.{kid_values}
-use Rattle.sg_saved_read.proofs.Pieces.{Piece, pieces_of, kids_of, Left, First, first-left, none-left}
+use Rattle.sg_saved.specs.Misfits.{op_named, value_of, values_of}
+use Rattle.sg_saved_read.specs.Heads.{head_of, kid_values}
+use Rattle.sg_saved_read.specs.declared.heads.Head.TheVariants.{Node, Leaf}
+use Rattle.sg_saved_read.proofs.Pieces.{Piece, pieces_of, kids_of, Left, First, first-left, none-left, whole-left}
 
 -- a row of the values of children
 pub row-back : (vs : Values) → row_of (list_of vs) ≡ vs
@@ -53,3 +55,30 @@ module _ (spec : Spec) where
     one-built i note values low is b next made xs l =
         let f = first-left bytes notes i note xs low is l in
         made xs f ∙ sym (reverse-append (value_of spec f.piece.raw ∷ []) (values_in f.rest)) ∙ ap (λ ys. reverse (values_in ys)) (sym f.are)
+
+-- a node of the values of its children
+pub node-count : (spec : Spec) (r : Raw) (op : Option ℕ) (kids : ℕ) → Node op kids ≡ head_of spec r → length (kid_values spec r) ≡ kids
+node-count spec (Branch name rs) op kids is = let e : kids ≡ count_of rs = cc in kids-count spec rs ∙ sym e
+node-count spec (Whole z) op kids is = absurd (cc)
+node-count spec (Quote s) op kids is = absurd (cc)
+node-count spec (Flag b) op kids is = absurd (cc)
+
+pub node-made : (spec : Spec) (r : Raw) (op : Option ℕ) (kids : ℕ) (taken : List Value) → Node op kids ≡ head_of spec r → taken ≡ kid_values spec r → Tree (unwrap_or op 0) (row_of taken) ≡ value_of spec r
+node-made spec (Branch name rs) op kids taken is same =
+    let e : op ≡ op_named spec.ops name = cc in
+    (λ i. Tree (unwrap_or (e i) 0) ((ap row_of same ∙ row-back (values_of spec rs)) i))
+node-made spec (Whole z) op kids taken is same = absurd (cc)
+node-made spec (Quote s) op kids taken is same = absurd (cc)
+node-made spec (Flag b) op kids taken is same = absurd (cc)
+
+pub leaf-made : (spec : Spec) (r : Raw) (v : Value) → Leaf v ≡ head_of spec r → (v ≡ value_of spec r) × (kid_values spec r ≡ [])
+leaf-made spec (Branch name rs) v is = absurd (cc)
+leaf-made spec (Whole z) v is = (cc, refl)
+leaf-made spec (Quote s) v is = (cc, refl)
+leaf-made spec (Flag b) v is = (cc, refl)
+
+-- at the end the one value is that of the term
+pub value-last : (spec : Spec) (bytes : Bytes) (o : Outline) (is : IsOutline bytes o) (values rest : List Value) (v : Value) → Built spec bytes o.notes.items 0 values → values ≡ rest ++ v ∷ [] → v ≡ value_of spec is.raw
+value-last spec bytes o is values rest v built same =
+    let whole : values ≡ [] ++ value_of spec is.raw ∷ [] = built (record { at = first_place; raw = is.raw } ∷ []) (whole-left bytes o is) in
+    sym ((same_from_push [] rest (value_of spec is.raw) v (sym whole ∙ same)).1)

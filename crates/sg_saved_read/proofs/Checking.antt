@@ -1,5 +1,5 @@
 -- The subterms of a file's term against the phyla that are wanted, in the order of its notes.
-use Rattle.std.proofs.Common.{◌≡◌, ℕ, suc, ◌+◌, ◌<◌, ◌≤◌, List, [], ◌∷◌, ◌++◌, length, get_or, reverse, refl, sym, ap, ◌∙◌, subst, arith, append_assoc, append-nil, reverse-append, length-append, Option, Some, None, option_map, unwrap_or, MatchOption}
+use Rattle.std.proofs.Common.{◌≡◌, ℕ, suc, ◌+◌, ◌<◌, ◌≤◌, List, [], ◌∷◌, ◌++◌, length, get_or, reverse, refl, sym, ap, ◌∙◌, subst, arith, append_assoc, append-nil, reverse-append, reverse-reverse, length-append, Option, Some, None, option_map, unwrap_or, MatchOption}
 use Rattle.std.specs.Prelude.{⊤}
 use Rattle.std.specs.Option.{option_to_list}
 use Rattle.std.proofs.lemmas.List.{same_from_push, nil_from_length}
@@ -61,7 +61,7 @@ module _ (spec : Spec) where
     pub record Checked (i : ℕ) (wanted : List ℕ) : Type 0 where
       pub phyla : List ℕ
       pub pieces : List Piece
-      pub stack : wanted ≡ reverse phyla
+      pub stack : reverse wanted ≡ phyla
       pub count : length phyla ≡ length pieces
       pub left : Left bytes notes i pieces
       pub done : List Part
@@ -72,7 +72,7 @@ module _ (spec : Spec) where
     none-checked wanted is left = record {
       phyla = spec.root ∷ [];
       pieces = record { at = first_place; raw = whole } ∷ [];
-      stack = is;
+      stack = ap reverse is;
       count = refl;
       left = left;
       done = [];
@@ -95,7 +95,7 @@ module _ (spec : Spec) where
     pub next : (i : ℕ) (note : Note) (wanted : List ℕ) → i < length notes → note ≡ get_or notes i note → Checked i wanted → Next i note wanted
     next i note wanted low is c = by c.phyla c.pieces (first-left bytes notes i note c.pieces low is c.left) c.stack c.count c.parts
       where
-        by : (ps : List ℕ) (xs : List Piece) (f : First bytes notes i note xs) → wanted ≡ reverse ps → length ps ≡ length xs → parts_of spec spec.root first_place whole ≡ c.done ++ parts_in ps xs → Next i note wanted
+        by : (ps : List ℕ) (xs : List Piece) (f : First bytes notes i note xs) → reverse wanted ≡ ps → length ps ≡ length xs → parts_of spec spec.root first_place whole ≡ c.done ++ parts_in ps xs → Next i note wanted
         by [] xs f stack count parts = absurd (let e : length xs ≡ suc (length f.rest) = ap length f.are in omega arith)
         by (p ∷ ps) xs f stack count parts =
             let e : length xs ≡ suc (length f.rest) = ap length f.are in
@@ -104,7 +104,7 @@ module _ (spec : Spec) where
               phyla = ps;
               pieces = xs;
               first = f;
-              stack = stack ∙ reverse-append (p ∷ []) ps;
+              stack = sym (reverse-reverse wanted) ∙ ap reverse stack ∙ reverse-append (p ∷ []) ps;
               count = omega arith;
               done = c.done;
               parts = parts ∙ ap (λ ys. c.done ++ parts_in (p ∷ ps) ys) f.are;
@@ -116,7 +116,7 @@ module _ (spec : Spec) where
     taken i note wanted rest None n is less = absurd (let e : length wanted ≡ length rest = ap length (is ∙ append-nil rest) in omega arith)
     taken i note wanted rest (Some p) n is less = let e = same_from_push rest (reverse n.phyla) p n.phylum (sym is ∙ n.stack) in (ap Some e.1, e.0)
 
-    pub goes-on : (i : ℕ) (note : Note) (wanted rest more : List ℕ) (n : Next i note wanted) → rest ≡ reverse n.phyla → HeadFits spec n.phylum n.first.piece.raw → more ≡ rest ++ reverse (args_in spec (head_of spec n.first.piece.raw)) → Checked (i + 1) more
+    pub goes-on : (i : ℕ) (note : Note) (wanted rest more : List ℕ) (n : Next i note wanted) → rest ≡ reverse n.phyla → HeadFits spec n.phylum n.first.piece.raw → reverse more ≡ args_in spec (head_of spec n.first.piece.raw) ++ reverse rest → Checked (i + 1) more
     goes-on i note wanted rest more n was fits is =
         let f = n.first in
         let args : List ℕ = args_in spec (head_of spec f.piece.raw) in
@@ -125,7 +125,7 @@ module _ (spec : Spec) where
         record {
           phyla = args ++ n.phyla;
           pieces = kids_of f.piece.at f.piece.raw ++ f.rest;
-          stack = is ∙ ap (λ x. x ++ reverse args) was ∙ sym (reverse-append args n.phyla);
+          stack = is ∙ ap (λ x. args ++ reverse x) was ∙ ap (λ x. args ++ x) (reverse-reverse n.phyla);
           count = length-append args n.phyla ∙ (λ i. same i + n.count i) ∙ sym (length-append (kids_of f.piece.at f.piece.raw) f.rest);
           left = f.left;
           done = n.done ++ part ∷ [];

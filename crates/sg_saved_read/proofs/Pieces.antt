@@ -188,3 +188,10 @@ whole-left bytes o is = record {
   stand = (record { is = is.is; more = 10 ∷ []; text = ap (drop first_place) is.same }, tt);
   behind = is.notes ∙ sym (append-nil (notes_of first_place is.raw));
 }
+
+-- each note is that of a subterm
+pub some-note : (bytes : Bytes) (o : Outline) → IsOutline bytes o → (k : ℕ) (note : Note) → k < length o.notes.items → note ≡ get_or o.notes.items k note → (r : Raw) × IsNoteOf bytes note r
+some-note bytes o is k note low at =
+    let l = left-at bytes o.notes.items (record { at = first_place; raw = is.raw } ∷ []) (whole-left bytes o is) k (omega arith) in
+    let f = first-left bytes o.notes.items k note l.0 low at l.1 in
+    (f.piece.raw, note-of bytes o.notes.items k note l.0 f)

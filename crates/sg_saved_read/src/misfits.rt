@@ -17,17 +17,17 @@ use std::alloc::Global;
 
 /// Puts phyla on a stack, so that the first is on top.
 fn push_all(stack: &mut Vec<PhylumId>, phyla: &[PhylumId]) -> Result<(), NoMemory>
-    ensures { OnOk result (stack.new.items ≡ stack.old.items ++ reverse phyla.now) }
+    ensures { OnOk result (reverse stack.new.items ≡ phyla.now ++ reverse stack.old.items) }
 {
-    for phylum in phyla.iter().rev() {
-        stack.push(*phylum)?;
+    for k in (0..phyla.len()).rev() {
+        stack.push(phyla[k])?;
     }
     Ok(())
 }
 
 /// Wants the argument phyla of a subterm, the first one next.
 fn want_args(spec: &Spec, head: &Head, wanted: &mut Vec<PhylumId>) -> Result<(), NoMemory>
-    ensures { OnOk result (wanted.new.items ≡ wanted.old.items ++ reverse (args_in spec.now head.now)) }
+    ensures { OnOk result (reverse wanted.new.items ≡ args_in spec.now head.now ++ reverse wanted.old.items) }
 {
     let Head::Node(Some(op), _) = head else {
         return Ok(());

@@ -53,8 +53,8 @@ pub fn value_in(
         → IfOk result (λ v. v ≡ value_of spec o.raw) }
 {
     let mut values: Vec<Value> = Vec::new(alloc);
-    for note in outline.notes.iter().rev() {
-        let head = head_at(alloc, names, bytes, *note)?;
+    for k in (0..outline.notes.len()).rev() {
+        let head = head_at(alloc, names, bytes, outline.notes[k])?;
         let value = value_on(&mut values, head)?;
         values.push(value)?;
     }
