@@ -1,17 +1,18 @@
 -- The subterms of a file's term against the phyla that are wanted, in the order of its notes.
-use Rattle.std.proofs.Common.{◌≡◌, ℕ, suc, ◌+◌, ◌<◌, ◌≤◌, List, [], ◌∷◌, ◌++◌, length, get_or, reverse, refl, sym, ap, ◌∙◌, subst, arith, append_assoc, append-nil, reverse-append, reverse-reverse, length-append, Option, Some, None, option_map, unwrap_or, MatchOption}
-use Rattle.std.specs.Prelude.{⊤}
+use Rattle.std.proofs.Common.{◌≡◌, ℕ, suc, Bool, true, false, ◌+◌, ◌<◌, ◌≤◌, List, [], ◌∷◌, ◌++◌, length, get_or, reverse, refl, sym, ap, ◌∙◌, subst, arith, append_assoc, append-nil, reverse-append, reverse-reverse, length-append, Option, Some, None, option_map, unwrap_or, MatchOption}
+use Rattle.std.specs.Prelude.{⊤, ◌↔◌, IsTrue}
 use Rattle.std.specs.Option.{option_to_list}
 use Rattle.std.proofs.lemmas.List.{same_from_push, nil_from_length}
 use Rattle.sg_kinds.specs.Values.{Bytes}
 use Rattle.sg_kinds.specs.Specification.{args_of, phylum_of}
 use Rattle.sg_kinds.specs.declared.spec.Spec.{Spec}
-use Rattle.sg_saved_form.specs.Files.{Raw, Raws, Branch, Whole, Quote, Flag, NoRaw, AndRaw, spelled}
+use Rattle.sg_saved_form.specs.Files.{IsRaw, Raw, Raws, Branch, Whole, Quote, Flag, NoRaw, AndRaw, spelled}
 use Rattle.sg_saved_form.specs.Notes.{count_of, first_place}
 use Rattle.sg_saved_form.specs.declared.notes.Note.{Note}
 use Rattle.sg_saved.specs.Misfits.{op_named, args_named, Part, PartFits, HeadFits, EachFits, parts_of, parts_of_all, IsFirstMisfit, IsMisfit}
-use Rattle.sg_saved_read.specs.Heads.{head_of, args_in}
-use Rattle.sg_saved_read.proofs.Pieces.{Piece, pieces_of, kids_of, kid-count, note_at, note-from, Left, First, first-left, none-left}
+use Rattle.sg_saved_read.specs.Heads.{IsNoteOf, head_of, args_in}
+use Rattle.sg_saved_read.specs.declared.heads.Head.{Head}
+use Rattle.sg_saved_read.proofs.Pieces.{Piece, pieces_of, kids_of, kid-count, note_at, note-from, Left, First, first-left, note-of, none-left}
 
 module _ (spec : Spec) where
   -- the parts of subterms at these phyla
@@ -112,9 +113,10 @@ module _ (spec : Spec) where
             }
 
     -- what is taken off the stack is the phylum
-    pub taken : (i : ℕ) (note : Note) (wanted rest : List ℕ) (o : Option ℕ) (n : Next i note wanted) → wanted ≡ rest ++ option_to_list o → length rest + 1 ≡ length wanted → (o ≡ Some n.phylum) × (rest ≡ reverse n.phyla)
-    taken i note wanted rest None n is less = absurd (let e : length wanted ≡ length rest = ap length (is ∙ append-nil rest) in omega arith)
-    taken i note wanted rest (Some p) n is less = let e = same_from_push rest (reverse n.phyla) p n.phylum (sym is ∙ n.stack) in (ap Some e.1, e.0)
+    pub taken : (i : ℕ) (note : Note) (wanted rest : List ℕ) (o : Option ℕ) (n : Next i note wanted) → wanted ≡ rest ++ option_to_list o → (o ≡ None → length wanted ≡ 0) → (o ≡ Some n.phylum) × (rest ≡ reverse n.phyla)
+    taken i note wanted rest None n is empty =
+        absurd (let e : length wanted ≡ length (reverse n.phyla) + 1 = ap length n.stack ∙ length-append (reverse n.phyla) (n.phylum ∷ []) in let none : length wanted ≡ 0 = empty refl in omega arith)
+    taken i note wanted rest (Some p) n is empty = let e = same_from_push rest (reverse n.phyla) p n.phylum (sym is ∙ n.stack) in (ap Some e.1, e.0)
 
     pub goes-on : (i : ℕ) (note : Note) (wanted rest more : List ℕ) (n : Next i note wanted) → rest ≡ reverse n.phyla → HeadFits spec n.phylum n.first.piece.raw → reverse more ≡ args_in spec (head_of spec n.first.piece.raw) ++ reverse rest → Checked (i + 1) more
     goes-on i note wanted rest more n was fits is =
@@ -149,6 +151,41 @@ module _ (spec : Spec) where
           misfit = misfit;
           place = sym (ap (λ x. x.from) f.noted ∙ note-from f.piece.at f.piece.raw);
         }
+
+    -- what is told of a subterm that is looked at: whether its head fits the phylum that was taken
+    pub record Looked (i : ℕ) (note : Note) (wanted rest : List ℕ) (phylum : ℕ) (head : Head) (fits : Bool) : Type 0 where
+      pub next : Next i note wanted
+      pub wants : phylum ≡ next.phylum
+      pub was : rest ≡ reverse next.phyla
+      pub heads : head ≡ head_of spec next.first.piece.raw
+      pub told : IsTrue fits ↔ HeadFits spec next.phylum next.first.piece.raw
+
+    pub looked : (i : ℕ) (note : Note) (wanted rest : List ℕ) (o : Option ℕ) (phylum root : ℕ) (head : Head) (fits : Bool) → i < length notes → note ≡ get_or notes i note → Checked i wanted
+        → wanted ≡ rest ++ option_to_list o → (o ≡ None → length wanted ≡ 0) → phylum ≡ unwrap_or o root
+        → ((r : Raw) → IsNoteOf bytes note r → head ≡ head_of spec r)
+        → ((r : Raw) → IsRaw r → head ≡ head_of spec r → IsTrue fits ↔ HeadFits spec phylum r)
+        → Looked i note wanted rest phylum head fits
+    looked i note wanted rest o phylum root head fits low at checked is empty top heads told =
+        let n = next i note wanted low at checked in
+        let t = taken i note wanted rest o n is empty in
+        let r = n.first.piece.raw in
+        let same : phylum ≡ n.phylum = top ∙ ap (λ x. unwrap_or x root) t.0 in
+        let h : head ≡ head_of spec r = heads r (note-of bytes notes i note n.pieces n.first) in
+        record {
+          next = n;
+          wants = same;
+          was = t.1;
+          heads = h;
+          told = subst (λ p. IsTrue fits ↔ HeadFits spec p r) same (told r n.first.stands.is h);
+        }
+
+    pub one-checked : (i : ℕ) (note : Note) (wanted rest more : List ℕ) (phylum : ℕ) (head : Head) (fits : Bool) (l : Looked i note wanted rest phylum head fits) → fits ≡ true
+        → reverse more ≡ args_in spec head ++ reverse rest → Checked (i + 1) more
+    one-checked i note wanted rest more phylum head fits l yes is =
+        goes-on i note wanted rest more l.next l.was (l.told.0 yes) (is ∙ ap (λ h. args_in spec h ++ reverse rest) l.heads)
+
+    pub one-misfits : (i : ℕ) (note : Note) (wanted rest : List ℕ) (phylum : ℕ) (head : Head) (fits : Bool) (l : Looked i note wanted rest phylum head fits) → fits ≡ false → IsMisfit spec whole note.from
+    one-misfits i note wanted rest phylum head fits l no = misfits i note wanted l.next (λ h. let e : false ≡ true = sym no ∙ l.told.1 h in cc)
 
     pub all-checked : (i : ℕ) (wanted : List ℕ) → length notes ≤ i → Checked i wanted → EachFits spec (parts_of spec spec.root first_place whole)
     all-checked i wanted all c =
