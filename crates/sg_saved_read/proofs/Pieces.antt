@@ -138,7 +138,7 @@ module _ (bytes : Bytes) (notes : List Note) where
   first-left i note [] low is l = absurd (let e : get_or notes i note ∷ drop (i + 1) notes ≡ [] = sym (drop_more notes i note low) ∙ l.behind in cc)
   first-left i note (x ∷ xs) low is l =
       let e : note ∷ drop (i + 1) notes ≡ note_at x.at x.raw ∷ (notes_in (kids_of x.at x.raw) ++ notes_in xs) =
-          ap (λ n. n ∷ drop (i + 1) notes) is ∙ sym (drop_more notes i note low) ∙ l.behind ∙ ap (λ n. n ++ notes_in xs) (first-note x.at x.raw) in
+      ap (λ n. n ∷ drop (i + 1) notes) is ∙ sym (drop_more notes i note low) ∙ l.behind ∙ ap (λ n. n ++ notes_in xs) (first-note x.at x.raw) in
       let here : note ≡ note_at x.at x.raw = cc in
       let behind : drop (i + 1) notes ≡ notes_in (kids_of x.at x.raw) ++ notes_in xs = cc in
       record {

@@ -104,7 +104,7 @@ is-quote bytes note last (Quote s) what n =
     let place : noted.Text (note.from + 1 + length (escaped s)) ≡ noted.Text last = what-is bytes note (Quote s) (noted.Text last) what n in
     let to : last ≡ note.from + 1 + length (escaped s) = cc in
     let text : drop (note.from + 1) bytes ≡ escaped s ++ double_quote ∷ n.more =
-        drop-one bytes ((escaped s ++ double_quote ∷ []) ++ n.more) double_quote note.from n.text ∙ append_assoc (escaped s) (double_quote ∷ []) n.more in
+    drop-one bytes ((escaped s ++ double_quote ∷ []) ++ n.more) double_quote note.from n.text ∙ append_assoc (escaped s) (double_quote ∷ []) n.more in
     record {
       text = s;
       is = refl;

@@ -39,7 +39,6 @@ fn op_named(names: &Index<Callable>, name: &[u8]) -> Option<OpId>
     }
 }
 
-
 /// The head of the subterm of a note.
 pub fn head_at(
     alloc: Global,

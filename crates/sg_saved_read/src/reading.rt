@@ -43,12 +43,7 @@ const MOST_NODES: usize = 65_536;
 const MOST_DEPTH: usize = 1_024;
 
 /// The value of the term of a file.
-fn value_of(
-    alloc: Global,
-    spec: &Spec,
-    bytes: &[u8],
-    outline: &Outline,
-) -> Result<Value, OpenFault>
+fn value_of(alloc: Global, spec: &Spec, bytes: &[u8], outline: &Outline) -> Result<Value, OpenFault>
     requires { IsOutline bytes.now outline.now }
     ensures { MatchOption (opened_of result) ⊤ (IsOpened spec.now bytes.now) }
 {
