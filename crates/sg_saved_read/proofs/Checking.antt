@@ -1,8 +1,8 @@
 -- The subterms of a file's term against the phyla that are wanted, in the order of its notes.
-use Rattle.std.proofs.Common.{◌≡◌, ℕ, suc, Bool, true, false, ◌+◌, ◌<◌, ◌≤◌, List, [], ◌∷◌, ◌++◌, length, get_or, reverse, refl, sym, ap, ◌∙◌, subst, arith, append_assoc, append-nil, reverse-append, reverse-reverse, length-append, Option, Some, None, option_map, unwrap_or, MatchOption}
+use Rattle.std.proofs.Common.{◌≡◌, ℕ, suc, Bool, true, false, ◌+◌, ◌<◌, ◌≤◌, List, [], ◌∷◌, ◌++◌, length, get_or, reverse, refl, sym, ap, ◌∙◌, subst, arith, append_assoc, append-nil, length-append, Option, Some, None, option_map, unwrap_or, MatchOption}
 use Rattle.std.specs.Prelude.{⊤, ◌↔◌, IsTrue}
 use Rattle.std.specs.Option.{option_to_list}
-use Rattle.std.proofs.lemmas.List.{same_from_push, nil_from_length}
+use Rattle.std.proofs.lemmas.List.{same_from_push, nil_from_length, reverse-append, reverse-reverse}
 use Rattle.sg_kinds.specs.Values.{Bytes}
 use Rattle.sg_kinds.specs.Specification.{args_of, phylum_of}
 use Rattle.sg_kinds.specs.declared.spec.Spec.{Spec}
@@ -181,11 +181,11 @@ module _ (spec : Spec) where
 
     pub one-checked : (i : ℕ) (note : Note) (wanted rest more : List ℕ) (phylum : ℕ) (head : Head) (fits : Bool) (l : Looked i note wanted rest phylum head fits) → fits ≡ true
         → reverse more ≡ args_in spec head ++ reverse rest → Checked (i + 1) more
-    one-checked i note wanted rest more phylum head fits l yes is =
-        goes-on i note wanted rest more l.next l.was (l.told.0 yes) (is ∙ ap (λ h. args_in spec h ++ reverse rest) l.heads)
+    one-checked i note wanted rest more phylum head fits l held is =
+        goes-on i note wanted rest more l.next l.was (l.told.0 held) (is ∙ ap (λ h. args_in spec h ++ reverse rest) l.heads)
 
     pub one-misfits : (i : ℕ) (note : Note) (wanted rest : List ℕ) (phylum : ℕ) (head : Head) (fits : Bool) (l : Looked i note wanted rest phylum head fits) → fits ≡ false → IsMisfit spec whole note.from
-    one-misfits i note wanted rest phylum head fits l no = misfits i note wanted l.next (λ h. let e : false ≡ true = sym no ∙ l.told.1 h in cc)
+    one-misfits i note wanted rest phylum head fits l fails = misfits i note wanted l.next (λ h. let e : false ≡ true = sym fails ∙ l.told.1 h in cc)
 
     pub all-checked : (i : ℕ) (wanted : List ℕ) → length notes ≤ i → Checked i wanted → EachFits spec (parts_of spec spec.root first_place whole)
     all-checked i wanted all c =

@@ -1,5 +1,5 @@
 -- What fits a phylum, whatever its children.
-use Rattle.std.proofs.Common.{◌≡◌, ◌⊎◌, inl, inr, ℕ, ◌<◌, ◌≤◌, ℤ, Bool, true, false, [], length, refl, sym, ap, ◌∙◌, subst, arith, Option, Some, None, option_map, slice_get, get_or, MatchOption}
+use Rattle.std.proofs.Common.{◌≡◌, ◌⊎◌, inl, inr, ℕ, ◌<◌, ◌≤◌, ℤ, Bool, true, false, [], ◌∷◌, length, refl, sym, ap, ◌∙◌, subst, arith, Option, Some, None, option_map, slice_get, get_or, MatchOption}
 use Rattle.std.specs.Prelude.{◌↔◌, IsTrue}
 use Rattle.std.proofs.lemmas.Option.{slice_get_past, slice_get_cases}
 use Rattle.sg_kinds.specs.Fits.{MayHold, IsLexeme}

@@ -1,6 +1,6 @@
 -- The subterms that are left of a term, behind so many of its notes.
 use Rattle.std.proofs.Common.{◌≡◌, ℕ, zero, suc, ◌+◌, ◌<◌, ◌≤◌, true, List, [], ◌∷◌, ◌++◌, length, drop, get_or, refl, sym, ap, ◌∙◌, subst, arith, append_assoc, append-nil}
-use Rattle.std.proofs.lemmas.List.{drop-drop, drop_more, drop_all}
+use Rattle.std.proofs.lemmas.List.{drop-drop, drop_more, drop_all, get_or_default}
 use Rattle.std.proofs.Math.Seq.{drop-append_seam}
 use Rattle.std.specs.Prelude.{⊤}
 use Rattle.sg_kinds.specs.Values.{Bytes}
@@ -175,7 +175,7 @@ module _ (bytes : Bytes) (notes : List Note) where
   left-at xs l zero low = (xs, l)
   left-at xs l (suc i) low =
       let before = left-at xs l i (omega arith) in
-      let f = first-left i (get_or notes i none) before.0 (omega arith) refl before.1 in
+      let f = first-left i (get_or notes i none) before.0 (omega arith) (get_or_default notes i none (get_or notes i none) (omega arith)) before.1 in
       let next : i + 1 ≡ suc i = omega arith in
       (kids_of f.piece.at f.piece.raw ++ f.rest, subst (λ k. Left k (kids_of f.piece.at f.piece.raw ++ f.rest)) next f.left)
     where

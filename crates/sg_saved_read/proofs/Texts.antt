@@ -27,7 +27,7 @@ named-from name (o ∷ ops) k = by (bytes_eq name o.name) (op_named ops name) (n
   where
     by : (t : Bool) (r : Option ℕ) → position_from (λ (o : Operator). bytes_eq name o.name) (k + 1) ops ≡ option_map (λ i. k + 1 + i) r
         → cond t (Some k) (position_from (λ (o : Operator). bytes_eq name o.name) (k + 1) ops) ≡ option_map (λ i. k + i) (cond t (Some 0) (option_map suc r))
-    by true r rest = refl
+    by true r rest = let e : k ≡ k + 0 = omega arith in ap Some e
     by false None rest = rest
     by false (Some i) rest = let e : k + 1 + i ≡ k + suc i = omega arith in rest ∙ ap Some e
 
@@ -41,14 +41,14 @@ named-is name ops = position_from-zero (λ (o : Operator). bytes_eq name o.name)
 -- what is escaped is got back
 escaped-back : (s : Bytes) → unescaped_after false (escaped s) ≡ s
 escaped-back [] = refl
-escaped-back (b ∷ bs) = by (b == double_quote) (b == backslash) (b == newline) refl refl refl
+escaped-back (b ∷ bs) = by (b == double_quote) (b == backslash) (b == newline) refl refl refl (escaped-back bs)
   where
-    by : (q t n : Bool) → (b == double_quote) ≡ q → (b == backslash) ≡ t → (b == newline) ≡ n
+    by : (q t n : Bool) → (b == double_quote) ≡ q → (b == backslash) ≡ t → (b == newline) ≡ n → unescaped_after false (escaped bs) ≡ bs
         → unescaped_after false (cond q (backslash ∷ double_quote ∷ []) (cond t (backslash ∷ backslash ∷ []) (cond n (backslash ∷ letter_n ∷ []) (b ∷ []))) ++ escaped bs) ≡ b ∷ bs
-    by true t n quote slash line = (λ i. sym (eqb-true b double_quote quote) i ∷ escaped-back bs i)
-    by false true n quote slash line = (λ i. sym (eqb-true b backslash slash) i ∷ escaped-back bs i)
-    by false false true quote slash line = (λ i. sym (eqb-true b newline line) i ∷ escaped-back bs i)
-    by false false false quote slash line = ap (λ t. cond t (unescaped_after t (escaped bs)) (b ∷ unescaped_after t (escaped bs))) slash ∙ ap (λ s. b ∷ s) (escaped-back bs)
+    by true t n quote slash line rest = (λ i. sym (eqb-true b double_quote quote) i ∷ rest i)
+    by false true n quote slash line rest = (λ i. sym (eqb-true b backslash slash) i ∷ rest i)
+    by false false true quote slash line rest = (λ i. sym (eqb-true b newline line) i ∷ rest i)
+    by false false false quote slash line rest = ap (λ t. cond t (unescaped_after t (escaped bs)) (b ∷ unescaped_after t (escaped bs))) slash ∙ ap (λ s. b ∷ s) rest
 
 -- a part of a text
 part-is : (bytes a b : Bytes) (from to : ℕ) → drop from bytes ≡ a ++ b → to ≡ from + length a → slice_range bytes from to ≡ a
