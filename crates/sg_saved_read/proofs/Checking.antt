@@ -1,6 +1,6 @@
 -- The subterms of a file's term against the phyla that are wanted, in the order of its notes.
 use Rattle.std.proofs.Common.{◌≡◌, ℕ, suc, Bool, true, false, ◌+◌, ◌<◌, ◌≤◌, List, [], ◌∷◌, ◌++◌, length, get_or, reverse, refl, sym, ap, ◌∙◌, subst, arith, append_assoc, append-nil, length-append, Option, Some, None, option_map, unwrap_or, MatchOption}
-use Rattle.std.specs.Prelude.{⊤, ◌↔◌, IsTrue}
+use Rattle.std.specs.Prelude.{⊤, ◌↔◌, IsTrue, IsSome}
 use Rattle.std.specs.Option.{option_to_list}
 use Rattle.std.proofs.lemmas.List.{same_from_push, nil_from_length, reverse-append, reverse-reverse}
 use Rattle.sg_kinds.specs.Values.{Bytes}
@@ -12,7 +12,7 @@ use Rattle.sg_saved_form.specs.declared.notes.Note.{Note}
 use Rattle.sg_saved.specs.Misfits.{op_named, args_named, Part, PartFits, HeadFits, EachFits, parts_of, parts_of_all, IsFirstMisfit, IsMisfit}
 use Rattle.sg_saved_read.specs.Heads.{IsNoteOf, head_of, args_in}
 use Rattle.sg_saved_read.specs.declared.heads.Head.{Head}
-use Rattle.sg_saved_read.proofs.Pieces.{Piece, pieces_of, kids_of, kid-count, note_at, note-from, Left, First, first-left, note-of, none-left}
+use Rattle.sg_saved_read.proofs.Pieces.{Piece, pieces_of, kids_of, kid-count, note_at, note-from, Left, First, first-left, note-of, none-left, seen-note}
 
 module _ (spec : Spec) where
   -- the parts of subterms at these phyla
@@ -113,10 +113,12 @@ module _ (spec : Spec) where
             }
 
     -- what is taken off the stack is the phylum
-    pub taken : (i : ℕ) (note : Note) (wanted rest : List ℕ) (o : Option ℕ) (n : Next i note wanted) → wanted ≡ rest ++ option_to_list o → (o ≡ None → length wanted ≡ 0) → (o ≡ Some n.phylum) × (rest ≡ reverse n.phyla)
-    taken i note wanted rest None n is empty =
-        absurd (let e : length wanted ≡ length (reverse n.phyla) + 1 = ap length n.stack ∙ length-append (reverse n.phyla) (n.phylum ∷ []) in let none : length wanted ≡ 0 = empty refl in omega arith)
-    taken i note wanted rest (Some p) n is empty = let e = same_from_push rest (reverse n.phyla) p n.phylum (sym is ∙ n.stack) in (ap Some e.1, e.0)
+    pub taken : (i : ℕ) (note : Note) (wanted rest : List ℕ) (o : Option ℕ) (n : Next i note wanted) → wanted ≡ rest ++ option_to_list o → (0 < length wanted → IsSome o) → (o ≡ Some n.phylum) × (rest ≡ reverse n.phyla)
+    taken i note wanted rest None n is some =
+        let e : length wanted ≡ length (reverse n.phyla) + 1 = ap length n.stack ∙ length-append (reverse n.phyla) (n.phylum ∷ []) in
+        let there : false ≡ true = some (omega arith) in
+        absurd (cc)
+    taken i note wanted rest (Some p) n is some = let e = same_from_push rest (reverse n.phyla) p n.phylum (sym is ∙ n.stack) in (ap Some e.1, e.0)
 
     pub goes-on : (i : ℕ) (note : Note) (wanted rest more : List ℕ) (n : Next i note wanted) → rest ≡ reverse n.phyla → HeadFits spec n.phylum n.first.piece.raw → reverse more ≡ args_in spec (head_of spec n.first.piece.raw) ++ reverse rest → Checked (i + 1) more
     goes-on i note wanted rest more n was fits is =
@@ -161,13 +163,13 @@ module _ (spec : Spec) where
       pub told : IsTrue fits ↔ HeadFits spec next.phylum next.first.piece.raw
 
     pub looked : (i : ℕ) (note : Note) (wanted rest : List ℕ) (o : Option ℕ) (phylum root : ℕ) (head : Head) (fits : Bool) → i < length notes → note ≡ get_or notes i note → Checked i wanted
-        → wanted ≡ rest ++ option_to_list o → (o ≡ None → length wanted ≡ 0) → phylum ≡ unwrap_or o root
+        → wanted ≡ rest ++ option_to_list o → (0 < length wanted → IsSome o) → phylum ≡ unwrap_or o root
         → ((r : Raw) → IsNoteOf bytes note r → head ≡ head_of spec r)
         → ((r : Raw) → IsRaw r → head ≡ head_of spec r → IsTrue fits ↔ HeadFits spec phylum r)
         → Looked i note wanted rest phylum head fits
-    looked i note wanted rest o phylum root head fits low at checked is empty top heads told =
+    looked i note wanted rest o phylum root head fits low at checked is some top heads told =
         let n = next i note wanted low at checked in
-        let t = taken i note wanted rest o n is empty in
+        let t = taken i note wanted rest o n is some in
         let r = n.first.piece.raw in
         let same : phylum ≡ n.phylum = top ∙ ap (λ x. unwrap_or x root) t.0 in
         let h : head ≡ head_of spec r = heads r (note-of bytes notes i note n.pieces n.first) in
@@ -178,6 +180,15 @@ module _ (spec : Spec) where
           heads = h;
           told = subst (λ p. IsTrue fits ↔ HeadFits spec p r) same (told r n.first.stands.is h);
         }
+
+    pub seen-looked : (seen : List Note) → seen ≡ notes → (i : ℕ) (d : Note) (wanted rest : List ℕ) (o : Option ℕ) (phylum root : ℕ) (head : Head) (fits : Bool) → i < length seen → Checked i wanted
+        → wanted ≡ rest ++ option_to_list o → (0 < length wanted → IsSome o) → phylum ≡ unwrap_or o root
+        → ((r : Raw) → IsNoteOf bytes (get_or seen i d) r → head ≡ head_of spec r)
+        → ((r : Raw) → IsRaw r → head ≡ head_of spec r → IsTrue fits ↔ HeadFits spec phylum r)
+        → Looked i (get_or seen i d) wanted rest phylum head fits
+    seen-looked seen same i d wanted rest o phylum root head fits low checked is some top heads told =
+        let s = seen-note seen notes same i d low in
+        looked i (get_or seen i d) wanted rest o phylum root head fits s.0 s.1 checked is some top heads told
 
     pub one-checked : (i : ℕ) (note : Note) (wanted rest more : List ℕ) (phylum : ℕ) (head : Head) (fits : Bool) (l : Looked i note wanted rest phylum head fits) → fits ≡ true
         → reverse more ≡ args_in spec head ++ reverse rest → Checked (i + 1) more

@@ -10,7 +10,7 @@ use Rattle.sg_saved_form.specs.Files.{IsRaw, file_of}
 use Rattle.sg_saved_form.specs.Notes.{first_place, IsOutline}
 use Rattle.sg_saved_form.specs.declared.notes.Outline.{Outline}
 use Rattle.sg_saved.specs.Misfits.{value_of, EachFits, parts_of}
-use Rattle.sg_saved.specs.Read.{Opened, Holds, TooLarge, IsFileOf, IsOpened, most_nodes, most_depth}
+use Rattle.sg_saved.specs.Read.{Opened, Holds, TooLarge, IsFileOf, HasMisfit, IsOpened, most_nodes, most_depth}
 use Rattle.sg_saved.proofs.Fitting.{fits-read}
 use Rattle.sg_saved.proofs.Opening.{one-opening}
 use Rattle.sg_saved_read.specs.Answers.{opened_of}
@@ -31,11 +31,18 @@ module _ (spec : Spec) (bytes : Bytes) where
           depth = read.depth ∙ sym is.depth;
         }
 
-    pub too-large : (most_nodes < length o.notes.items) ⊎ (most_depth < o.depth) → IsOpened spec bytes (TooLarge (length o.notes.items) o.depth)
-    too-large over = (value_of spec is.raw, file-is, over)
+    pub too-large : (n : ℕ) → length o.notes.items ≡ n → (most_nodes < n) ⊎ (most_depth < o.depth) → IsOpened spec bytes (TooLarge n o.depth)
+    too-large n count over = (value_of spec is.raw, subst (λ k. IsFileOf spec bytes (value_of spec is.raw) k o.depth) count file-is, over)
 
     pub holds : (v : Value) → v ≡ value_of spec is.raw → length o.notes.items ≤ most_nodes → o.depth ≤ most_depth → IsOpened spec bytes (Holds v)
     holds v same few flat = subst (λ x. IsOpened spec bytes (Holds x)) (sym same) (length o.notes.items, o.depth, file-is, few, flat)
+
+  -- each subterm fits where no misfit is told
+  abbrev pub Fit : Outline → Type 0
+  Fit o = (is : IsOutline bytes o) → EachFits spec (parts_of spec spec.root first_place is.raw)
+
+  pub none-misfits : (o : Outline) (p : Option ℕ) → p ≡ None → MatchOption p (Fit o) (HasMisfit spec bytes) → Fit o
+  none-misfits o p none told = subst (λ q. MatchOption q (Fit o) (HasMisfit spec bytes)) none told
 
   -- what an answer says
   pub only-opened : HasNames spec → (r : Option Opened) → MatchOption r ⊤ (IsOpened spec bytes) → (a : Opened) → IsOpened spec bytes a → IfSome r (λ b. b ≡ a)

@@ -195,3 +195,15 @@ some-note bytes o is k note low at =
     let l = left-at bytes o.notes.items (record { at = first_place; raw = is.raw } ∷ []) (whole-left bytes o is) k (omega arith) in
     let f = first-left bytes o.notes.items k note l.0 low at l.1 in
     (f.piece.raw, note-of bytes o.notes.items k note l.0 f)
+
+-- a note of a list that is the outline's
+abbrev pub no_note : Note
+no_note = record { from = 0; kids = 0; what = Operator 0 }
+
+pub seen-note : (seen notes : List Note) → seen ≡ notes → (k : ℕ) (d : Note) → k < length seen → (k < length notes) × (get_or seen k d ≡ get_or notes k (get_or seen k d))
+seen-note seen notes same k d low =
+    let here : k < length notes = subst (λ ns. k < length ns) same low in
+    (here, ap (λ ns. get_or ns k d) same ∙ get_or_default notes k d (get_or seen k d) here)
+
+pub some-seen : (bytes : Bytes) (o : Outline) → IsOutline bytes o → (seen : List Note) → seen ≡ o.notes.items → (k : ℕ) (d : Note) → k < length seen → (r : Raw) × IsNoteOf bytes (get_or seen k d) r
+some-seen bytes o is seen same k d low = let s = seen-note seen o.notes.items same k d low in some-note bytes o is k (get_or seen k d) s.0 s.1
