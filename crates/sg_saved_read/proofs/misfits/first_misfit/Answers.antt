@@ -5,7 +5,7 @@ use Rattle.sg_saved_read.proofs.misfits.first_misfit.Goals as goal
 
 pub loop-note-init : goal.loop-note-init
 loop-note-init c = record {
-  ready = c.in_ok-matcher.ensures;
+  ready = c.in_ok-matcher.ensures ∙ c.as_slice.ensures;
   checked = λ o. none-checked c.args.spec.now c.args.bytes.now c.args.outline.now.notes.items o.raw c.push.new.self.items
     (c.in_ok-push.ensures.items ∙ ap (λ x. x ++ c.args.spec.now.root ∷ []) c.new-wanted.ensures.items) (whole-left c.args.bytes.now c.args.outline.now o);
 }
