@@ -1,5 +1,5 @@
 -- The values of the subterms that are left behind a note, which are made from the last note to the first.
-use Rattle.std.proofs.Common.{◌≡◌, ℕ, suc, ◌+◌, ◌<◌, ◌≤◌, List, [], ◌∷◌, ◌++◌, length, get_or, map, reverse, Option, unwrap_or, refl, sym, ap, ◌∙◌, subst, arith, append-nil}
+use Rattle.std.proofs.Common.{◌≡◌, ℕ, suc, ◌+◌, ◌<◌, ◌≤◌, List, [], ◌∷◌, ◌++◌, length, get_or, map, reverse, Option, unwrap_or, refl, sym, ap, ◌∙◌}
 use Rattle.std.proofs.lemmas.List.{map-append, same_from_push, reverse-append}
 use Rattle.sg_kinds.specs.Values.{Bytes, Value, Values, Tree, NoValue, AndValue, row_of, list_of}
 use Rattle.sg_kinds.specs.declared.spec.Spec.{Spec}

@@ -1,6 +1,6 @@
 -- The subterms of a file's term against the phyla that are wanted, in the order of its notes.
 use Rattle.std.proofs.Common.{◌≡◌, ℕ, suc, Bool, true, false, ◌+◌, ◌<◌, ◌≤◌, List, [], ◌∷◌, ◌++◌, length, get_or, reverse, refl, sym, ap, ◌∙◌, subst, arith, append_assoc, append-nil, length-append, Option, Some, None, option_map, unwrap_or, MatchOption}
-use Rattle.std.specs.Prelude.{⊤, ◌↔◌, IsTrue, IsSome}
+use Rattle.std.specs.Prelude.{◌↔◌, IsTrue, IsSome}
 use Rattle.std.specs.Option.{option_to_list}
 use Rattle.std.proofs.lemmas.List.{same_from_push, nil_from_length, reverse-append, reverse-reverse}
 use Rattle.sg_kinds.specs.Values.{Bytes}
@@ -9,10 +9,10 @@ use Rattle.sg_kinds.specs.declared.spec.Spec.{Spec}
 use Rattle.sg_saved_form.specs.Files.{IsRaw, Raw, Raws, Branch, Whole, Quote, Flag, NoRaw, AndRaw, spelled}
 use Rattle.sg_saved_form.specs.Notes.{count_of, first_place}
 use Rattle.sg_saved_form.specs.declared.notes.Note.{Note}
-use Rattle.sg_saved.specs.Misfits.{op_named, args_named, Part, PartFits, HeadFits, EachFits, parts_of, parts_of_all, IsFirstMisfit, IsMisfit}
+use Rattle.sg_saved.specs.Misfits.{op_named, args_named, Part, PartFits, HeadFits, EachFits, parts_of, parts_of_all, IsMisfit}
 use Rattle.sg_saved_read.specs.Heads.{IsNoteOf, head_of, args_in}
 use Rattle.sg_saved_read.specs.declared.heads.Head.{Head}
-use Rattle.sg_saved_read.proofs.Pieces.{Piece, pieces_of, kids_of, kid-count, note_at, note-from, Left, First, first-left, note-of, none-left, seen-note}
+use Rattle.sg_saved_read.proofs.Pieces.{Piece, pieces_of, kids_of, kid-count, note-from, Left, First, first-left, note-of, none-left, seen-note}
 
 module _ (spec : Spec) where
   -- the parts of subterms at these phyla

@@ -1,22 +1,19 @@
 -- What fits a phylum, whatever its children.
-use Rattle.std.proofs.Common.{◌≡◌, ◌⊎◌, inl, inr, ℕ, ◌<◌, ◌≤◌, ℤ, Bool, true, false, [], ◌∷◌, length, refl, sym, ap, ◌∙◌, subst, arith, Option, Some, None, option_map, slice_get, get_or, MatchOption}
+use Rattle.std.proofs.Common.{◌≡◌, ◌⊎◌, inl, inr, ℕ, ◌<◌, ◌≤◌, ℤ, Bool, true, false, [], ◌∷◌, length, refl, sym, ap, ◌∙◌, subst, arith, Option, Some, None, option_map, slice_get, MatchOption}
 use Rattle.std.specs.Prelude.{◌↔◌, IsTrue}
 use Rattle.std.proofs.lemmas.Option.{slice_get_past, slice_get_cases}
 use Rattle.sg_kinds.specs.Fits.{MayHold, IsLexeme}
 use Rattle.sg_kinds.specs.Lexemes as plain
 use Rattle.sg_kinds.specs.Matches.{Matches}
-use Rattle.sg_kinds.specs.Values.{Bytes, Value, Truth, Number, Chars, is_number, is_text}
-use Rattle.sg_kinds.specs.declared.marks.Shape.{Shape}
-use Rattle.sg_kinds.specs.declared.marks.Shape.TheVariants.{Truths, Numbers, Texts, Lexemes, Ordinary, Optional, Listed, OptionalListed}
+use Rattle.sg_kinds.specs.Values.{Bytes, Value, Number, Chars, is_number, is_text}
 use Rattle.sg_kinds.specs.declared.spec.Phylum.{Phylum}
-use Rattle.sg_kinds.specs.declared.spec.Operator.{Operator}
 use Rattle.sg_kinds.specs.declared.spec.Spec.{Spec}
 use Rattle.sg_names.specs.Callables.{operator_in}
 use Rattle.sg_names.specs.Meaning.{meaning}
 use Rattle.sg_names.specs.Names as names
 use Rattle.sg_names.specs.declared.index.Index.{Index}
 use Rattle.sg_names.specs.declared.table.Callable.{Callable}
-use Rattle.sg_names.specs.declared.table.Callable.TheVariants.{Operator as OperatorOf, Function as FunctionOf, Builtin as BuiltinOf}
+use Rattle.sg_names.specs.declared.table.Callable.TheVariants.{Operator as OperatorOf}
 use Rattle.sg_saved.specs.Misfits.{op_named, LeafFits}
 use Rattle.sg_saved_form.specs.Files.{Raw, Branch, Whole, Quote, Flag, IsRaw}
 use Rattle.sg_saved_read.specs.Heads.{AreNames, head_of}

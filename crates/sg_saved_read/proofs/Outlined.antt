@@ -1,5 +1,5 @@
 -- What an outline says of a file.
-use Rattle.std.proofs.Common.{◌≡◌, ◌⊎◌, inl, inr, ℕ, ◌<◌, ◌≤◌, length, refl, sym, ap, ◌∙◌, subst, arith, Option, Some, None, Result, Ok, Err, MatchOption}
+use Rattle.std.proofs.Common.{◌≡◌, ◌⊎◌, ℕ, ◌<◌, ◌≤◌, length, sym, ap, ◌∙◌, subst, Option, Some, None, Result, Ok, Err, MatchOption}
 use Rattle.std.specs.Prelude.{⊤, IfSome, IfOk}
 use Rattle.sg_kinds.specs.Fits.{Fits}
 use Rattle.sg_kinds.specs.Plain.{plain}
@@ -15,7 +15,6 @@ use Rattle.sg_saved.proofs.Fitting.{fits-read}
 use Rattle.sg_saved.proofs.Opening.{one-opening}
 use Rattle.sg_saved_read.specs.Answers.{opened_of}
 use Rattle.sg_saved_read.specs.declared.reading.OpenFault.{OpenFault}
-use Rattle.sg_saved_read.specs.declared.reading.OpenFault.TheVariants as fault
 
 module _ (spec : Spec) (bytes : Bytes) where
   -- where each subterm fits, the value's term has the nodes and the depth of the outline

@@ -4,7 +4,7 @@ use Rattle.std.proofs.lemmas.List.{drop-drop, drop_more, drop_all, get_or_defaul
 use Rattle.std.proofs.Math.Seq.{drop-append_seam}
 use Rattle.std.specs.Prelude.{⊤}
 use Rattle.sg_kinds.specs.Values.{Bytes}
-use Rattle.sg_saved_form.specs.Files.{Raw, Raws, Branch, Whole, Quote, Flag, NoRaw, AndRaw, left_parenthesis, right_parenthesis, comma, frame, file_of, spelled, spelled_all, spelled_more, escaped, IsRaw, AreRaw}
+use Rattle.sg_saved_form.specs.Files.{Raw, Raws, Branch, Whole, Quote, Flag, NoRaw, AndRaw, left_parenthesis, right_parenthesis, comma, spelled, spelled_all, spelled_more, escaped, IsRaw, AreRaw}
 use Rattle.sg_saved_form.specs.Notes.{count_of, notes_of, notes_of_all, first_place, IsOutline}
 use Rattle.sg_saved_form.specs.declared.notes.Note.{Note}
 use Rattle.sg_saved_form.specs.declared.notes.Noted.TheVariants.{Operator, Number, Text, Truth}

@@ -1,7 +1,7 @@
 -- What the bytes of a note's subterm say of it.
-use Rattle.std.proofs.Common.{◌≡◌, ℕ, suc, ℤ, eqb-true, ◌==◌, ◌+◌, ◌-◌, ◌<◌, ◌≤◌, Bool, true, false, cond, List, [], ◌∷◌, ◌++◌, length, drop, take, slice_range, refl, sym, ap, ◌∙◌, subst, arith, append_assoc, length-append, Option, Some, None, option_map, option_and_then}
+use Rattle.std.proofs.Common.{◌≡◌, ℕ, suc, ℤ, eqb-true, ◌==◌, ◌+◌, ◌-◌, ◌<◌, ◌≤◌, Bool, true, false, cond, List, [], ◌∷◌, ◌++◌, length, drop, take, slice_range, refl, sym, ap, ◌∙◌, arith, append_assoc, length-append, Option, Some, None, option_map}
 use Rattle.std.specs.Prelude.{bytes_eq}
-use Rattle.std.specs.List.{position, position_from}
+use Rattle.std.specs.List.{position_from}
 use Rattle.std.proofs.lemmas.List.{take_at, length-drop}
 use Rattle.std.proofs.lemmas.Iterator.Adapters.{position_from-zero}
 use Rattle.sg_kinds.specs.Values.{Bytes, Truth, Number, Chars}
@@ -9,8 +9,8 @@ use Rattle.sg_kinds.specs.declared.spec.Operator.{Operator}
 use Rattle.sg_kinds.specs.declared.spec.Spec.{Spec}
 use Rattle.sg_text.specs.Bytes.{newline, double_quote, backslash, letter_n}
 use Rattle.sg_text.specs.Strings.{unescaped, unescaped_after}
-use Rattle.sg_saved_form.specs.Files.{Raw, Raws, Branch, Whole, Quote, Flag, left_parenthesis, right_parenthesis, escaped, escaped_byte, spelled, spelled_all, IsRaw}
-use Rattle.sg_saved_form.specs.Notes.{count_of, notes_of}
+use Rattle.sg_saved_form.specs.Files.{Raw, Raws, Branch, Whole, Quote, Flag, left_parenthesis, right_parenthesis, escaped, spelled_all}
+use Rattle.sg_saved_form.specs.Notes.{count_of}
 use Rattle.sg_saved_form.specs.declared.notes.Note.{Note}
 use Rattle.sg_saved_form.specs.declared.notes.Noted.{Noted}
 use Rattle.sg_saved_form.specs.declared.notes.Noted.TheVariants as noted

@@ -9,7 +9,7 @@ use Rattle.sg_names.specs.Names as names
 use Rattle.sg_names.specs.declared.index.Index.{Index}
 use Rattle.sg_names.specs.declared.table.Callable.{Callable}
 use Rattle.sg_names.specs.declared.table.Callable.TheVariants.{Operator as OperatorOf}
-use Rattle.sg_saved_form.specs.Files.{Raw, Branch, Whole, Quote, Flag, spelled, IsRaw}
+use Rattle.sg_saved_form.specs.Files.{Raw, Branch, spelled, IsRaw}
 use Rattle.sg_saved_form.specs.Notes.{count_of, notes_of}
 use Rattle.sg_saved_form.specs.declared.notes.Note.{Note}
 use Rattle.sg_saved.specs.Misfits.{op_named, value_of, values_of}

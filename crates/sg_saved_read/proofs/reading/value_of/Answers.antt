@@ -9,8 +9,8 @@ returns-then-nodes-gt-MOST_NODES c =
     let fit = none-misfits c.args.spec.now c.args.bytes.now c.args.outline.now c.in_ok-place.field-0 c.in_default.is c.in_ok-place.ensures in
     too-large c.args.spec.now c.args.bytes.now c.args.outline.now c.requires (fit c.requires) c.len-nodes.result (omega (arith, c.args.outline.now.notes.ok.0))
     (elim c.then-nodes-gt-MOST_NODES.branch [
-      then-nodes-gt-MOST_NODES-via-then-nodes-gt-MOST_NODES w ↦ inl (omega (arith, w.if-nodes-gt-MOST_NODES.true))
-    | then-nodes-gt-MOST_NODES-via-else-nodes-gt-MOST_NODES+then-outline-gt-MOST_DEPTH w ↦ inr (omega (arith, w.if-outline-gt-MOST_DEPTH.true))
+      | then-nodes-gt-MOST_NODES-via-then-nodes-gt-MOST_NODES w ↦ inl (omega (arith, w.if-nodes-gt-MOST_NODES.true))
+      | then-nodes-gt-MOST_NODES-via-else-nodes-gt-MOST_NODES+then-outline-gt-MOST_DEPTH w ↦ inr (omega (arith, w.if-outline-gt-MOST_DEPTH.true))
     ])
 
 pub returns : goal.returns

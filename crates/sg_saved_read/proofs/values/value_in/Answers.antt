@@ -1,4 +1,4 @@
-use Rattle.std.proofs.Common.{◌≡◌, ℕ, ◌+◌, ◌-◌, ◌<◌, length, [], ◌∷◌, ◌++◌, ap, ◌∙◌, sym, subst, arith}
+use Rattle.std.proofs.Common.{◌≡◌, ◌+◌, ◌-◌, ◌<◌, length, [], ◌∷◌, ◌++◌, ◌∙◌, subst, arith}
 use Rattle.sg_saved_read.proofs.Pieces.{note-of, some-note}
 use Rattle.sg_saved_read.proofs.Building.{Built, values_in, none-built, kids-on-top, one-built, value-last}
 use Rattle.sg_saved_read.proofs.values.value_in.Goals as goal
@@ -18,9 +18,9 @@ loop-k-preserved c = λ spec o are.
     let built : Built spec bytes notes (c.loop-k.k - 1 + 1) c.loop-k.values.items = subst (λ j. Built spec bytes notes j c.loop-k.values.items) next (c.loop-k.invariant spec o are) in
     one-built spec bytes notes (c.loop-k.k - 1) c.index.result.now c.loop-k.values.items low c.index.ensures built c.push.new.self.items
     (λ xs f.
-      let v = c.in_ok-value.ensures spec f.piece.raw (values_in spec f.rest) (c.in_ok-head.ensures spec f.piece.raw are (note-of bytes notes (c.loop-k.k - 1) c.index.result.now xs f))
-        (kids-on-top spec bytes notes (c.loop-k.k - 1) c.index.result.now c.loop-k.values.items xs f built) in
-      c.in_ok-push.ensures.items ∙ (λ i. v.1 i ++ v.0 i ∷ []))
+    let v = c.in_ok-value.ensures spec f.piece.raw (values_in spec f.rest) (c.in_ok-head.ensures spec f.piece.raw are (note-of bytes notes (c.loop-k.k - 1) c.index.result.now xs f))
+    (kids-on-top spec bytes notes (c.loop-k.k - 1) c.index.result.now c.loop-k.values.items xs f built) in
+    c.in_ok-push.ensures.items ∙ (λ i. v.1 i ++ v.0 i ∷ []))
 
 pub returns-in-Some : goal.returns-in-Some
 returns-in-Some c = λ spec o are.
