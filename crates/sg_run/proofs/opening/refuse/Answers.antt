@@ -1,8 +1,0 @@
-use Rattle.std.proofs.Common.{◌∙◌}
-use Rattle.sg_faults.specs.FaultLine.{fault_line}
-use Rattle.sg_run.specs.declared.status.Status.TheVariants.{SpecFault}
-use Rattle.sg_run.proofs.Endings.{ends_text, finished_as}
-use Rattle.sg_run.proofs.opening.refuse.Goals as goal
-
-pub returns-in-Ok : goal.returns-in-Ok
-returns-in-Ok g c = λ shelf n. ends_text shelf _ _ n SpecFault _ (fault_line c.args.fault.now) (finished_as _ _ _ (fault_line c.args.fault.now) SpecFault _ (c.as_slice.ensures.value ∙ c.in-Ok.ensures) c.finish.ensures)
