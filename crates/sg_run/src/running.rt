@@ -119,10 +119,10 @@ fn run_script<S: Shelf, K: Sink>(
         (world_of S.files S.faults S.calls shelf.old K.written K.faults K.puts sink.old (counted journal.old))
         (world_of S.files S.faults S.calls shelf.new K.written K.faults K.puts sink.new (counted journal.new)) }
 {
-    let loaded = open(alloc, name, shelf, sink, replies)?;
+    let opened = open(alloc, name, shelf, sink, replies)?;
     let commands = script(alloc, script_name, shelf, sink, replies)?;
     play_all(
-        alloc, loaded, width, height, commands.as_slice(), shelf, sink, journal, replies,
+        alloc, opened, width, height, commands.as_slice(), shelf, sink, journal, replies,
     )
 }
 

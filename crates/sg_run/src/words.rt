@@ -1,8 +1,8 @@
 // The words of the command line.
 ghost use Rattle.std.specs.Prelude.{◌≡◌, ◌≤◌, map, string_bytes, IfSome};
 ghost use Rattle.std.specs.Option.{option_map};
-ghost use Rattle.sg_told.specs.Job.{job, job_of_name, size_of, sized as sized_job};
-ghost use Rattle.sg_run.specs.JobView.{job_of};
+ghost use Rattle.sg_told.specs.Job.{job, size_of, sized as sized_job};
+ghost use Rattle.sg_run.specs.JobView.{job_of, HasWindow};
 
 /// What the words ask for.
 #[derive(Drop)]
@@ -18,7 +18,8 @@ pub enum Job<'a> {
 
 /// A width or a height: a number from 1 to 1,024 in decimal digits, of which the first is no 0.
 fn size(word: &str) -> Option<usize>
-    ensures { result ≡ size_of word.now }
+    ensures value { result ≡ size_of word.now }
+    ensures bounds { IfSome result (λ n. (1 ≤ n) × (n ≤ 1024)) }
 {
     let bytes = word.as_bytes();
     if bytes.is_empty() || bytes[0] <= b'0' {
@@ -35,7 +36,8 @@ fn size(word: &str) -> Option<usize>
 }
 
 fn sized<'a>(name: &'a str, script: &'a str, width: &str, height: &str) -> Option<Job<'a>>
-    ensures { option_map job_of result ≡ sized_job name.now script.now (size_of width.now) (size_of height.now) }
+    ensures job { option_map job_of result ≡ sized_job name.now script.now (size_of width.now) (size_of height.now) }
+    ensures window { IfSome result HasWindow }
 {
     let width = size(width)?;
     let height = size(height)?;
@@ -44,7 +46,8 @@ fn sized<'a>(name: &'a str, script: &'a str, width: &str, height: &str) -> Optio
 
 /// The job of these words, if they are one.
 pub fn read<'a>(words: &'a [String]) -> Option<Job<'a>>
-    ensures { option_map job_of result ≡ job (map string_bytes words.now) }
+    ensures job { option_map job_of result ≡ job (map string_bytes words.now) }
+    ensures window { IfSome result HasWindow }
 {
     match words {
         [word, name] if word.as_str() == "show" => Some(Job::Show(name.as_str())),

@@ -4,5 +4,8 @@ pub mod Endings
 pub mod Requests
 pub mod Turns
 pub mod Opened
+pub mod Fetches
+pub mod Jobs
+pub mod Blank
 pub mod CauseLaws
 pub mod Exits

@@ -1,5 +1,5 @@
 -- What follows the fetches of the specification and of the script
-use Rattle.std.proofs.Common.{◌≡◌, ◌≢◌, ℕ, List, [], ◌∷◌, ◌++◌, Option, Some, None, Result, Ok, Err, inl, inr, refl, sym, ap, ◌∙◌, subst, arith}
+use Rattle.std.proofs.Common.{◌≡◌, ◌≢◌, ℕ, List, [], ◌∷◌, ◌++◌, Option, Some, None, Result, Ok, Err, IfOk, IfErr, inl, inr, refl, sym, ap, ◌∙◌, subst, arith}
 use Rattle.sg_kinds.specs.declared.spec.Spec.{Spec}
 use Rattle.sg_kinds.specs.declared.fault.SpecFault.{SpecFault as Fault}
 use Rattle.sg_kinds.specs.declared.fault.SpecFault.TheVariants as fault
@@ -20,7 +20,7 @@ use Rattle.sg_told.specs.Job.{Job, job, spec_name}
 use Rattle.sg_told.specs.Told.{Told, before, text, asked}
 use Rattle.sg_told.specs.Output.{opened, judged, scanned, scripted, fault_told, read_fault_text, script_missing_text, script_fault_text, whole_file, with_spec, with_script, job_told, told}
 use Rattle.sg_told.specs.Reading.{Reading, IsVerdictIn, IsTheVerdictIn, AreReadersOf, IsRight, IsTheReading}
-use Rattle.sg_told.specs.Opening.{IsFetched, IsVerdictOf, IsTheVerdictOf, IsAdmitted, IsQuiet, Silent, IsKnown, IsKnownOf}
+use Rattle.sg_told.specs.Opening.{IsFetched, IsVerdictOf, IsTheVerdictOf, IsAdmitted, IsOpened, IsScriptOf, IsQuiet, Silent, IsKnown, IsKnownOf}
 use Rattle.sg_told.specs.Causes.{Unjudged, IsReadOf, IsRead}
 use Rattle.sg_told.specs.World.{SinkState, World, world}
 use Rattle.sg_told.specs.Parts.{Ends, Passed, Played, Finished}
@@ -35,7 +35,7 @@ judged_quiet (Accepted spec) next quiet = quiet spec
 pub script_quiet : (next : List Command → List Reply → Told) (name : List ℕ) → IsQuiet (with_script next name [])
 script_quiet next name = record { taken = refl; asked = omega arith }
 
-scanned_quiet : (r : Result (List Command) NoScript) (next : List Command → Told) → ((commands : List Command) → IsQuiet (next commands)) → IsQuiet (scanned r next)
+pub scanned_quiet : (r : Result (List Command) NoScript) (next : List Command → Told) → ((commands : List Command) → IsQuiet (next commands)) → IsQuiet (scanned r next)
 scanned_quiet (Ok commands) next quiet = quiet commands
 scanned_quiet (Err fault) next quiet = record { taken = refl; asked = omega arith }
 
@@ -211,3 +211,64 @@ reading_of asked old new replies status (inr q) other = absurd (other q.2.memory
 -- the only reading is right
 pub the_reading_is_right : (replies : List Reply) (r : Reading) → IsTheReading replies r → IsRight replies r
 the_reading_is_right replies r the = record { verdict = λ bytes rest is. (the.verdict bytes rest is).is; readers = the.readers }
+
+-- what follows an accepted specification, as what it was opened by tells
+pub read_opened : (name : List ℕ) (spec : Spec) (rm ra : List Reply) (shelf shelf' : ShelfState) (g : Readers → List Reply → Told) (old between new : World) (status : Status)
+    → (o : IsOpened name spec rm shelf shelf') → ((readers : Readers) → AreReaders spec readers → Played (g readers) rm ra status between new) → IsReadOf name old ra status new
+read_opened name spec rm ra shelf shelf' g old between new status o p =
+    read_admitted name [] rm ra shelf shelf' spec (g o.admitted.readers) old between new status refl o.fetched o.admitted (p o.admitted.readers o.admitted.read)
+
+pub played_opened : (name : List ℕ) (spec : Spec) (rm ra : List Reply) (shelf shelf' : ShelfState) (sink sink' : SinkState) (n : ℕ) (follow : Readers → Spec → List Reply → Told) (new : World) (status : Status)
+    → (o : IsOpened name spec rm shelf shelf') → sink' ≡ sink
+    → ((readers : Readers) → AreReaders spec readers → Played (follow readers spec) rm ra status (world shelf' sink' n) new)
+    → (r : Reading) → IsRight ra r → Played (with_spec (follow r.readers) name r.verdict) [] ra status (world shelf sink n) new
+played_opened name spec rm ra shelf shelf' sink sink' n follow new status o same p r right =
+    played_admitted name [] rm ra shelf shelf' sink sink' n spec follow new status refl o.fetched o.admitted same p r right
+
+-- the same of what a part of the run answered
+pub admitted_by : {T : Type 0} (spec : T → Spec) (reply : Reply) (bytes : List ℕ) (r : Result T Status) → reply ≡ Fetched bytes → IfOk r (λ x. IsTheVerdict bytes (Accepted (spec x)))
+    → IfOk r (λ x. (readers : Readers) × AreReaders (spec x) readers) → IfOk r (λ x. IsAdmitted reply (spec x))
+admitted_by spec reply bytes (Ok x) is the read = record { bytes = bytes; brought = is; verdict = the; readers = read.0; read = read.1 }
+admitted_by spec reply bytes (Err s) is the read = tt
+
+pub fetched_known : {T : Type 0} (reply : Reply) (bytes : List ℕ) (old new : SinkState) (r : Result T Status) → reply ≡ Fetched bytes → IfErr r (λ status. IsKnown bytes status old new)
+    → IfErr r (λ status. IsKnownOf reply status old new)
+fetched_known reply bytes old new (Ok x) is known = tt
+fetched_known reply bytes old new (Err s) is known = known_fetched reply bytes s old new is known
+
+pub fetched_ended : {T : Type 0} (reply : Reply) (bytes : List ℕ) (old new : SinkState) (r : Result T Status) → reply ≡ Fetched bytes
+    → IfErr r (λ status. (v : Verdict) → IsVerdict bytes v → (next : Spec → Told) → ((spec : Spec) → IsQuiet (next spec)) → (at : ShelfState) (n : ℕ) → Ends (world at old n) (judged v next) [] status (world at new n))
+    → IfErr r (λ status. (v : Verdict) → IsVerdictOf reply v → (next : Spec → List Reply → Told) → ((spec : Spec) → IsQuiet (next spec [])) → (at : ShelfState) (n : ℕ)
+    → Ends (world at old n) (opened next v reply []) [] status (world at new n))
+fetched_ended reply bytes old new (Ok x) is ended = tt
+fetched_ended reply bytes old new (Err s) is ended = λ v right next quiet at n.
+    ends_fetched next v reply bytes (world at old n) (world at new n) s is (ended v (right bytes is) (λ spec. next spec []) quiet at n)
+
+pub scanned_err : (bytes : List ℕ) (f : NoScript) (next : List Command → Told) → script_of bytes ≡ Err f → scanned (script_of bytes) next ≡ text ScriptFault (script_fault_text f)
+scanned_err bytes f next is = ap (λ (o : Result (List Command) NoScript). scanned o next) is
+
+pub script_by : {T : Type 0} (commands : T → List Command) (reply : Reply) (bytes : List ℕ) (r : Result T Status) → reply ≡ Fetched bytes → IfOk r (λ x. script_of bytes ≡ Ok (commands x)) → IfOk r (λ x. IsScriptOf reply (commands x))
+script_by commands reply bytes (Ok x) is read = record { bytes = bytes; brought = is; spelled = read }
+script_by commands reply bytes (Err s) is read = tt
+
+pub script_ended : {T : Type 0} (reply : Reply) (bytes : List ℕ) (old new : SinkState) (r : Result T Status) → reply ≡ Fetched bytes
+    → IfErr r (λ status. (next : List Command → Told) → ((commands : List Command) → IsQuiet (next commands)) → (at : ShelfState) (n : ℕ) → Ends (world at old n) (scanned (script_of bytes) next) [] status (world at new n))
+    → IfErr r (λ status. (next : List Command → List Reply → Told) → ((commands : List Command) → IsQuiet (next commands [])) → (at : ShelfState) (n : ℕ) → Ends (world at old n) (scripted next reply []) [] status (world at new n))
+script_ended reply bytes old new (Ok x) is ended = tt
+script_ended reply bytes old new (Err s) is ended = λ next quiet at n.
+    ends_as (world at old n) (world at new n) (scanned (script_of bytes) (λ cs. next cs [])) (scripted next reply []) [] s (ap (λ (r : Reply). scripted next r []) is) (ended (λ cs. next cs []) quiet at n)
+
+-- nothing was fetched
+pub read_nothing : (name : List ℕ) (old new : World) (replies : List Reply) (status : Status) (readers : Readers) → replies ≡ [] → IsReadOf name old replies status new
+read_nothing name old new replies status readers none = inl (record { verdict = Refused fault.TooLong; readers = readers }, the_reading_of_nothing replies readers none)
+
+pub read_none : (asked : Option Job) (old new : World) (replies : List Reply) (status : Status) (readers : Readers) → replies ≡ [] → IsRead asked old replies status new
+read_none asked old new replies status readers none = inl (record { verdict = Refused fault.TooLong; readers = readers }, the_reading_of_nothing replies readers none)
+
+-- the same, with the status that it ended with
+pub read_as : (name : List ℕ) (old new : World) (replies : List Reply) (status other : Status) → other ≡ status → IsReadOf name old replies status new → IsReadOf name old replies other new
+read_as name old new replies status other e k = subst (λ (s : Status). IsReadOf name old replies s new) (sym e) k
+
+-- where memory was not wanting, there is a right reading
+pub right_of : (asked : Option Job) (old new : World) (replies : List Reply) (status : Status) → IsRead asked old replies status new → status ≢ Memory → (r : Reading) × IsRight replies r
+right_of asked old new replies status k other = let r = reading_of asked old new replies status k other in (r.0, the_reading_is_right replies r.0 r.1)

@@ -123,3 +123,7 @@ played_nothing f rb ra status old new none e = record { got = []; replies = none
 pub ends_whole : (f : List Reply → Told) (ra : List Reply) (status ended : Status) (old new : World) → Played f [] ra status old new → ended ≡ status → Ends old (f ra) ra ended new
 ends_whole f ra status ended old new p is =
     subst (λ (s : Status). Ends old (f ra) ra s new) (sym is) (subst (λ (rs : List Reply). Ends old (f rs) rs status new) (sym p.replies) p.ends)
+
+-- the same, after replies that are known
+pub played_from : (f : List Reply → Told) (rb rs ra : List Reply) (status : Status) (old new : World) → rb ≡ rs → Played f rb ra status old new → Played f rs ra status old new
+played_from f rb rs ra status old new e p = subst (λ (x : List Reply). Played f x ra status old new) e p

@@ -1,0 +1,15 @@
+use Rattle.std.proofs.Common.{◌≡◌, refl, sym, ap, ◌∙◌, [], arith}
+use Rattle.sg_told.specs.declared.status.Status.TheVariants.{Done}
+use Rattle.sg_told.specs.Output.{checked, ok_text}
+use Rattle.sg_told.proofs.Exits.{ended_is}
+use Rattle.sg_told.proofs.Endings.{ends_text}
+use Rattle.sg_told.proofs.Opened.{read_opened, played_opened, read_as}
+use Rattle.sg_told.proofs.Requests.{played_as, played_at}
+use Rattle.sg_run.proofs.running.check.Goals as goal
+
+pub returns-in_err : goal.returns-in_err
+returns-in_err g c = record {
+  known = λ n. read_as _ _ _ _ _ _ (ended_is c.in_err.field-0.0 _ c.from_residual.ensures.1) (c.in_err.ensures.known n);
+  played = λ r right n. played_as _ _ _ _ _ _ _ (ended_is c.in_err.field-0.0 _ c.from_residual.ensures.1)
+      (c.in_err.ensures.played r.verdict right.verdict checked (λ spec. record { taken = refl; asked = omega arith }) n);
+}

@@ -1,0 +1,20 @@
+use Rattle.std.proofs.Common.{◌≡◌, refl, sym, ap, ◌∙◌, [], List}
+use Rattle.sg_eval.specs.Journal.{counted}
+use Rattle.sg_editor.specs.Session.{start}
+use Rattle.sg_script.specs.declared.command.Command.{Command}
+use Rattle.sg_told.specs.declared.status.Status.TheVariants.{Memory}
+use Rattle.sg_told.specs.Session.{desk, session}
+use Rattle.sg_told.specs.Output.{shown, first_command}
+use Rattle.sg_told.proofs.Exits.{ended_is}
+use Rattle.sg_told.proofs.Endings.{ends_early}
+use Rattle.sg_told.proofs.Opened.{read_opened, played_opened, read_as}
+use Rattle.sg_told.proofs.Requests.{played_as, played_at}
+use Rattle.sg_told.proofs.Turns.{session_quiet, session_from}
+use Rattle.sg_run.proofs.running.show.Goals as goal
+
+pub returns-in_err-loaded : goal.returns-in_err-loaded
+returns-in_err-loaded g c = record {
+  known = read_as _ _ _ _ _ _ (ended_is c.in_err-loaded.field-0.0 _ c.from_residual.ensures.1) (c.in_err-loaded.ensures.known (counted c.args.journal.now));
+  played = λ r right. played_as _ _ _ _ _ _ _ (ended_is c.in_err-loaded.field-0.0 _ c.from_residual.ensures.1)
+      (c.in_err-loaded.ensures.played r.verdict right.verdict (shown r.readers) (λ spec. session_quiet (desk spec 80 24 r.readers) first_command start) (counted c.args.journal.now));
+}
