@@ -1,20 +1,21 @@
 -- The block of a command that an editor showed
 use Rattle.std.proofs.Common.{◌≡◌, ℕ, List, ◌∷◌, subst, sym}
-use Rattle.sg_kinds.specs.declared.spec.Spec.{Spec}
 use Rattle.sg_screen.specs.declared.message.Message.{Message}
 use Rattle.sg_script.specs.declared.command.Command.{Command}
 use Rattle.sg_replies.specs.declared.reply.Reply.{Reply}
 use Rattle.sg_editor.specs.Session as editor
 use Rattle.sg_editor.specs.Screen.{screen}
 use Rattle.sg_editor.specs.Ask.{Readers, AreReaders}
+use Rattle.sg_editor.specs.Editing.{Editing, spec_in, width_in, height_in, session_of}
 use Rattle.sg_told.specs.declared.status.Status.{Status}
 use Rattle.sg_told.specs.Session.{Desk, session}
 use Rattle.sg_told.specs.World.{World}
 use Rattle.sg_told.specs.Parts.{Passed, Played}
 
-pub same_screen : (spec spec' : Spec) (w w' h h' : ℕ) (s s' : editor.Session) (m m' : Message) (n n' : ℕ) → spec ≡ spec' → w ≡ w' → h ≡ h' → s ≡ s' → m ≡ m' → n ≡ n'
-    → screen spec w h s m n ≡ screen spec' w' h' s' m' n'
-same_screen spec spec' w w' h h' s s' m m' n n' a b c d e f = λ i. screen (a i) (b i) (c i) (d i) (e i) (f i)
+-- what was shown after a step, in the window before it
+pub shown_at : (a b : Editing) (said : Message) (ev count : ℕ) (bytes : List ℕ) → bytes ≡ screen (spec_in b) (width_in b) (height_in b) (session_of b) said ev → b.setting ≡ a.setting → ev ≡ count
+    → bytes ≡ screen (spec_in a) (width_in a) (height_in a) (session_of b) said count
+shown_at a b said ev count bytes is same n = is ∙ (λ i. screen (same i).contents.spec (same i).width (same i).height (session_of b) said (n i))
 
 -- at another desk that is the same
 pub passed_at : (d e : Desk) (s t : editor.Session) (c : Command) (commands : List Command) (rb ra : List Reply) (old new : World) → d ≡ e

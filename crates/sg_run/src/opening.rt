@@ -89,6 +89,16 @@ fn end_by<K: Sink>(alloc: Global, bytes: &[u8], fault: &SpecFault, sink: &mut K)
     refuse(alloc, fault, sink)
 }
 
+/// There are readers of the texts of an accepted specification. This does nothing and tells it.
+fn tell_readers(loaded: &Loaded)
+    ensures { (r : Readers) × AreReaders loaded.now.spec r }
+{
+    loaded.facts();
+    loaded.tables.sound();
+    loaded.tables.decided();
+    readers_are_there();
+}
+
 /// Loads the specification of these bytes. An error says with which status the run is over.
 fn judge<K: Sink>(alloc: Global, bytes: &[u8], sink: &mut K) -> Result<Loaded, Status>
     ensures accepted { IfOk result (λ loaded. IsTheVerdict bytes.now (Accepted loaded.spec)) }
@@ -106,7 +116,7 @@ fn judge<K: Sink>(alloc: Global, bytes: &[u8], sink: &mut K) -> Result<Loaded, S
 {
     match load(alloc, bytes) {
         Ok(loaded) => {
-            readers_are_there(&loaded);
+            tell_readers(&loaded);
             Ok(loaded)
         }
         Err(fault) => Err(end_by(alloc, bytes, &fault, sink)),

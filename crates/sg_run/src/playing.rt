@@ -4,7 +4,7 @@ ghost use Rattle.sg_eval.specs.Journal.{counted};
 ghost use Rattle.sg_script.specs.declared.command.Command.{Command};
 ghost use Rattle.sg_editor.specs.Ask.{Readers, AreReaders};
 ghost use Rattle.sg_editor.specs.Session.{start};
-ghost use Rattle.sg_editor.specs.View.{spec_in, session_of};
+ghost use Rattle.sg_editor.specs.Editing.{spec_in, session_of};
 ghost use Rattle.sg_told.specs.Statuses.{ended};
 ghost use Rattle.sg_told.specs.Session.{desk, session};
 ghost use Rattle.sg_told.specs.World.{world_of};
@@ -42,7 +42,7 @@ fn play<S: Shelf, K: Sink>(
         (world_of S.files S.faults S.calls shelf.old K.written K.faults K.puts sink.old (counted journal.old))
         (world_of S.files S.faults S.calls shelf.new K.written K.faults K.puts sink.new (counted journal.new))) }
     ensures kept { (r : Readers) → desk_in editor.new r ≡ desk_in editor.old r }
-    ensures most { counted journal.new ≤ counted journal.old + 2 ^ 40 }
+    ensures most { OnOk result (counted journal.new ≤ counted journal.old + 2 ^ 40) }
 {
     let message = editor.step(command, shelf, journal, replies)?;
     let block = editor.screen(message, journal.now().len() as u64)?;

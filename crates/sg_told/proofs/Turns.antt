@@ -10,7 +10,11 @@ use Rattle.sg_script.specs.declared.command.Command.{Command}
 use Rattle.sg_editor.specs.Session as editor
 use Rattle.sg_editor.specs.Ask.{Step, Ask}
 use Rattle.sg_editor.specs.Ask.Ask.{Tells, Asks}
-use Rattle.sg_editor.specs.Steps.{Steps, StepsCut, Stepped, Interrupted, requests_of}
+use Rattle.sg_editor.specs.Editing.{Editing, session_of}
+use Rattle.sg_editor.specs.Steps.{Comes, AreSome, IsCutShort, Stepped, Interrupted, requests_of}
+use Rattle.sg_eval.specs.declared.journal.Instance.{Instance}
+use Rattle.sg_kinds.specs.declared.spec.Spec.{Spec}
+use Rattle.sg_screen.specs.declared.message.Message.{Message}
 use Rattle.sg_editor.specs.Screen.{screen}
 use Rattle.sg_told.specs.declared.status.Status.{Status}
 use Rattle.sg_told.specs.declared.status.Status.TheVariants.{Done, Memory, SinkFault}
@@ -40,7 +44,7 @@ pub session_quiet : (d : Desk) (commands : List Command) (s : editor.Session) �
 session_quiet d [] s = record { taken = refl; asked = omega arith }
 session_quiet d (c ∷ commands) s = turn_quiet d (λ after more. session d after commands more) (asks d s c) (session_quiet d commands)
 
-pub turn_law : (d : Desk) (next : editor.Session → List Reply → Told) (a : Ask) (got : List Reply) (out : Step) → Steps a got out → (more : List Reply)
+pub turn_law : (d : Desk) (next : editor.Session → List Reply → Told) (a : Ask) (got : List Reply) (out : Step) → Comes a got out → (more : List Reply)
     → turn d next a (got ++ more) ≡ before (one d a got out) (next out.session more)
 turn_law d next (Tells step) got out (none, is) more =
     ap (λ (g : List Reply). turn d next (Tells step) (g ++ more)) none
@@ -58,32 +62,39 @@ turn_law d next (Asks request answer) got out (reply, is_reply, kind, is) more =
         let n : 1 + (0 + u.taken) ≡ length (reply ∷ []) + u.taken = omega arith in
         ap (λ (k : ℕ). record (before (telling d out) u) { requests = request ∷ u.requests; taken = k }) n
 
-steps_length : (a : Ask) (got : List Reply) (out : Step) → Steps a got out → length (requests_of a) ≡ length got
+steps_length : (a : Ask) (got : List Reply) (out : Step) → Comes a got out → length (requests_of a) ≡ length got
 steps_length (Tells step) got out (none, is) = ap length (sym none)
 steps_length (Asks request answer) got out (reply, is_reply, kind, is) = ap length (sym is_reply)
 
+-- the block that an editor shows is that of the step which it took
+pub block_of_step : (spec : Spec) (w h : ℕ) (s t : editor.Session) (m n : Message) (ev count : ℕ) → s ≡ t → m ≡ n → ev ≡ count → screen spec w h s m ev ≡ screen spec w h t n count
+block_of_step spec w h s t m n ev count a b c = λ i. screen spec w h (a i) (b i) (c i)
+
 -- a command went through, and its block was put
-pub command_passed : (d : Desk) (s after : editor.Session) (c : Command) (out : Step) (rb ra : List Reply) (shelf shelf' : ShelfState) (old new : SinkState) (n m : ℕ)
-    → Stepped (asks d s c) out rb ra shelf shelf' → out.session ≡ after
-    → new.written ≡ appended old.written (block_of d out) → new.puts ≡ tallied 1 old.puts → old.faults ≤ new.faults → m ≡ n + length out.set
-    → (commands : List Command) → Passed (session d s (c ∷ commands)) (session d after commands) rb ra (world shelf old n) (world shelf' new m)
-command_passed d s after c out rb ra shelf shelf' old new n m stepped is put puts later counts commands =
-    subst (λ (x : editor.Session). Passed (session d s (c ∷ commands)) (session d x commands) rb ra (world shelf old n) (world shelf' new m)) is
+pub command_passed : (d : Desk) (s : editor.Session) (c : Command) (e : Editing) (said : Message) (now : List Instance) (rb ra : List Reply) (shelf shelf' : ShelfState) (old new : SinkState) (n m : ℕ)
+    → Stepped (asks d s c) e said now rb ra shelf shelf'
+    → new.written ≡ appended old.written (screen d.spec d.width d.height (session_of e) said (length now)) → new.puts ≡ tallied 1 old.puts → old.faults ≤ new.faults → m ≡ n + length now
+    → (commands : List Command) → Passed (session d s (c ∷ commands)) (session d (session_of e) commands) rb ra (world shelf old n) (world shelf' new m)
+command_passed d s c e said now rb ra shelf shelf' old new n m stepped put puts later counts commands =
+    let block : screen d.spec d.width d.height (session_of e) said (length now) ≡ block_of d stepped.step =
+    block_of_step d.spec d.width d.height (session_of e) stepped.step.session said stepped.step.message (length now) (length stepped.step.set) stepped.session stepped.message stepped.counted in
+    let many = stepped.counted in
+    subst (λ (x : editor.Session). Passed (session d s (c ∷ commands)) (session d x commands) rb ra (world shelf old n) (world shelf' new m)) (sym stepped.session)
     (record {
       got = stepped.got;
-      so_far = one d (asks d s c) stepped.got out;
+      so_far = one d (asks d s c) stepped.got stepped.step;
       replies = stepped.replies;
       goes = record {
-        output = one_block old.written new.written (block_of d out) put;
+        output = one_block old.written new.written (block_of d stepped.step) (put ∙ ap (λ (b : List ℕ). appended old.written b) block);
         puts = puts;
-        evaluated = omega (arith, counts);
+        evaluated = omega (arith, counts, many);
         each = refl;
         taken = refl;
-        answered = steps_length (asks d s c) stepped.got out stepped.steps;
+        answered = steps_length (asks d s c) stepped.got stepped.step stepped.comes;
         served = stepped.served;
         sink_later = later;
       };
-      law = turn_law d (λ x more. session d x commands more) (asks d s c) stepped.got out stepped.steps;
+      law = turn_law d (λ x more. session d x commands more) (asks d s c) stepped.got stepped.step stepped.comes;
     })
 
 -- a request more without a reply
@@ -105,21 +116,25 @@ served_exactly old new qs rs e served = record {
 }
 
 -- a command went through, and its block was not put as a whole
-pub command_unput : (d : Desk) (s : editor.Session) (c : Command) (out : Step) (rb ra : List Reply) (shelf shelf' : ShelfState) (old new : SinkState) (n m : ℕ) (status : Status)
-    → Stepped (asks d s c) out rb ra shelf shelf' → IsCut status
+pub command_unput : (d : Desk) (s : editor.Session) (c : Command) (e : Editing) (said : Message) (now : List Instance) (rb ra : List Reply) (shelf shelf' : ShelfState) (old new : SinkState) (n m : ℕ) (status : Status)
+    → Stepped (asks d s c) e said now rb ra shelf shelf' → IsCut status
     → (status ≡ Memory → (new.written ≡ old.written) × ((new.puts ≡ old.puts) ⊎ (new.puts ≡ tallied 1 old.puts)))
-    → (status ≡ SinkFault → CutShort old.written new.written (block_of d out) × (new.puts ≡ tallied 1 old.puts) × Rose old.faults new.faults)
-    → old.faults ≤ new.faults → m ≡ n + length out.set
+    → (status ≡ SinkFault → CutShort old.written new.written (screen d.spec d.width d.height (session_of e) said (length now)) × (new.puts ≡ tallied 1 old.puts) × Rose old.faults new.faults)
+    → old.faults ≤ new.faults → m ≡ n + length now
     → (commands : List Command) → Played (session d s (c ∷ commands)) rb ra status (world shelf old n) (world shelf' new m)
-command_unput d s c out rb ra shelf shelf' old new n m status stepped is_cut memory fault later counts commands =
+command_unput d s c e said now rb ra shelf shelf' old new n m status stepped is_cut memory fault later counts commands =
+    let out : Step = stepped.step in
     let next : editor.Session → List Reply → Told = λ x more. session d x commands more in
     let u : Told = next out.session [] in
     let told : Told = before (one d (asks d s c) stepped.got out) u in
+    let block : screen d.spec d.width d.height (session_of e) said (length now) ≡ block_of d out =
+    block_of_step d.spec d.width d.height (session_of e) out.session said out.message (length now) (length out.set) stepped.session stepped.message stepped.counted in
     let law : turn d next (asks d s c) stepped.got ≡ told =
-    ap (λ (g : List Reply). turn d next (asks d s c) g) (sym (append-nil stepped.got)) ∙ turn_law d next (asks d s c) stepped.got out stepped.steps [] in
+    ap (λ (g : List Reply). turn d next (asks d s c) g) (sym (append-nil stepped.got)) ∙ turn_law d next (asks d s c) stepped.got out stepped.comes [] in
     let quiet : IsQuiet u = session_quiet d commands out.session in
     let taken = quiet.taken in
-    let long = steps_length (asks d s c) stepped.got out stepped.steps in
+    let many = stepped.counted in
+    let long = steps_length (asks d s c) stepped.got out stepped.comes in
     let ends : Ends (world shelf old n) told stepped.got status (world shelf' new m) =
     ends_unput shelf shelf' old new n m (length out.set) told stepped.got status (block_of d out) u.blocks u.evs refl refl (omega (arith, taken))
     (served_more shelf shelf' (requests_of (asks d s c)) u.requests stepped.got long quiet.asked stepped.served) stepped.served.calls is_cut
@@ -127,7 +142,7 @@ command_unput d s c out rb ra shelf shelf' old new n m status stepped is_cut mem
       | inl p ↦ nothing_first old new (block_of d out) u.blocks (memory is).0 p
       | inr p ↦ refused_whole old new (block_of d out) u.blocks (memory is).0 p
     ])
-    (λ is. first_front old new (block_of d out) u.blocks (fault is).0 (fault is).1) (λ is. (fault is).2) later counts in
+    (λ is. first_front old new (block_of d out) u.blocks (subst (λ (b : List ℕ). CutShort old.written new.written b) block (fault is).0) (fault is).1) (λ is. (fault is).2) later (omega (arith, counts, many)) in
     record { got = stepped.got; replies = stepped.replies; ends = subst (λ (t : Told). Ends (world shelf old n) t stepped.got status (world shelf' new m)) (sym law) ends }
 
 -- what is left to tell where a command was cut short
@@ -136,44 +151,47 @@ record Short (shelf : ShelfState) (t : Told) (got : List Reply) (shelf' : ShelfS
   served : ServedOrOneMore shelf t.requests got shelf'
   most : entries ≤ sum (take 1 t.evs)
 
-turn_short : (d : Desk) (next : editor.Session → List Reply → Told) (a : Ask) (got : List Reply) (entries : ℕ) (shelf shelf' : ShelfState) → ((s : editor.Session) → IsQuiet (next s []))
-    → StepsCut a got entries → ServedOrOneMore shelf (requests_of a) got shelf' → Short shelf (turn d next a got) got shelf' entries
-turn_short d next (Tells step) got entries shelf shelf' quiet (none, le) served =
+turn_short : (d : Desk) (next : editor.Session → List Reply → Told) (a : Ask) (got : List Reply) (now : List Instance) (shelf shelf' : ShelfState) → ((s : editor.Session) → IsQuiet (next s []))
+    → IsCutShort d.spec a got now → ServedOrOneMore shelf (requests_of a) got shelf' → Short shelf (turn d next a got) got shelf' (length now)
+turn_short d next (Tells step) got now shelf shelf' quiet (none, some) served =
     let q : IsQuiet (next step.session []) = quiet step.session in
     let taken = q.taken in
-    let P : List Reply → Type 0 = λ g. ServedOrOneMore shelf [] g shelf' → Short shelf (turn d next (Tells step) g) g shelf' entries in
+    let few = some.few in
+    let P : List Reply → Type 0 = λ g. ServedOrOneMore shelf [] g shelf' → Short shelf (turn d next (Tells step) g) g shelf' (length now) in
     subst P (sym none) (λ h. record {
       taken = omega (arith, taken);
       served = served_more shelf shelf' [] (next step.session []).requests [] refl q.asked (served_exactly shelf shelf' [] [] refl h);
-      most = omega (arith, le);
+      most = omega (arith, few);
     }) served
-turn_short d next (Asks request answer) got entries shelf shelf' quiet (inl (none, le)) served =
-    let P : List Reply → Type 0 = λ g. ServedOrOneMore shelf (request ∷ []) g shelf' → Short shelf (turn d next (Asks request answer) g) g shelf' entries in
+turn_short d next (Asks request answer) got now shelf shelf' quiet (inl (none, nothing)) served =
+    let P : List Reply → Type 0 = λ g. ServedOrOneMore shelf (request ∷ []) g shelf' → Short shelf (turn d next (Asks request answer) g) g shelf' (length now) in
+    let few : length now ≡ 0 = ap length nothing in
     subst P (sym none) (λ h. record {
       taken = refl;
       served = h;
-      most = omega (arith, le);
+      most = omega (arith, few);
     }) served
-turn_short d next (Asks request answer) got entries shelf shelf' quiet (inr (reply, is_reply, kind, le)) served =
+turn_short d next (Asks request answer) got now shelf shelf' quiet (inr (reply, is_reply, kind, some)) served =
     let u : Told = next (answer reply).session [] in
     let q : IsQuiet u = quiet (answer reply).session in
     let taken = q.taken in
-    let P : List Reply → Type 0 = λ g. ServedOrOneMore shelf (request ∷ []) g shelf' → Short shelf (turn d next (Asks request answer) g) g shelf' entries in
-    let Q : Bool → Type 0 = λ b. Short shelf (if b then before (taking request) (before (telling d (answer reply)) u) else unfinished request) (reply ∷ []) shelf' entries in
+    let few = some.few in
+    let P : List Reply → Type 0 = λ g. ServedOrOneMore shelf (request ∷ []) g shelf' → Short shelf (turn d next (Asks request answer) g) g shelf' (length now) in
+    let Q : Bool → Type 0 = λ b. Short shelf (if b then before (taking request) (before (telling d (answer reply)) u) else unfinished request) (reply ∷ []) shelf' (length now) in
     subst P (sym is_reply) (λ h. subst Q (sym kind) (record {
       taken = omega (arith, taken);
       served = served_more shelf shelf' (request ∷ []) u.requests (reply ∷ []) refl q.asked (served_exactly shelf shelf' (request ∷ []) (reply ∷ []) refl h);
-      most = omega (arith, le);
+      most = omega (arith, few);
     })) served
 
 -- a command was cut short
-pub command_cut : (d : Desk) (s : editor.Session) (c : Command) (entries : ℕ) (rb ra : List Reply) (shelf shelf' : ShelfState) (sink : SinkState) (n m : ℕ)
-    → Interrupted (asks d s c) entries rb ra shelf shelf' → m ≡ n + entries
+pub command_cut : (d : Desk) (s : editor.Session) (c : Command) (now : List Instance) (rb ra : List Reply) (shelf shelf' : ShelfState) (sink : SinkState) (n m : ℕ)
+    → Interrupted d.spec (asks d s c) now rb ra shelf shelf' → m ≡ n + length now
     → (commands : List Command) → Played (session d s (c ∷ commands)) rb ra Memory (world shelf sink n) (world shelf' sink m)
-command_cut d s c entries rb ra shelf shelf' sink n m cut counts commands =
+command_cut d s c now rb ra shelf shelf' sink n m cut counts commands =
     let next : editor.Session → List Reply → Told = λ x more. session d x commands more in
-    let short : Short shelf (turn d next (asks d s c) cut.got) cut.got shelf' entries =
-    turn_short d next (asks d s c) cut.got entries shelf shelf' (session_quiet d commands) cut.steps cut.served in
+    let short : Short shelf (turn d next (asks d s c) cut.got) cut.got shelf' (length now) =
+    turn_short d next (asks d s c) cut.got now shelf shelf' (session_quiet d commands) cut.cut cut.served in
     let most = short.most in
     record {
       got = cut.got;

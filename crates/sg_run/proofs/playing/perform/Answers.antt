@@ -1,6 +1,6 @@
 use Rattle.std.proofs.Common.{◌≡◌, ◌≤◌, ◌<◌, ◌+◌, ◌∷◌, ℕ, List, length, drop, get_or, arith, refl, sym, ap, ◌∙◌, subst}
 use Rattle.sg_eval.specs.Journal.{counted}
-use Rattle.sg_editor.specs.View.{session_of}
+use Rattle.sg_editor.specs.Editing.{session_of}
 use Rattle.sg_run.specs.DeskView.{desk_in}
 use Rattle.sg_told.proofs.Exits.{ended_is}
 use Rattle.sg_told.proofs.Requests.{passed_start, passed_after, played_after, played_as}
@@ -27,7 +27,7 @@ loop-command-preserved g c =
           (session_next (desk_in c.args.editor.now r) (session_of c.loop-command.editor) x (drop (i + 1) c.args.commands.now) (drop i c.args.commands.now) _ _ _ _ _ at (inv.passed r right))
           (passed_at (desk_in c.loop-command.editor r) (desk_in c.args.editor.now r) _ _ _ _ _ _ _ _ (inv.kept r)
           (c.in_ok-play.ensures.passed r (readers_at (desk_in c.loop-command.editor r) (desk_in c.args.editor.now r) r (inv.kept r) right) (drop (i + 1) c.args.commands.now)));
-      room = let r = inv.room in let m = c.play.ensures.most in omega arith;
+      room = let r = inv.room in let m = c.in_ok-play.ensures.most in omega (arith, r, m);
     }
 
 pub returns-in_err-play : goal.returns-in_err-play

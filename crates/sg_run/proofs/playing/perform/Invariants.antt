@@ -1,7 +1,7 @@
 use Rattle.std.proofs.Common.{◌≡◌, ◌≤◌, ◌+◌, ◌*◌, ◌^◌, drop}
 use Rattle.sg_eval.specs.Journal.{counted}
 use Rattle.sg_editor.specs.Ask.{Readers, AreReaders}
-use Rattle.sg_editor.specs.View.{spec_in, session_of}
+use Rattle.sg_editor.specs.Editing.{spec_in, session_of}
 use Rattle.sg_told.specs.Session.{session}
 use Rattle.sg_told.specs.World.{world_of}
 use Rattle.sg_told.specs.Parts.{Passed}

@@ -1,54 +1,47 @@
-use Rattle.std.proofs.Common.{◌≡◌, ◌+◌, ◌≤◌, ℕ, List, length, Result, arith, refl, sym, ap, ◌∙◌, subst, inl, inr, rw}
+use Rattle.std.proofs.Common.{◌≡◌, ◌+◌, ◌≤◌, ℕ, List, length, Result, arith, refl, sym, ap, ◌∙◌, subst, inl, inr}
 use Rattle.sg_eval.specs.Journal.{counted, now_of}
 use Rattle.sg_eval.specs.declared.journal.Instance.{Instance}
-use Rattle.sg_editor.specs.Ask.{Step}
-use Rattle.sg_editor.specs.View.{spec_in, width_in, height_in, session_of}
+use Rattle.sg_editor.specs.Editing.{Setting, session_of}
 use Rattle.sg_editor.specs.Screen.{screen}
 use Rattle.sg_outside.specs.Sink.{appended, CutShort}
+use Rattle.sg_told.specs.Session.{Desk, desk}
 use Rattle.sg_told.specs.declared.status.Status.TheVariants.{Memory, SinkFault}
 use Rattle.sg_told.specs.Statuses.{sink_status}
 use Rattle.sg_told.proofs.Exits.{exits, is_cut, memory_of, fault_of}
-use Rattle.sg_told.proofs.Turns.{block_of, command_passed, command_cut, command_unput}
+use Rattle.sg_told.proofs.Turns.{command_passed, command_cut, command_unput}
 use Rattle.sg_run.specs.DeskView.{desk_in}
-use Rattle.sg_run.proofs.Screens.{same_screen}
+use Rattle.sg_run.proofs.Screens.{shown_at}
 use Rattle.sg_run.proofs.playing.play.Goals as goal
 
 pub returns-in_err-message-clause-played : goal.returns-in_err-message-clause-played
 returns-in_err-message-clause-played g c = λ r right.
     let counts : counted c.step.new.journal ≡ counted c.args.journal.now + length (now_of c.step.new.journal) = omega (arith, c.step.ensures.total) in
     exits _ Memory _ c.from_residual.ensures.1
-    (λ commands. command_cut (desk_in c.args.editor.now r) (session_of c.args.editor.now) c.args.command.now (length (now_of c.step.new.journal)) _ _ _ _ _ _ _ (c.in_err-message.ensures.err r right) counts commands)
+    (λ commands. command_cut (desk_in c.args.editor.now r) (session_of c.args.editor.now) c.args.command.now (now_of c.step.new.journal) _ _ _ _ _ _ _ (c.in_err-message.ensures.err r right) counts commands)
 
 pub returns-in_err-block-clause-played : goal.returns-in_err-block-clause-played
 returns-in_err-block-clause-played g c = λ r right.
-    let s = c.in_ok-message.ensures.ok r right in
-    let counts : counted c.step.new.journal ≡ counted c.args.journal.now + length s.0.set = omega (arith, c.step.ensures.total, s.3) in
+    let counts : counted c.step.new.journal ≡ counted c.args.journal.now + length (now_of c.step.new.journal) = omega (arith, c.step.ensures.total) in
     exits _ Memory _ c.from_residual-in_err-block.ensures.1
-    (λ commands. command_unput (desk_in c.args.editor.now r) (session_of c.args.editor.now) c.args.command.now s.0 _ _ _ _ _ _ _ _ Memory s.4 tt
-    (λ is. (refl, inl refl)) (λ is. cc) (omega arith) counts commands)
+    (λ commands. command_unput (desk_in c.args.editor.now r) (session_of c.args.editor.now) c.args.command.now c.step.new.self c.in_ok-message.message (now_of c.step.new.journal)
+    _ _ _ _ _ _ _ _ Memory (c.in_ok-message.ensures.ok r right) tt (λ is. (refl, inl refl)) (λ is. cc) (omega arith) counts commands)
 
 pub returns-in_err-put-clause-played : goal.returns-in_err-put-clause-played
 returns-in_err-put-clause-played g c = λ r right.
-    let s = c.in_ok-message.ensures.ok r right in
-    let counts : counted c.step.new.journal ≡ counted c.args.journal.now + length s.0.set = omega (arith, c.step.ensures.total, s.3) in
+    let counts : counted c.step.new.journal ≡ counted c.args.journal.now + length (now_of c.step.new.journal) = omega (arith, c.step.ensures.total) in
     let e = c.in_err-put.field-0.0 in
-    let k = c.step.ensures.window in
-    let block : c.as_slice.result.now ≡ block_of (desk_in c.args.editor.now r) s.0 =
-    c.as_slice.ensures.value ∙ c.in_ok-block.ensures
-    ∙ same_screen _ _ _ _ _ _ _ _ _ _ _ _ c.step.ensures.spec k.0 k.1 (sym s.1) (sym s.2) (ap (λ (es : List Instance). length es) c.now.ensures ∙ sym s.3) in
+    let block = shown_at c.args.editor.now c.step.new.self _ _ _ _ (c.as_slice.ensures.value ∙ c.in_ok-block.ensures) c.step.ensures.setting (ap (λ (es : List Instance). length es) c.now.ensures) in
     let P : List ℕ → Type 0 = λ b. CutShort (g.K.Sink.written c.args.sink.now) (g.K.Sink.written c.put.new.self) b in
     exits _ (sink_status e) _ c.from_residual-in_err-put.ensures.1
-    (λ commands. command_unput (desk_in c.args.editor.now r) (session_of c.args.editor.now) c.args.command.now s.0 _ _ _ _ _ _ _ _ (sink_status e) s.4 (is_cut e)
+    (λ commands. command_unput (desk_in c.args.editor.now r) (session_of c.args.editor.now) c.args.command.now c.step.new.self c.in_ok-message.message (now_of c.step.new.journal)
+    _ _ _ _ _ _ _ _ (sink_status e) (c.in_ok-message.ensures.ok r right) (is_cut e)
     (λ is. (memory_of e _ c.in_err-put.ensures.memory is, inr c.in_err-put.ensures.counted))
     (λ is. (subst P block (fault_of e _ c.in_err-put.ensures.failed is), c.in_err-put.ensures.counted, fault_of e _ c.in_err-put.ensures.cause is)) c.in_err-put.ensures.later counts commands)
 
 pub returns-clause-passed : goal.returns-clause-passed
 returns-clause-passed g c = λ r right.
-    let s = c.in_ok-message.ensures.ok r right in
-    let counts : counted c.step.new.journal ≡ counted c.args.journal.now + length s.0.set = omega (arith, c.step.ensures.total, s.3) in
-    let k = c.step.ensures.window in
-    let block : c.as_slice.result.now ≡ block_of (desk_in c.args.editor.now r) s.0 =
-    c.as_slice.ensures.value ∙ c.in_ok-block.ensures
-    ∙ same_screen _ _ _ _ _ _ _ _ _ _ _ _ c.step.ensures.spec k.0 k.1 (sym s.1) (sym s.2) (ap (λ (es : List Instance). length es) c.now.ensures ∙ sym s.3) in
-    λ commands. command_passed (desk_in c.args.editor.now r) (session_of c.args.editor.now) (session_of c.step.new.self) c.args.command.now s.0 _ _ _ _ _ _ _ _ s.4 s.1
+    let counts : counted c.step.new.journal ≡ counted c.args.journal.now + length (now_of c.step.new.journal) = omega (arith, c.step.ensures.total) in
+    let block = shown_at c.args.editor.now c.step.new.self _ _ _ _ (c.as_slice.ensures.value ∙ c.in_ok-block.ensures) c.step.ensures.setting (ap (λ (es : List Instance). length es) c.now.ensures) in
+    λ commands. command_passed (desk_in c.args.editor.now r) (session_of c.args.editor.now) c.args.command.now c.step.new.self c.in_ok-message.message (now_of c.step.new.journal)
+    _ _ _ _ _ _ _ _ (c.in_ok-message.ensures.ok r right)
     (c.in_ok-put.ensures.ok ∙ ap (λ (b : List ℕ). appended (g.K.Sink.written c.args.sink.now) b) block) c.in_ok-put.ensures.counted c.in_ok-put.ensures.later counts commands
