@@ -34,3 +34,15 @@ returns-in-Some-Check g c =
       known = read_job _ (Check c.in-Some-Check.name.now) _ _ _ _ _ (sym is) refl (c.check.ensures.known (counted c.args.journal.now));
       played = λ r right. told_by (Some (Check c.in-Some-Check.name.now)) r (map string_bytes c.args.words.now) _ _ _ _ _ is (c.check.ensures.played r right (counted c.args.journal.now));
     }
+
+pub call-run_script-requires : goal.call-run_script-requires
+call-run_script-requires g c = ?
+
+pub returns-in-Some-Run : goal.returns-in-Some-Run
+returns-in-Some-Run g c =
+    let j = c.in-Some-Run in
+    let is : Some (Run j.name.now j.script_name.now j.width j.height) ≡ job (map string_bytes c.args.words.now) = sym (ap (λ (j : Words). Some (job_of j)) j.field-0-is) ∙ j.ensures.job in
+    record {
+      known = read_job _ (Run j.name.now j.script_name.now j.width j.height) _ _ _ _ _ (sym is) refl c.run_script.ensures.known;
+      played = λ r right. told_by (Some (Run j.name.now j.script_name.now j.width j.height)) r (map string_bytes c.args.words.now) _ _ _ _ _ is (c.run_script.ensures.played r right);
+    }
