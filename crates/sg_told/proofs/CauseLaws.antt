@@ -30,7 +30,7 @@ use Rattle.sg_told.specs.Causes.{IsRead, LastFailed, FirstFetched, SecondFetched
 use Rattle.sg_told.proofs.Opened.{reading_of, the_reading_is_right}
 
 -- what is told never ends so
-Never : Status → (List Reply → Told) → Type 0
+abbrev Never : Status → (List Reply → Told) → Type 0
 Never status f = (replies : List Reply) → (f replies).status ≡ Some status → ⊥
 
 -- commands end with Done or want a reply
@@ -83,7 +83,7 @@ usage_cause (Some (Run name script w h)) r replies is =
     (λ spec. script_never Usage (λ e. cc) (λ e. cc) (session (desk spec w h r.readers) start) script (λ commands. session_never Usage (λ e. cc) (desk spec w h r.readers) commands start)) replies is)
 
 -- what ends with a failed fetch, where no reply is left over
-FailsLast : (List Reply → Told) → Type 0
+abbrev FailsLast : (List Reply → Told) → Type 0
 FailsLast f = (replies : List Reply) → (f replies).status ≡ Some ReadFault → (f replies).taken ≡ length replies → LastFailed replies
 
 later_failed : (reply : Reply) (rest : List Reply) → LastFailed rest → LastFailed (reply ∷ rest)

@@ -18,7 +18,7 @@ use Rattle.sg_told.proofs.Requests.{played_fetched}
 use Rattle.sg_told.proofs.Opened.{opening_ok, read_of, verdict_of}
 
 -- the reply stands last
-pub fetched_last : (name : List ℕ) (reply : Reply) (rb rm ra : List Reply) (shelf shelf' : ShelfState) → Replied (whole_file name) reply shelf shelf' → rm ≡ rb → ra ≡ rm ++ reply ∷ [] → IsFetched name rb ra shelf shelf'
+abbrev pub fetched_last : (name : List ℕ) (reply : Reply) (rb rm ra : List Reply) (shelf shelf' : ShelfState) → Replied (whole_file name) reply shelf shelf' → rm ≡ rb → ra ≡ rm ++ reply ∷ [] → IsFetched name rb ra shelf shelf'
 fetched_last name reply rb rm ra shelf shelf' replied same last = record {
   reply = reply;
   last = last ∙ ap (λ (rs : List Reply). rs ++ reply ∷ []) same;
