@@ -1,12 +1,12 @@
 -- The block of a command that an editor showed
-use Rattle.std.proofs.Common.{◌≡◌, ℕ, List, ◌∷◌, subst, sym}
+use Rattle.std.proofs.Common.{◌≡◌, ℕ, List, ◌∷◌, subst, sym, ap, ◌∙◌}
 use Rattle.sg_screen.specs.declared.message.Message.{Message}
 use Rattle.sg_script.specs.declared.command.Command.{Command}
 use Rattle.sg_replies.specs.declared.reply.Reply.{Reply}
 use Rattle.sg_editor.specs.Session as editor
 use Rattle.sg_editor.specs.Screen.{screen}
 use Rattle.sg_editor.specs.Ask.{Readers, AreReaders}
-use Rattle.sg_editor.specs.Editing.{Editing, spec_in, width_in, height_in, session_of}
+use Rattle.sg_editor.specs.Editing.{Editing, Setting, spec_in, width_in, height_in, session_of}
 use Rattle.sg_told.specs.declared.status.Status.{Status}
 use Rattle.sg_told.specs.Session.{Desk, session}
 use Rattle.sg_told.specs.World.{World}
@@ -15,7 +15,8 @@ use Rattle.sg_told.specs.Parts.{Passed, Played}
 -- what was shown after a step, in the window before it
 pub shown_at : (a b : Editing) (said : Message) (ev count : ℕ) (bytes : List ℕ) → bytes ≡ screen (spec_in b) (width_in b) (height_in b) (session_of b) said ev → b.setting ≡ a.setting → ev ≡ count
     → bytes ≡ screen (spec_in a) (width_in a) (height_in a) (session_of b) said count
-shown_at a b said ev count bytes is same n = is ∙ (λ i. screen (same i).contents.spec (same i).width (same i).height (session_of b) said (n i))
+shown_at a b said ev count bytes is same n =
+    is ∙ ap (λ (x : Setting). screen x.contents.spec x.width x.height (session_of b) said ev) same ∙ ap (λ (k : ℕ). screen (spec_in a) (width_in a) (height_in a) (session_of b) said k) n
 
 -- at another desk that is the same
 pub passed_at : (d e : Desk) (s t : editor.Session) (c : Command) (commands : List Command) (rb ra : List Reply) (old new : World) → d ≡ e

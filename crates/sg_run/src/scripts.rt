@@ -1,5 +1,5 @@
 // The fetch of the script, and what may be wrong with what it brings.
-ghost use Rattle.std.specs.Prelude.{◌≡◌, ◌++◌, ◌∷◌, ◌≤◌, ℕ, List, [], length, IfOk, IfErr, Ok};
+ghost use Rattle.std.specs.Prelude.{◌≡◌, ◌≢◌, ◌++◌, ◌∷◌, ◌≤◌, ℕ, List, [], length, IfOk, IfErr, Ok, Err};
 ghost use Rattle.std.specs.Fmt.{decimal};
 ghost use Rattle.sg_replies.specs.Calls.{ShelfState};
 ghost use Rattle.sg_replies.specs.declared.reply.Reply.{Reply};
@@ -59,6 +59,21 @@ fn refuse<K: Sink>(alloc: Global, fault: &ScriptFault, sink: &mut K) -> Status
     }
 }
 
+/// Ends the run by why these bytes are no script: want of memory, or the line of the fault.
+fn end_by<K: Sink>(alloc: Global, bytes: &[u8], fault: &ScriptFault, sink: &mut K) -> Status
+    requires { fault.now ≢ ScriptFault.NoMemory → script_of bytes.now ≡ Err fault.now }
+    ensures { (next : List Command → Told) → ((commands : List Command) → IsQuiet (next commands))
+        → (shelf : ShelfState) (n : ℕ)
+        → Ends (world shelf (sink_state (K.written sink.old) (K.faults sink.old) (K.puts sink.old)) n)
+        (scanned (script_of bytes.now) next) [] result
+        (world shelf (sink_state (K.written sink.new) (K.faults sink.new) (K.puts sink.new)) n) }
+{
+    match fault {
+        ScriptFault::NoMemory => Status::Memory,
+        _ => refuse(alloc, fault, sink),
+    }
+}
+
 /// The commands that these bytes spell. An error says with which status the run is over.
 fn judge<K: Sink>(alloc: Global, bytes: &[u8], sink: &mut K) -> Result<Vec<Command>, Status>
     ensures read { IfOk result (λ commands. script_of bytes.now ≡ Ok commands.items) }
@@ -73,8 +88,7 @@ fn judge<K: Sink>(alloc: Global, bytes: &[u8], sink: &mut K) -> Result<Vec<Comma
 {
     match read(alloc, bytes) {
         Ok(commands) => Ok(commands),
-        Err(ScriptFault::NoMemory) => Err(Status::Memory),
-        Err(fault) => Err(refuse(alloc, &fault, sink)),
+        Err(fault) => Err(end_by(alloc, bytes, &fault, sink)),
     }
 }
 

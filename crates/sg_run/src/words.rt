@@ -1,5 +1,5 @@
 // The words of the command line.
-ghost use Rattle.std.specs.Prelude.{◌≡◌, ◌≤◌, map, string_bytes, IfSome};
+ghost use Rattle.std.specs.Prelude.{◌≡◌, map, string_bytes, IfSome};
 ghost use Rattle.std.specs.Option.{option_map};
 ghost use Rattle.sg_told.specs.Job.{job, size_of, sized as sized_job};
 ghost use Rattle.sg_run.specs.JobView.{job_of, HasWindow};
@@ -18,8 +18,7 @@ pub enum Job<'a> {
 
 /// A width or a height: a number from 1 to 1,024 in decimal digits, of which the first is no 0.
 fn size(word: &str) -> Option<usize>
-    ensures value { result ≡ size_of word.now }
-    ensures bounds { IfSome result (λ n. (1 ≤ n) × (n ≤ 1024)) }
+    ensures { result ≡ size_of word.now }
 {
     let bytes = word.as_bytes();
     if bytes.is_empty() || bytes[0] <= b'0' {

@@ -9,3 +9,4 @@ pub mod Jobs
 pub mod Blank
 pub mod CauseLaws
 pub mod Exits
+pub mod Worked
