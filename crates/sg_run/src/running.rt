@@ -1,5 +1,5 @@
 // The whole run.
-ghost use Rattle.std.specs.Prelude.{◌≡◌, ◌≢◌, ◌≤◌, ◌<◌, ◌^◌, ◌+◌, ◌⊎◌, ℕ, [], map, sum, length, string_bytes, IsSome, Some, None};
+ghost use Rattle.std.specs.Prelude.{◌≡◌, ◌≢◌, ◌≤◌, ◌<◌, ◌^◌, ◌+◌, ◌⊎◌, ℕ, [], map, sum, length, string_bytes, IsSome, Some, None, IfOk};
 ghost use Rattle.sg_eval.specs.Journal.{counted};
 ghost use Rattle.sg_outside.specs.Count.{Rose, raised_by, tallied};
 ghost use Rattle.sg_outside.specs.Sink.{CutShort, appended};
@@ -8,7 +8,7 @@ ghost use Rattle.sg_replies.specs.Requests.{Serves, failures};
 ghost use Rattle.sg_told.specs.Statuses.{IsEnd, IsCut, ended};
 ghost use Rattle.sg_told.specs.Job.{job};
 ghost use Rattle.sg_told.specs.Told.{joined};
-ghost use Rattle.sg_told.specs.Output.{told, with_spec, shown, checked, performed};
+ghost use Rattle.sg_told.specs.Output.{told, with_spec, shown, checked, performed, first_command};
 ghost use Rattle.sg_told.specs.Reading.{Reading, IsRight};
 ghost use Rattle.sg_told.specs.World.{world_of, WroteCounted, WholeBlocks};
 ghost use Rattle.sg_told.specs.Parts.{Ends, Played};
@@ -21,6 +21,7 @@ use crate::scripts::script;
 use crate::words::{Job, read};
 use crate::Status;
 use sg_eval::Journal;
+use sg_kinds::memory::NoMemory;
 use sg_kinds::text::Text;
 use sg_outside::{Shelf, Sink};
 use sg_replies::Reply;
@@ -48,6 +49,15 @@ fn end(status: Status) -> Result<(), Status>
     }
 }
 
+// The one command of the first screen.
+fn first_command(alloc: Global) -> Result<Vec<Command>, NoMemory>
+    ensures { IfOk result (λ commands. commands.items ≡ first_command) }
+{
+    let mut commands = Vec::new(alloc);
+    commands.push(Command::New(Text::from_slice(alloc, b"main")?))?;
+    Ok(commands)
+}
+
 // In these an error says with which status the run is over.
 fn show<S: Shelf, K: Sink>(
     alloc: Global,
@@ -69,8 +79,10 @@ fn show<S: Shelf, K: Sink>(
         (world_of S.files S.faults S.calls shelf.new K.written K.faults K.puts sink.new (counted journal.new)) }
 {
     let loaded = open(alloc, name, shelf, sink, replies)?;
-    let first = [Command::New(Text::from_slice(alloc, b"main")?)];
-    play_all(alloc, loaded, 80, 24, &first, shelf, sink, journal, replies)
+    let commands = first_command(alloc)?;
+    play_all(
+        alloc, loaded, 80, 24, commands.as_slice(), shelf, sink, journal, replies,
+    )
 }
 
 fn check<S: Shelf, K: Sink>(

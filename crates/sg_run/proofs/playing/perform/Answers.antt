@@ -25,7 +25,7 @@ loop-command-preserved g c =
       kept = λ r. c.play.ensures.kept r ∙ inv.kept r;
       passed = λ r right. passed_after _ _ _ _ _ _ _ _ _
           (session_next (desk_in c.args.editor.now r) (session_of c.loop-command.editor) x (drop (i + 1) c.args.commands.now) (drop i c.args.commands.now) _ _ _ _ _ at (inv.passed r right))
-          (passed_at (desk_in c.loop-command.editor r) (desk_in c.args.editor.now r) _ _ _ _ _ _ _ _ (inv.kept r)
+          (passed_at (desk_in c.loop-command.editor r) (desk_in c.args.editor.now r) (session_of c.loop-command.editor) (session_of c.play.new.editor) x (drop (i + 1) c.args.commands.now) _ _ _ _ (inv.kept r)
           (c.in_ok-play.ensures.passed r (readers_at (desk_in c.loop-command.editor r) (desk_in c.args.editor.now r) r (inv.kept r) right) (drop (i + 1) c.args.commands.now)));
       room = let r = inv.room in let m = c.in_ok-play.ensures.most in omega (arith, r, m);
     }
@@ -39,7 +39,7 @@ returns-in_err-play g c = λ r right.
     played_as _ _ _ _ _ _ _ (ended_is c.in_err-play.field-0.0 _ c.from_residual.ensures.1)
     (played_after _ _ _ _ _ _ _ _ _
     (session_next (desk_in c.args.editor.now r) (session_of c.loop-command.editor) x (drop (i + 1) c.args.commands.now) (drop i c.args.commands.now) _ _ _ _ _ at (inv.passed r right))
-    (played_at_desk (desk_in c.loop-command.editor r) (desk_in c.args.editor.now r) _ _ _ _ _ _ _ (inv.kept r)
+    (played_at_desk (desk_in c.loop-command.editor r) (desk_in c.args.editor.now r) (session_of c.loop-command.editor) (x ∷ drop (i + 1) c.args.commands.now) _ _ _ _ _ (inv.kept r)
     (c.in_err-play.ensures.played r (readers_at (desk_in c.loop-command.editor r) (desk_in c.args.editor.now r) r (inv.kept r) right) (drop (i + 1) c.args.commands.now))))
 
 pub returns : goal.returns

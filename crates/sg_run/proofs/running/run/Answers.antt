@@ -46,3 +46,13 @@ returns-clause-script_fault g c = λ is.
 pub returns-clause-complete : goal.returns-clause-complete
 returns-clause-complete g c = λ shelf sink some fit.
     done_or_memory (job (map string_bytes c.args.words.now)) c.run_to_end.result.replies.items c.run_to_end.result.status _ _ shelf sink some fit c.run_to_end.ensures.known c.run_to_end.ensures.ended
+
+pub returns-clause-calls : goal.returns-clause-calls
+returns-clause-calls g c = λ other.
+    let k = right_of _ _ _ _ _ c.run_to_end.ensures.known other in
+    let e = c.run_to_end.ensures.ended k.0 k.1 in e.calls other
+
+pub returns-clause-sink_fault : goal.returns-clause-sink_fault
+returns-clause-sink_fault g c = λ is.
+    let k = right_of _ _ _ _ _ c.run_to_end.ensures.known (λ m. cc) in
+    let e = c.run_to_end.ensures.ended k.0 k.1 in e.sink_fault is

@@ -35,9 +35,6 @@ returns-in-Some-Check g c =
       played = λ r right. told_by (Some (Check c.in-Some-Check.name.now)) r (map string_bytes c.args.words.now) _ _ _ _ _ is (c.check.ensures.played r right (counted c.args.journal.now));
     }
 
-pub call-run_script-requires : goal.call-run_script-requires
-call-run_script-requires g c = ?
-
 pub returns-in-Some-Run : goal.returns-in-Some-Run
 returns-in-Some-Run g c =
     let j = c.in-Some-Run in

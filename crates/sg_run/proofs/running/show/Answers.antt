@@ -19,11 +19,11 @@ returns-in_err-loaded g c = record {
       (c.in_err-loaded.ensures.played r.verdict right.verdict (shown r.readers) (λ spec. session_quiet (desk spec 80 24 r.readers) first_command start) (counted c.args.journal.now));
 }
 
-pub returns-in_err-from_slice : goal.returns-in_err-from_slice
-returns-in_err-from_slice g c =
+pub returns-in_err-commands : goal.returns-in_err-commands
+returns-in_err-commands g c =
     let o = c.in_ok-loaded.ensures.opened in
     let spec = c.in_ok-loaded.loaded.spec in
-    let over = ended_is Memory _ c.from_residual-in_err-from_slice.ensures.1 in
+    let over = ended_is Memory _ c.from_residual-in_err-commands.ensures.1 in
     let quiet = c.in_ok-loaded.ensures.quiet in
     record {
       known = read_as _ _ _ _ _ _ over (read_opened c.args.name.now spec _ _ _ _ (λ readers. shown readers spec) _ _ _ Memory o
@@ -37,10 +37,9 @@ returns g c =
     let o = c.in_ok-loaded.ensures.opened in
     let spec = c.in_ok-loaded.loaded.spec in
     let quiet = c.in_ok-loaded.ensures.quiet in
-    let commands : c.play_all.args.commands.now ≡ first_command = ? in
     record {
       known = read_opened c.args.name.now spec _ _ _ _ (λ readers. shown readers spec) _ _ _ _ o
-          (λ readers read. session_from _ (desk spec 80 24 readers) _ start _ first_command _ _ _ _ _ refl refl commands (c.play_all.ensures readers read));
+          (λ readers read. session_from _ (desk spec 80 24 readers) _ start _ first_command _ _ _ _ _ refl refl (c.as_slice.ensures.value ∙ c.in_ok-commands.ensures) (c.play_all.ensures readers read));
       played = λ r right. played_opened c.args.name.now spec _ _ _ _ _ _ _ shown _ _ o quiet
-          (λ readers read. session_from _ (desk spec 80 24 readers) _ start _ first_command _ _ _ _ _ refl refl commands (c.play_all.ensures readers read)) r right;
+          (λ readers read. session_from _ (desk spec 80 24 readers) _ start _ first_command _ _ _ _ _ refl refl (c.as_slice.ensures.value ∙ c.in_ok-commands.ensures) (c.play_all.ensures readers read)) r right;
     }
