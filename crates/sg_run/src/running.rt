@@ -14,12 +14,12 @@ ghost use Rattle.sg_told.specs.World.{world_of, WroteCounted, WholeBlocks};
 ghost use Rattle.sg_told.specs.Parts.{Ends, Played};
 ghost use Rattle.sg_told.specs.Causes.{IsReadOf, IsRead, LastFailed, FirstFetched, SecondFetched, HasFault, IsNoScript, IsAccepted};
 
+use crate::Status;
 use crate::finishing::finish;
 use crate::opening::open;
 use crate::playing::play_all;
 use crate::scripts::script;
 use crate::words::{Job, read};
-use crate::Status;
 use sg_eval::Journal;
 use sg_kinds::memory::NoMemory;
 use sg_kinds::text::Text;
@@ -81,7 +81,15 @@ fn show<S: Shelf, K: Sink>(
     let loaded = open(alloc, name, shelf, sink, replies)?;
     let commands = first_command(alloc)?;
     play_all(
-        alloc, loaded, 80, 24, commands.as_slice(), shelf, sink, journal, replies,
+        alloc,
+        loaded,
+        80,
+        24,
+        commands.as_slice(),
+        shelf,
+        sink,
+        journal,
+        replies,
     )
 }
 
@@ -134,7 +142,15 @@ fn run_script<S: Shelf, K: Sink>(
     let opened = open(alloc, name, shelf, sink, replies)?;
     let commands = script(alloc, script_name, shelf, sink, replies)?;
     play_all(
-        alloc, opened, width, height, commands.as_slice(), shelf, sink, journal, replies,
+        alloc,
+        opened,
+        width,
+        height,
+        commands.as_slice(),
+        shelf,
+        sink,
+        journal,
+        replies,
     )
 }
 
@@ -162,7 +178,15 @@ fn run_job<S: Shelf, K: Sink>(
         Some(Job::Show(name)) => show(alloc, name, shelf, sink, journal, replies),
         Some(Job::Check(name)) => check(alloc, name, shelf, sink, replies),
         Some(Job::Run(name, script_name, width, height)) => run_script(
-            alloc, name, script_name, width, height, shelf, sink, journal, replies,
+            alloc,
+            name,
+            script_name,
+            width,
+            height,
+            shelf,
+            sink,
+            journal,
+            replies,
         ),
     }
 }

@@ -22,6 +22,7 @@ use sg_script::{Command, ScriptFault, read};
 use std::alloc::Global;
 
 const READ_FAULT: &[u8] = b"read fault script\n";
+
 const LONG: &[u8] = b"script long\n";
 
 /// The line of these words and a number.
@@ -93,11 +94,7 @@ fn judge<K: Sink>(alloc: Global, bytes: &[u8], sink: &mut K) -> Result<Vec<Comma
 }
 
 /// The commands of the script that a reply brought. An error says with which status the run is over.
-fn judge_reply<K: Sink>(
-    alloc: Global,
-    reply: &Reply,
-    sink: &mut K,
-) -> Result<Vec<Command>, Status>
+fn judge_reply<K: Sink>(alloc: Global, reply: &Reply, sink: &mut K) -> Result<Vec<Command>, Status>
     ensures read { IfOk result (λ commands. IsScriptOf reply.now commands.items) }
     ensures few { IfOk result (λ commands. length commands.items ≤ 10000) }
     ensures quiet { IfOk result (λ _. sink_state (K.written sink.new) (K.faults sink.new) (K.puts sink.new)

@@ -215,6 +215,7 @@ done_or_memory j replies status old new shelf sink some fit read ends = decide s
   where
     reading : (s : Status) → s ≢ Memory → IsRead j old replies s new → (r : Reading) × IsTheReading replies r
     reading s other k = reading_of j old new replies s k other
+
     decide : (s : Status) → IsRead j old replies s new → ((r : Reading) → IsRight replies r → Ends old (job_told j r replies) replies s new) → (s ≡ Done) ⊎ (s ≡ Memory)
     decide Done k e = inl refl
     decide Memory k e = inr refl

@@ -135,10 +135,13 @@ pub read_of : (name : List ℕ) (rb ra : List Reply) (shelf shelf' : ShelfState)
     → (f : IsFetched name rb ra shelf shelf') → IsKnownOf f.reply status old new → IsReadOf name (world shelf old n) ra status (world shelf' new n)
 read_of name rb ra shelf shelf' old new n status readers none f (inl k) =
     let alone : ra ≡ f.reply ∷ [] = f.last ∙ ap (λ (rs : List Reply). rs ++ f.reply ∷ []) none in
-    inl (record { verdict = Refused k.0; readers = readers }, record {
-      verdict = the_verdict_in ra [] f.reply (Refused k.0) alone k.1;
-      readers = no_readers k.0 readers;
-    })
+    inl (
+      record { verdict = Refused k.0; readers = readers },
+      record {
+        verdict = the_verdict_in ra [] f.reply (Refused k.0) alone k.1;
+        readers = no_readers k.0 readers;
+      },
+    )
 read_of name rb ra shelf shelf' old new n status readers none f (inr q) =
     let alone : ra ≡ f.reply ∷ [] = f.last ∙ ap (λ (rs : List Reply). rs ++ f.reply ∷ []) none in
     inr (record {
@@ -162,10 +165,13 @@ pub read_admitted : (name : List ℕ) (rb rm ra : List Reply) (shelf shelf' : Sh
     → (f : IsFetched name rb rm shelf shelf') → (a : IsAdmitted f.reply spec) → Played g rm ra status between new → IsReadOf name old ra status new
 read_admitted name rb rm ra shelf shelf' spec g old between new status none f a p =
     let all : ra ≡ f.reply ∷ p.got = p.replies ∙ ap (λ (rs : List Reply). rs ++ p.got) (f.last ∙ ap (λ (rs : List Reply). rs ++ f.reply ∷ []) none) in
-    inl (record { verdict = Accepted spec; readers = a.readers }, record {
-      verdict = the_verdict_in ra p.got f.reply (Accepted spec) all (the_verdict_of f.reply a.bytes (Accepted spec) a.brought a.verdict);
-      readers = λ other is. let same : spec ≡ other = cc in subst (λ (s : Spec). AreReaders s a.readers) same a.read;
-    })
+    inl (
+      record { verdict = Accepted spec; readers = a.readers },
+      record {
+        verdict = the_verdict_in ra p.got f.reply (Accepted spec) all (the_verdict_of f.reply a.bytes (Accepted spec) a.brought a.verdict);
+        readers = λ other is. let same : spec ≡ other = cc in subst (λ (s : Spec). AreReaders s a.readers) same a.read;
+      },
+    )
 
 -- and each right reading is of it
 pub reads_admitted : (name : List ℕ) (rb rm ra : List Reply) (shelf shelf' : ShelfState) (spec : Spec) (g : List Reply → Told) (between new : World) (status : Status) (r : Reading) → rb ≡ []
