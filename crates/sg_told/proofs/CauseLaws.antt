@@ -1,13 +1,12 @@
 -- The causes of a status follow from what the run tells
-use Rattle.std.proofs.Common.{◌≡◌, ◌≢◌, ◌⊎◌, inl, inr, ℕ, suc, ◌+◌, ◌≤◌, List, [], ◌∷◌, ◌++◌, Option, Some, None, IsSome, Result, Ok, Err, Bool, true, false, if◌then◌else◌, refl, sym, ap, ◌∙◌, subst, length, arith}
+use Rattle.std.proofs.Common.{◌≡◌, ◌≢◌, ◌⊎◌, inl, inr, ℕ, suc, ◌≤◌, List, [], ◌∷◌, ◌++◌, Option, Some, None, IsSome, Result, Ok, Err, Bool, true, false, if◌then◌else◌, refl, ap, ◌∙◌, subst, length, arith}
 use Rattle.sg_outside.specs.Count.{Rose, raised, raised_by}
 use Rattle.sg_kinds.specs.declared.spec.Spec.{Spec}
-use Rattle.sg_load.specs.Verdict.{Verdict, IsVerdict}
+use Rattle.sg_load.specs.Verdict.{Verdict}
 use Rattle.sg_load.specs.Verdict.Verdict.{Refused, Accepted}
 use Rattle.sg_replies.specs.declared.reply.Reply.{Reply}
 use Rattle.sg_replies.specs.declared.reply.Reply.TheVariants.{Fetched, FetchFailed, Kept, KeepFailed}
 use Rattle.sg_replies.specs.Requests.{Request, failures, fits}
-use Rattle.sg_replies.specs.Calls.{Served, ServedOrOneMore}
 use Rattle.sg_replies.proofs.Laws.{≤-raised_by}
 use Rattle.sg_script.specs.declared.command.Command.{Command}
 use Rattle.sg_script.specs.declared.fault.ScriptFault.{ScriptFault as NoScript}
@@ -20,7 +19,7 @@ use Rattle.sg_told.specs.declared.status.Status.{Status}
 use Rattle.sg_told.specs.declared.status.Status.TheVariants.{Done, Memory, Usage, ReadFault, SpecFault, ScriptFault, SinkFault}
 use Rattle.sg_told.specs.Job.{Job}
 use Rattle.sg_told.specs.Job.Job.{Show, Check, Run}
-use Rattle.sg_told.specs.Told.{Told, before, taking, unfinished, asked}
+use Rattle.sg_told.specs.Told.{Told, before, taking, unfinished}
 use Rattle.sg_told.specs.Session.{Desk, desk, telling, turn, asks, session}
 use Rattle.sg_told.specs.Output.{first_command, scanned, with_spec, with_script, shown, checked, performed, job_told}
 use Rattle.sg_told.specs.Reading.{Reading, IsVerdictIn, IsRight, IsTheReading}

@@ -1,5 +1,5 @@
 -- How a part of a run ends
-use Rattle.std.proofs.Common.{◌≡◌, ◌≢◌, ◌≤◌, ℕ, ◌+◌, List, [], ◌∷◌, take, sum, length, Option, Some, inl, inr, refl, sym, ap, ◌∙◌, subst, arith, append-nil}
+use Rattle.std.proofs.Common.{◌≡◌, ◌≤◌, ℕ, ◌+◌, List, [], ◌∷◌, take, sum, length, Option, Some, inl, inr, refl, sym, ap, ◌∙◌, subst, arith, append-nil}
 use Rattle.sg_outside.specs.Count.{Rose, tallied}
 use Rattle.sg_outside.specs.Sink.{CutShort, appended}
 use Rattle.sg_outside.proofs.Tally.{tallied-zero}

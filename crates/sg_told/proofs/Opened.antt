@@ -1,5 +1,5 @@
 -- What follows the fetches of the specification and of the script
-use Rattle.std.proofs.Common.{◌≡◌, ◌≢◌, ℕ, List, [], ◌∷◌, ◌++◌, Option, Some, None, Result, Ok, Err, IfOk, IfErr, inl, inr, refl, sym, ap, ◌∙◌, subst, arith}
+use Rattle.std.proofs.Common.{◌≡◌, ◌≢◌, ℕ, List, [], ◌∷◌, ◌++◌, Option, Some, Result, Ok, Err, IfOk, IfErr, inl, inr, refl, sym, ap, ◌∙◌, subst, arith}
 use Rattle.sg_kinds.specs.declared.spec.Spec.{Spec}
 use Rattle.sg_kinds.specs.declared.fault.SpecFault.{SpecFault as Fault}
 use Rattle.sg_kinds.specs.declared.fault.SpecFault.TheVariants as fault
@@ -18,14 +18,14 @@ use Rattle.sg_told.specs.declared.status.Status.{Status}
 use Rattle.sg_told.specs.declared.status.Status.TheVariants.{Memory, ReadFault, ScriptFault}
 use Rattle.sg_told.specs.Job.{Job, job, spec_name}
 use Rattle.sg_told.specs.Told.{Told, before, text, asked}
-use Rattle.sg_told.specs.Output.{opened, judged, scanned, scripted, fault_told, read_fault_text, script_missing_text, script_fault_text, whole_file, with_spec, with_script, job_told, told}
+use Rattle.sg_told.specs.Output.{opened, judged, scanned, scripted, read_fault_text, script_missing_text, script_fault_text, whole_file, with_spec, with_script, job_told, told}
 use Rattle.sg_told.specs.Reading.{Reading, IsVerdictIn, IsTheVerdictIn, AreReadersOf, IsRight, IsTheReading}
-use Rattle.sg_told.specs.Opening.{IsFetched, IsVerdictOf, IsTheVerdictOf, IsAdmitted, IsOpened, IsScriptOf, IsQuiet, Silent, IsKnown, IsKnownOf}
+use Rattle.sg_told.specs.Opening.{IsFetched, IsVerdictOf, IsTheVerdictOf, IsAdmitted, IsOpened, IsScriptOf, IsQuiet, IsKnown, IsKnownOf}
 use Rattle.sg_told.specs.Causes.{Unjudged, IsReadOf, IsRead}
 use Rattle.sg_told.specs.World.{SinkState, World, world}
 use Rattle.sg_told.specs.Parts.{Ends, Passed, Played, Finished}
 use Rattle.sg_told.proofs.Endings.{ends_as, ends_text}
-use Rattle.sg_told.proofs.Requests.{passed_fetched, played_fetched, played_after}
+use Rattle.sg_told.proofs.Requests.{passed_fetched, played_after}
 
 -- no reply is taken
 pub judged_quiet : (v : Verdict) (next : Spec → Told) → ((spec : Spec) → IsQuiet (next spec)) → IsQuiet (judged v next)

@@ -1,9 +1,9 @@
 -- The commands of a session
-use Rattle.std.proofs.Common.{◌≡◌, ◌≤◌, ◌<◌, ◌⊎◌, ℕ, ◌+◌, zero, suc, List, [], ◌∷◌, ◌++◌, length, take, drop, get_or, sum, None, Bool, IsTrue, refl, sym, ap, ◌∙◌, subst, arith, if◌then◌else◌, append-nil, inl, inr, add-one, drop-cons}
+use Rattle.std.proofs.Common.{◌≡◌, ◌≤◌, ◌<◌, ◌⊎◌, ℕ, ◌+◌, zero, suc, List, [], ◌∷◌, ◌++◌, length, take, drop, get_or, sum, None, Bool, refl, sym, ap, ◌∙◌, subst, arith, if◌then◌else◌, append-nil, inl, inr, add-one, drop-cons}
 use Rattle.sg_outside.specs.Count.{Rose, tallied}
 use Rattle.sg_outside.specs.Sink.{CutShort, appended}
 use Rattle.sg_replies.specs.declared.reply.Reply.{Reply}
-use Rattle.sg_replies.specs.Requests.{Request, fits}
+use Rattle.sg_replies.specs.Requests.{Request}
 use Rattle.sg_replies.specs.Calls.{ShelfState, Served, ServedOrOneMore}
 use Rattle.sg_replies.proofs.Laws.{none_or_one_more, served_then_or_one_more}
 use Rattle.sg_script.specs.declared.command.Command.{Command}
@@ -11,7 +11,7 @@ use Rattle.sg_editor.specs.Session as editor
 use Rattle.sg_editor.specs.Ask.{Step, Ask}
 use Rattle.sg_editor.specs.Ask.Ask.{Tells, Asks}
 use Rattle.sg_editor.specs.Editing.{Editing, session_of}
-use Rattle.sg_editor.specs.Steps.{Comes, AreSome, IsCutShort, Stepped, Interrupted, requests_of}
+use Rattle.sg_editor.specs.Steps.{Comes, IsCutShort, Stepped, Interrupted, requests_of}
 use Rattle.sg_eval.specs.declared.journal.Instance.{Instance}
 use Rattle.sg_kinds.specs.declared.spec.Spec.{Spec}
 use Rattle.sg_screen.specs.declared.message.Message.{Message}
@@ -20,7 +20,7 @@ use Rattle.sg_told.specs.declared.status.Status.{Status}
 use Rattle.sg_told.specs.declared.status.Status.TheVariants.{Done, Memory, SinkFault}
 use Rattle.sg_told.specs.Statuses.{IsCut}
 use Rattle.sg_told.specs.Opening.{IsQuiet}
-use Rattle.sg_told.specs.Told.{Told, before, unfinished, taking, asked}
+use Rattle.sg_told.specs.Told.{Told, before, unfinished, taking}
 use Rattle.sg_told.specs.Session.{Desk, telling, turn, asks, session}
 use Rattle.sg_told.specs.World.{SinkState, World, world}
 use Rattle.sg_told.specs.Parts.{Ends, Passed, Played}

@@ -1,5 +1,5 @@
 -- The causes of a status, by the replies
-use Rattle.std.specs.Prelude.{◌≡◌, ◌⊎◌, ℕ, List, [], ◌∷◌, ◌++◌, Option, Some, None, Ok, Err, ⊤}
+use Rattle.std.specs.Prelude.{◌≡◌, ◌⊎◌, ℕ, List, [], ◌∷◌, ◌++◌, Option, Some, Ok, Err, ⊤}
 use Rattle.sg_kinds.specs.declared.spec.Spec.{Spec}
 use Rattle.sg_kinds.specs.declared.fault.SpecFault.{SpecFault}
 use Rattle.sg_replies.specs.declared.reply.Reply.{Reply}
@@ -13,7 +13,7 @@ use Rattle.sg_load.specs.Verdict.Verdict.{Refused, Accepted}
 use Rattle.sg_told.specs.declared.status.Status.{Status}
 use Rattle.sg_told.specs.declared.status.Status.TheVariants.{Memory}
 use Rattle.sg_told.specs.Job.{Job, spec_name}
-use Rattle.sg_told.specs.Job.Job.{Show, Check, Run}
+use Rattle.sg_told.specs.Job.Job.{Run}
 use Rattle.sg_told.specs.Output.{whole_file}
 use Rattle.sg_told.specs.Reading.{Reading, IsTheReading}
 use Rattle.sg_told.specs.World.{World}

@@ -17,7 +17,6 @@ use Rattle.sg_script.specs.declared.fault.ScriptFault.TheVariants.{Long, Line, M
 use Rattle.sg_script.specs.Script.{script_of}
 use Rattle.sg_editor.specs.Ask.{Readers}
 use Rattle.sg_editor.specs.Session.{start}
-use Rattle.sg_told.specs.declared.status.Status.{Status}
 use Rattle.sg_told.specs.declared.status.Status.TheVariants.{Done, Usage, ReadFault, SpecFault, ScriptFault}
 use Rattle.sg_told.specs.Job.{Job, job}
 use Rattle.sg_told.specs.Job.Job.{Show, Check, Run}

@@ -1,4 +1,3 @@
-use Rattle.std.proofs.Common.{refl}
 use Rattle.sg_told.specs.declared.status.Status.TheVariants.{Memory}
 use Rattle.sg_told.specs.Output.{whole_file}
 use Rattle.sg_told.proofs.Exits.{exits}

@@ -1,6 +1,5 @@
-use Rattle.std.proofs.Common.{refl, [], sym, ◌∙◌}
+use Rattle.std.proofs.Common.{[], ◌∙◌}
 use Rattle.sg_load.specs.Loaded.{Contents}
-use Rattle.sg_told.specs.declared.status.Status.TheVariants.{Memory}
 use Rattle.sg_told.specs.Output.{opened}
 use Rattle.sg_told.proofs.Blank.{blank_readers}
 use Rattle.sg_told.proofs.Exits.{exits}

@@ -1,5 +1,4 @@
-use Rattle.std.proofs.Common.{◌≡◌, ◌≤◌, ◌<◌, ◌+◌, ◌∷◌, ℕ, List, length, drop, get_or, arith, refl, sym, ap, ◌∙◌, subst}
-use Rattle.sg_eval.specs.Journal.{counted}
+use Rattle.std.proofs.Common.{◌≡◌, ◌+◌, ◌∷◌, drop, arith, refl, ◌∙◌}
 use Rattle.sg_editor.specs.Editing.{session_of}
 use Rattle.sg_run.specs.DeskView.{desk_in}
 use Rattle.sg_told.proofs.Exits.{ended_is}

@@ -1,11 +1,9 @@
-use Rattle.std.proofs.Common.{◌≡◌, ◌+◌, ◌≤◌, ℕ, List, length, Result, arith, refl, sym, ap, ◌∙◌, subst, inl, inr}
+use Rattle.std.proofs.Common.{◌≡◌, ◌+◌, ℕ, List, length, arith, refl, ap, ◌∙◌, subst, inl, inr}
 use Rattle.sg_eval.specs.Journal.{counted, now_of}
 use Rattle.sg_eval.specs.declared.journal.Instance.{Instance}
-use Rattle.sg_editor.specs.Editing.{Setting, session_of}
-use Rattle.sg_editor.specs.Screen.{screen}
+use Rattle.sg_editor.specs.Editing.{session_of}
 use Rattle.sg_outside.specs.Sink.{appended, CutShort}
-use Rattle.sg_told.specs.Session.{Desk, desk}
-use Rattle.sg_told.specs.declared.status.Status.TheVariants.{Memory, SinkFault}
+use Rattle.sg_told.specs.declared.status.Status.TheVariants.{Memory}
 use Rattle.sg_told.specs.Statuses.{sink_status}
 use Rattle.sg_told.proofs.Exits.{exits, is_cut, memory_of, fault_of}
 use Rattle.sg_told.proofs.Turns.{command_passed, command_cut, command_unput}

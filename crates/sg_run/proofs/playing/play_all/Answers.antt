@@ -1,8 +1,8 @@
-use Rattle.std.proofs.Common.{◌≡◌, refl, sym, ap, ◌∙◌, [], arith}
+use Rattle.std.proofs.Common.{◌≡◌, refl}
 use Rattle.sg_eval.specs.Journal.{counted}
 use Rattle.sg_editor.specs.Session.{start}
 use Rattle.sg_editor.specs.Editing.{session_of}
-use Rattle.sg_told.specs.Session.{Desk, desk}
+use Rattle.sg_told.specs.Session.{desk}
 use Rattle.sg_told.proofs.Endings.{ends_early}
 use Rattle.sg_told.proofs.Exits.{ended_is}
 use Rattle.sg_told.proofs.Requests.{played_as, played_at}

@@ -1,4 +1,4 @@
-use Rattle.std.proofs.Common.{◌≡◌, refl, sym, ap, ◌∙◌, [], arith}
+use Rattle.std.proofs.Common.{refl, arith}
 use Rattle.sg_told.specs.declared.status.Status.TheVariants.{Done}
 use Rattle.sg_told.specs.Output.{checked, ok_text}
 use Rattle.sg_told.proofs.Exits.{ended_is}

@@ -1,9 +1,9 @@
-use Rattle.std.proofs.Common.{◌≡◌, Option, Some, None, sym, ap, ◌∙◌, map, string_bytes, inl, refl}
+use Rattle.std.proofs.Common.{◌≡◌, Some, None, sym, ap, ◌∙◌, map, string_bytes, refl}
 use Rattle.sg_eval.specs.Journal.{counted}
 use Rattle.sg_run.specs.declared.words.Job.{Job as Words}
 use Rattle.sg_run.specs.JobView.{job_of}
 use Rattle.sg_told.specs.declared.status.Status.TheVariants.{Usage}
-use Rattle.sg_told.specs.Job.{Job, job}
+use Rattle.sg_told.specs.Job.{job}
 use Rattle.sg_told.specs.Job.Job.{Show, Check, Run}
 use Rattle.sg_told.specs.Output.{job_told}
 use Rattle.sg_told.proofs.Blank.{blank_readers}

@@ -1,8 +1,8 @@
-use Rattle.std.proofs.Common.{◌≡◌, refl, sym, ap, ◌∙◌, [], List}
+use Rattle.std.proofs.Common.{refl}
 use Rattle.sg_eval.specs.Journal.{counted}
 use Rattle.sg_editor.specs.Session.{start}
 use Rattle.sg_told.specs.Session.{desk, session}
-use Rattle.sg_told.specs.Output.{performed, with_script}
+use Rattle.sg_told.specs.Output.{performed}
 use Rattle.sg_told.proofs.Exits.{ended_is}
 use Rattle.sg_told.proofs.Opened.{read_opened, played_opened, read_as, script_quiet}
 use Rattle.sg_told.proofs.Requests.{played_as, played_after}

@@ -1,9 +1,8 @@
-use Rattle.std.proofs.Common.{◌≡◌, refl, sym, ap, ◌∙◌, [], List}
+use Rattle.std.proofs.Common.{refl, ◌∙◌}
 use Rattle.sg_eval.specs.Journal.{counted}
 use Rattle.sg_editor.specs.Session.{start}
-use Rattle.sg_script.specs.declared.command.Command.{Command}
 use Rattle.sg_told.specs.declared.status.Status.TheVariants.{Memory}
-use Rattle.sg_told.specs.Session.{desk, session}
+use Rattle.sg_told.specs.Session.{desk}
 use Rattle.sg_told.specs.Output.{shown, first_command}
 use Rattle.sg_told.proofs.Exits.{ended_is}
 use Rattle.sg_told.proofs.Endings.{ends_early}

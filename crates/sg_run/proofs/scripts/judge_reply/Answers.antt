@@ -1,4 +1,4 @@
-use Rattle.std.proofs.Common.{◌≡◌, ℕ, List, [], sym, ap, ◌∙◌, refl}
+use Rattle.std.proofs.Common.{◌≡◌, ℕ, List, [], sym, ap, ◌∙◌}
 use Rattle.sg_replies.specs.declared.reply.Reply.TheVariants.{Fetched}
 use Rattle.sg_told.specs.declared.status.Status.TheVariants.{ReadFault}
 use Rattle.sg_told.proofs.Endings.{ends_as, ends_text}

@@ -1,4 +1,4 @@
-use Rattle.std.proofs.Common.{refl, Vec, Global}
+use Rattle.std.proofs.Common.{Vec, Global}
 use Rattle.sg_script.specs.declared.command.Command.{Command}
 use Rattle.sg_told.specs.Output.{scripted}
 use Rattle.sg_told.proofs.Exits.{exits}
