@@ -1,5 +1,5 @@
 //! Changes of a buffer's term, and the ways back and forth.
-ghost use Rattle.std.specs.Prelude.{◌≡◌, ◌↔◌, ℕ, [], true, false, IfOk, IsErrOf, IsErrAnd, OnErr, MatchOption, None, Some};
+ghost use Rattle.std.specs.Prelude.{◌≡◌, ◌≢◌, ◌↔◌, ℕ, [], true, false, IfOk, IsErrOf, IsErrAnd, OnErr, MatchOption, None, Some};
 ghost use Rattle.sg_kinds.specs.Fits.{Fits};
 ghost use Rattle.sg_kinds.specs.Places.{place_of, put, sub};
 ghost use Rattle.sg_kinds.specs.Sound.{IsSmall};
@@ -207,6 +207,7 @@ impl Buffer {
         ensures as_before { OnErr result (IsAsBefore self.old self.new) }
         ensures noted { OnErr result (OfFirst (state_of self.old).past (NotedBack self.old.grove.spec
             (state_of self.old).term (now_of journal.old) (now_of journal.new))) }
+        ensures some { OnErr result ((state_of self.old).past ≢ []) }
         ensures spec { self.new.grove.spec ≡ self.old.grove.spec }
         ensures height { self.new.height ≡ self.old.height }
         ensures total { total_of journal.new ≡ total_of journal.old }
@@ -258,6 +259,7 @@ impl Buffer {
         ensures as_before { OnErr result (IsAsBefore self.old self.new) }
         ensures noted { OnErr result (OfFirst (state_of self.old).future (NotedForth self.old.grove.spec
             (state_of self.old).term (now_of journal.old) (now_of journal.new))) }
+        ensures some { OnErr result ((state_of self.old).future ≢ []) }
         ensures spec { self.new.grove.spec ≡ self.old.grove.spec }
         ensures height { self.new.height ≡ self.old.height }
         ensures total { total_of journal.new ≡ total_of journal.old }

@@ -1,8 +1,1 @@
-pub mod Laws
-pub mod Endings
-pub mod Requests
-pub mod Opened
-pub mod CauseLaws
-pub mod Exits
-pub mod Fronts
-pub mod Worked
+pub mod Screens

@@ -1,8 +1,2 @@
-pub mod Statuses
-pub mod Job
 pub mod JobView
-pub mod Output
-pub mod World
-pub mod Parts
-pub mod Causes
-pub mod Opening
+pub mod DeskView

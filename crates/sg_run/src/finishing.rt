@@ -1,7 +1,7 @@
 // The text that ends a run.
-ghost use Rattle.sg_run.specs.Statuses.{IsEnd};
-ghost use Rattle.sg_run.specs.World.{sink_state};
-ghost use Rattle.sg_run.specs.Parts.{Finished};
+ghost use Rattle.sg_told.specs.Statuses.{IsEnd};
+ghost use Rattle.sg_told.specs.World.{sink_state};
+ghost use Rattle.sg_told.specs.Parts.{Finished};
 
 use crate::Status;
 use sg_outside::{Sink, SinkError};

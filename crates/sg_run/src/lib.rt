@@ -3,12 +3,11 @@
 #![tactic(auto)]
 
 mod finishing;
-mod jobs;
 mod opening;
 mod playing;
 mod running;
-mod status;
+mod scripts;
 mod words;
 
 pub use running::{Outcome, run};
-pub use status::Status;
+pub use sg_told::Status;

@@ -1,58 +1,56 @@
-// The fetch of the specification, and what may be wrong with what it brings.
-ghost use Rattle.std.specs.Prelude.{◌≡◌, ◌≤◌, ◌↔◌, ℕ, List, [], None, IsTrue, IfOk, IfErr, OnOk};
+// The fetches of a run, and what may be wrong with the specification that the first brings.
+ghost use Rattle.std.specs.Prelude.{◌≡◌, ◌≢◌, ◌<◌, ◌↔◌, ℕ, List, [], vec_len, vec_capacity, IsTrue, IfOk, IfErr, OnOk};
 ghost use Rattle.sg_kinds.specs.declared.spec.Spec.{Spec};
-ghost use Rattle.sg_outside.specs.Count.{raised_by};
 ghost use Rattle.sg_replies.specs.declared.reply.Reply.{Reply};
-ghost use Rattle.sg_replies.specs.Calls.{ShelfState, shelf_state};
-ghost use Rattle.sg_replies.specs.Requests.{failures};
-ghost use Rattle.sg_small_spec.specs.FirstFault.{first_fault};
-ghost use Rattle.sg_small_spec.specs.Showable.{IsShowable};
-ghost use Rattle.sg_small_spec.specs.SpecOf.{spec_of};
+ghost use Rattle.sg_replies.specs.Calls.{ShelfState, shelf_state, Replied};
 ghost use Rattle.sg_load.specs.Only.{IsTheVerdict};
 ghost use Rattle.sg_load.specs.Verdict.{Verdict, IsVerdict};
-ghost use Rattle.sg_load.specs.Verdict.Verdict.{Accepted};
-ghost use Rattle.sg_run.specs.Opening.{IsQuiet, IsEnding, IsFetched, IsKnown};
-ghost use Rattle.sg_run.specs.Output.{Told, asked, fault_told, judged, screened, specification};
-ghost use Rattle.sg_run.specs.Parts.{Ends, Played};
-ghost use Rattle.sg_run.specs.World.{SinkState, world, sink_state};
+ghost use Rattle.sg_load.specs.Verdict.Verdict.{Refused, Accepted};
+ghost use Rattle.sg_editor.specs.Ask.{Readers, AreReaders};
+ghost use Rattle.sg_told.specs.Told.{Told, asked};
+ghost use Rattle.sg_told.specs.Output.{fault_told, judged, opened, whole_file, with_spec};
+ghost use Rattle.sg_told.specs.Opening.{IsQuiet, IsOpened, IsKnown, IsKnownOf, IsVerdictOf, IsAdmitted};
+ghost use Rattle.sg_told.specs.Causes.{IsReadOf};
+ghost use Rattle.sg_told.specs.Reading.{IsVerdictIn};
+ghost use Rattle.sg_told.specs.Parts.{Ends, Played};
+ghost use Rattle.sg_told.specs.World.{SinkState, world, world_of, sink_state};
 
 use crate::Status;
 use crate::finishing::finish;
+use sg_editor::laws::readers_are_there;
 use sg_faults::fault_line;
 use sg_kinds::fault::SpecFault;
-use sg_kinds::spec::Spec;
 use sg_load::{Loaded, load};
 use sg_outside::{Shelf, Sink};
 use sg_replies::{Reply, add, fetched};
-use sg_small_spec::{SmallFault, load as load_small};
 use std::alloc::Global;
 
-// The most bytes that are fetched: one more than a specification may have.
+const READ_FAULT: &[u8] = b"read fault specification\n";
+
+// The most bytes that are fetched: one more than a specification or a script may have.
 const MOST: usize = 1_048_577;
 
-/// Fetches the specification of that name, by the first call of the shelf. An error says that there was no memory.
-pub fn fetch_spec<S: Shelf>(
+/// Fetches the file of that name by one call of the shelf, and makes room for the reply among the others. An error says
+/// that there was no memory.
+pub fn fetch<S: Shelf>(
     alloc: Global,
     name: &str,
     shelf: &mut S,
     replies: &mut Vec<Reply>,
-) -> Result<(), Status>
-    requires none { replies.old.items ≡ [] }
-    ensures fetched { OnOk result (IsFetched name.now replies.new.items
+) -> Result<Reply, Status>
+    ensures room { OnOk result (vec_len replies.new < vec_capacity replies.new) }
+    ensures same { replies.new.items ≡ replies.old.items }
+    ensures replied { IfOk result (λ reply. Replied (whole_file name.now) reply
         (shelf_state (S.files shelf.old) (S.faults shelf.old) (S.calls shelf.old))
         (shelf_state (S.files shelf.new) (S.faults shelf.new) (S.calls shelf.new))) }
-    ensures faults { raised_by (failures replies.new.items) (S.faults shelf.old) ≤ S.faults shelf.new }
-    ensures memory { IfErr result (λ status. status ≡ Status.Memory) }
-    ensures none { IfErr result (λ _. replies.new.items ≡ []) }
-    ensures ended { IfErr result (λ status. (next : Reply → List Reply → Told) (sink : SinkState) (n : ℕ)
-        → Played (asked (specification name.now) next) [] replies.new.items status
+    ensures played { IfErr result (λ status. (next : Reply → List Reply → Told) (sink : SinkState) (n : ℕ)
+        → Played (asked (whole_file name.now) next) replies.old.items replies.new.items status
         (world (shelf_state (S.files shelf.old) (S.faults shelf.old) (S.calls shelf.old)) sink n)
         (world (shelf_state (S.files shelf.new) (S.faults shelf.new) (S.calls shelf.new)) sink n)) }
 {
     replies.reserve(1)?;
     let reply = fetched(alloc, shelf, name, MOST)?;
-    add(replies, reply);
-    Ok(())
+    Ok(reply)
 }
 
 // Whether there was not enough memory to judge a specification.
@@ -75,9 +73,15 @@ fn refuse<K: Sink>(alloc: Global, fault: &SpecFault, sink: &mut K) -> Status
 }
 
 /// Ends the run by what there is in place of a specification: want of memory, or a static fault.
-fn end_by<K: Sink>(alloc: Global, fault: &SpecFault, sink: &mut K) -> Status
-    ensures { (n : ℕ) → IsEnding n fault.now result (sink_state (K.written sink.old) (K.faults sink.old)
-        (K.puts sink.old)) (sink_state (K.written sink.new) (K.faults sink.new) (K.puts sink.new)) }
+fn end_by<K: Sink>(alloc: Global, bytes: &[u8], fault: &SpecFault, sink: &mut K) -> Status
+    requires { fault.now ≢ SpecFault.NoMemory → IsTheVerdict bytes.now (Refused fault.now) }
+    ensures known { IsKnown bytes.now result (sink_state (K.written sink.old) (K.faults sink.old) (K.puts sink.old))
+        (sink_state (K.written sink.new) (K.faults sink.new) (K.puts sink.new)) }
+    ensures ended { (v : Verdict) → IsVerdict bytes.now v → (next : Spec → Told)
+        → ((spec : Spec) → IsQuiet (next spec)) → (shelf : ShelfState) (n : ℕ)
+        → Ends (world shelf (sink_state (K.written sink.old) (K.faults sink.old) (K.puts sink.old)) n)
+        (judged v next) [] result
+        (world shelf (sink_state (K.written sink.new) (K.faults sink.new) (K.puts sink.new)) n) }
 {
     if is_memory(fault) {
         return Status::Memory;
@@ -85,42 +89,86 @@ fn end_by<K: Sink>(alloc: Global, fault: &SpecFault, sink: &mut K) -> Status
     refuse(alloc, fault, sink)
 }
 
+/// There are readers of the texts of an accepted specification. This does nothing and tells it.
+fn tell_readers(loaded: &Loaded)
+    ensures { (r : Readers) × AreReaders loaded.now.spec r }
+{
+    loaded.facts();
+    loaded.tables.sound();
+    loaded.tables.decided();
+    readers_are_there();
+}
+
 /// Loads the specification of these bytes. An error says with which status the run is over.
-pub fn judge<K: Sink>(alloc: Global, bytes: &[u8], sink: &mut K) -> Result<Loaded, Status>
+fn judge<K: Sink>(alloc: Global, bytes: &[u8], sink: &mut K) -> Result<Loaded, Status>
     ensures accepted { IfOk result (λ loaded. IsTheVerdict bytes.now (Accepted loaded.spec)) }
+    ensures readers { IfOk result (λ loaded. (r : Readers) × AreReaders loaded.spec r) }
     ensures quiet { IfOk result (λ _. sink_state (K.written sink.new) (K.faults sink.new) (K.puts sink.new)
         ≡ sink_state (K.written sink.old) (K.faults sink.old) (K.puts sink.old)) }
-    ensures known { IfErr result (λ status. (n : ℕ) → IsKnown bytes.now status
+    ensures known { IfErr result (λ status. IsKnown bytes.now status
         (sink_state (K.written sink.old) (K.faults sink.old) (K.puts sink.old))
-        (sink_state (K.written sink.new) (K.faults sink.new) (K.puts sink.new)) n n) }
-    ensures refused { IfErr result (λ status. (v : Verdict) → IsVerdict bytes.now v → (next : Spec → Told)
+        (sink_state (K.written sink.new) (K.faults sink.new) (K.puts sink.new))) }
+    ensures ended { IfErr result (λ status. (v : Verdict) → IsVerdict bytes.now v → (next : Spec → Told)
         → ((spec : Spec) → IsQuiet (next spec)) → (shelf : ShelfState) (n : ℕ)
         → Ends (world shelf (sink_state (K.written sink.old) (K.faults sink.old) (K.puts sink.old)) n)
         (judged v next) [] status
         (world shelf (sink_state (K.written sink.new) (K.faults sink.new) (K.puts sink.new)) n)) }
 {
     match load(alloc, bytes) {
-        Ok(loaded) => Ok(loaded),
-        Err(fault) => Err(end_by(alloc, &fault, sink)),
+        Ok(loaded) => {
+            tell_readers(&loaded);
+            Ok(loaded)
+        }
+        Err(fault) => Err(end_by(alloc, bytes, &fault, sink)),
     }
 }
 
-/// The record of a specification whose screen is built. An error says with which status the run is over.
-pub fn screen<K: Sink>(alloc: Global, bytes: &[u8], sink: &mut K) -> Result<Spec, Status>
-    ensures built { IfOk result (λ _. first_fault bytes.now ≡ None) }
-    ensures record_of { IfOk result (λ spec. spec ≡ spec_of bytes.now) }
-    ensures showable { IfOk result (λ spec. IsShowable spec) }
+/// Loads the specification that a reply brought. An error says with which status the run is over.
+fn judge_reply<K: Sink>(alloc: Global, reply: &Reply, sink: &mut K) -> Result<Loaded, Status>
+    ensures admitted { IfOk result (λ loaded. IsAdmitted reply.now loaded.spec) }
     ensures quiet { IfOk result (λ _. sink_state (K.written sink.new) (K.faults sink.new) (K.puts sink.new)
         ≡ sink_state (K.written sink.old) (K.faults sink.old) (K.puts sink.old)) }
-    ensures refused { IfErr result (λ status. (next : Told) → IsQuiet next → (shelf : ShelfState) (n : ℕ)
+    ensures known { IfErr result (λ status. IsKnownOf reply.now status
+        (sink_state (K.written sink.old) (K.faults sink.old) (K.puts sink.old))
+        (sink_state (K.written sink.new) (K.faults sink.new) (K.puts sink.new))) }
+    ensures ended { IfErr result (λ status. (v : Verdict) → IsVerdictOf reply.now v
+        → (next : Spec → List Reply → Told) → ((spec : Spec) → IsQuiet (next spec [])) → (shelf : ShelfState) (n : ℕ)
         → Ends (world shelf (sink_state (K.written sink.old) (K.faults sink.old) (K.puts sink.old)) n)
-        (screened (first_fault bytes.now) next) [] status
+        (opened next v reply.now []) [] status
         (world shelf (sink_state (K.written sink.new) (K.faults sink.new) (K.puts sink.new)) n)) }
 {
-    match load_small(alloc, bytes) {
-        Ok(spec) => Ok(spec),
-        Err(SmallFault::NoMemory) => Err(Status::Memory),
-        Err(SmallFault::TooLong) => Err(refuse(alloc, &SpecFault::TooLong, sink)),
-        Err(SmallFault::Unbuilt(line)) => { Err(refuse(alloc, &SpecFault::Unbuilt(line), sink)) }
+    match reply {
+        Reply::Fetched(text) => judge(alloc, text.as_slice(), sink),
+        _ => Err(finish(sink, READ_FAULT, Status::ReadFault)),
     }
+}
+
+/// Fetches and loads the specification of that name, by the first call of the shelf. An error says with which status
+/// the run is over.
+pub fn open<S: Shelf, K: Sink>(
+    alloc: Global,
+    name: &str,
+    shelf: &mut S,
+    sink: &mut K,
+    replies: &mut Vec<Reply>,
+) -> Result<Loaded, Status>
+    requires none { replies.old.items ≡ [] }
+    ensures opened { IfOk result (λ loaded. IsOpened name.now loaded.spec replies.new.items
+        (shelf_state (S.files shelf.old) (S.faults shelf.old) (S.calls shelf.old))
+        (shelf_state (S.files shelf.new) (S.faults shelf.new) (S.calls shelf.new))) }
+    ensures quiet { IfOk result (λ _. sink_state (K.written sink.new) (K.faults sink.new) (K.puts sink.new)
+        ≡ sink_state (K.written sink.old) (K.faults sink.old) (K.puts sink.old)) }
+    ensures known { IfErr result (λ status. (n : ℕ) → IsReadOf name.now
+        (world_of S.files S.faults S.calls shelf.old K.written K.faults K.puts sink.old n) replies.new.items status
+        (world_of S.files S.faults S.calls shelf.new K.written K.faults K.puts sink.new n)) }
+    ensures played { IfErr result (λ status. (v : Verdict) → IsVerdictIn replies.new.items v
+        → (next : Spec → List Reply → Told) → ((spec : Spec) → IsQuiet (next spec [])) → (n : ℕ)
+        → Played (with_spec next name.now v) [] replies.new.items status
+        (world_of S.files S.faults S.calls shelf.old K.written K.faults K.puts sink.old n)
+        (world_of S.files S.faults S.calls shelf.new K.written K.faults K.puts sink.new n)) }
+{
+    let reply = fetch(alloc, name, shelf, replies)?;
+    let loaded = judge_reply(alloc, &reply, sink);
+    add(replies, reply);
+    loaded
 }

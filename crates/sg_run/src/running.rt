@@ -1,27 +1,31 @@
 // The whole run.
-ghost use Rattle.std.specs.Prelude.{◌≡◌, ◌≢◌, ◌≤◌, ◌<◌, ◌^◌, ◌+◌, ◌⊎◌, ℕ, [], map, sum, length, string_bytes, IsSome, Some, None};
+ghost use Rattle.std.specs.Prelude.{◌≡◌, ◌≢◌, ◌≤◌, ◌<◌, ◌^◌, ◌+◌, ◌⊎◌, ℕ, [], map, sum, length, string_bytes, IsSome, Some, None, IfOk};
 ghost use Rattle.sg_eval.specs.Journal.{counted};
-ghost use Rattle.sg_load.specs.Verdict.{Verdict};
 ghost use Rattle.sg_outside.specs.Count.{Rose, raised_by, tallied};
 ghost use Rattle.sg_outside.specs.Sink.{CutShort, appended};
-ghost use Rattle.sg_replies.specs.Calls.{shelf_state};
 ghost use Rattle.sg_replies.specs.Counts.{CallsOrOneMore};
 ghost use Rattle.sg_replies.specs.Requests.{Serves, failures};
-ghost use Rattle.sg_run.specs.Statuses.{IsEnd, IsCut, ended};
-ghost use Rattle.sg_run.specs.Job.{job};
-ghost use Rattle.sg_run.specs.Job.Job.{Show, Check};
-ghost use Rattle.sg_run.specs.Output.{told, with_spec, shown, checked, joined};
-ghost use Rattle.sg_run.specs.World.{world, sink_state, WroteCounted, WholeBlocks};
-ghost use Rattle.sg_run.specs.Parts.{Ends, Played};
-ghost use Rattle.sg_run.specs.Causes.{LastFailed, FirstFetched, IsRight, IsKnownRight, IsRefused, IsAccepted};
+ghost use Rattle.sg_told.specs.Statuses.{IsEnd, IsCut, ended};
+ghost use Rattle.sg_told.specs.Job.{job};
+ghost use Rattle.sg_told.specs.Told.{joined};
+ghost use Rattle.sg_told.specs.Output.{told, with_spec, shown, checked, performed, first_command};
+ghost use Rattle.sg_told.specs.Reading.{Reading, IsRight};
+ghost use Rattle.sg_told.specs.World.{world_of, WroteCounted, WholeBlocks};
+ghost use Rattle.sg_told.specs.Parts.{Ends, Played};
+ghost use Rattle.sg_told.specs.Causes.{IsReadOf, IsRead, LastFailed, FirstFetched, SecondFetched, HasFault, IsNoScript, IsAccepted};
 
+use crate::Status;
 use crate::finishing::finish;
-use crate::opening::fetch_spec;
+use crate::opening::open;
+use crate::playing::play_all;
+use crate::scripts::script;
 use crate::words::{Job, read};
-use crate::{Status, jobs};
 use sg_eval::Journal;
+use sg_kinds::memory::NoMemory;
+use sg_kinds::text::Text;
 use sg_outside::{Shelf, Sink};
 use sg_replies::Reply;
+use sg_script::Command;
 use std::alloc::Global;
 
 const USAGE: &[u8] = b"usage: ssled show SPEC | run SPEC SCRIPT [W H] | check SPEC | load N\n";
@@ -35,6 +39,25 @@ pub struct Outcome {
     pub replies: Vec<Reply>,
 }
 
+// The run is over with this status.
+fn end(status: Status) -> Result<(), Status>
+    ensures { ended result ≡ status }
+{
+    match status {
+        Status::Done => Ok(()),
+        status => Err(status),
+    }
+}
+
+// The one command of the first screen.
+fn first_command(alloc: Global) -> Result<Vec<Command>, NoMemory>
+    ensures { IfOk result (λ commands. commands.items ≡ first_command) }
+{
+    let mut commands = Vec::new(alloc);
+    commands.push(Command::New(Text::from_slice(alloc, b"main")?))?;
+    Ok(commands)
+}
+
 // In these an error says with which status the run is over.
 fn show<S: Shelf, K: Sink>(
     alloc: Global,
@@ -46,22 +69,28 @@ fn show<S: Shelf, K: Sink>(
 ) -> Result<(), Status>
     requires room { counted journal.old < 2 ^ 60 }
     requires none { replies.old.items ≡ [] }
-    ensures faults { raised_by (failures replies.new.items) (S.faults shelf.old) ≤ S.faults shelf.new }
-    ensures known { IsKnownRight (Some (Show name.now))
-        (world (shelf_state (S.files shelf.old) (S.faults shelf.old) (S.calls shelf.old))
-        (sink_state (K.written sink.old) (K.faults sink.old) (K.puts sink.old)) (counted journal.old))
+    ensures known { IsReadOf name.now
+        (world_of S.files S.faults S.calls shelf.old K.written K.faults K.puts sink.old (counted journal.old))
         replies.new.items (ended result)
-        (world (shelf_state (S.files shelf.new) (S.faults shelf.new) (S.calls shelf.new))
-        (sink_state (K.written sink.new) (K.faults sink.new) (K.puts sink.new)) (counted journal.new)) }
-    ensures played { (v : Verdict) → IsRight replies.new.items v
-        → Played (with_spec shown name.now v) [] replies.new.items (ended result)
-        (world (shelf_state (S.files shelf.old) (S.faults shelf.old) (S.calls shelf.old))
-        (sink_state (K.written sink.old) (K.faults sink.old) (K.puts sink.old)) (counted journal.old))
-        (world (shelf_state (S.files shelf.new) (S.faults shelf.new) (S.calls shelf.new))
-        (sink_state (K.written sink.new) (K.faults sink.new) (K.puts sink.new)) (counted journal.new)) }
+        (world_of S.files S.faults S.calls shelf.new K.written K.faults K.puts sink.new (counted journal.new)) }
+    ensures played { (r : Reading) → IsRight replies.new.items r
+        → Played (with_spec (shown r.readers) name.now r.verdict) [] replies.new.items (ended result)
+        (world_of S.files S.faults S.calls shelf.old K.written K.faults K.puts sink.old (counted journal.old))
+        (world_of S.files S.faults S.calls shelf.new K.written K.faults K.puts sink.new (counted journal.new)) }
 {
-    fetch_spec(alloc, name, shelf, replies)?;
-    jobs::show(alloc, &replies[0], sink, journal)
+    let loaded = open(alloc, name, shelf, sink, replies)?;
+    let commands = first_command(alloc)?;
+    play_all(
+        alloc,
+        loaded,
+        80,
+        24,
+        commands.as_slice(),
+        shelf,
+        sink,
+        journal,
+        replies,
+    )
 }
 
 fn check<S: Shelf, K: Sink>(
@@ -72,22 +101,57 @@ fn check<S: Shelf, K: Sink>(
     replies: &mut Vec<Reply>,
 ) -> Result<(), Status>
     requires none { replies.old.items ≡ [] }
-    ensures faults { raised_by (failures replies.new.items) (S.faults shelf.old) ≤ S.faults shelf.new }
-    ensures known { (n : ℕ) → IsKnownRight (Some (Check name.now))
-        (world (shelf_state (S.files shelf.old) (S.faults shelf.old) (S.calls shelf.old))
-        (sink_state (K.written sink.old) (K.faults sink.old) (K.puts sink.old)) n)
+    ensures known { (n : ℕ) → IsReadOf name.now
+        (world_of S.files S.faults S.calls shelf.old K.written K.faults K.puts sink.old n)
         replies.new.items (ended result)
-        (world (shelf_state (S.files shelf.new) (S.faults shelf.new) (S.calls shelf.new))
-        (sink_state (K.written sink.new) (K.faults sink.new) (K.puts sink.new)) n) }
-    ensures played { (v : Verdict) → IsRight replies.new.items v → (n : ℕ)
-        → Played (with_spec checked name.now v) [] replies.new.items (ended result)
-        (world (shelf_state (S.files shelf.old) (S.faults shelf.old) (S.calls shelf.old))
-        (sink_state (K.written sink.old) (K.faults sink.old) (K.puts sink.old)) n)
-        (world (shelf_state (S.files shelf.new) (S.faults shelf.new) (S.calls shelf.new))
-        (sink_state (K.written sink.new) (K.faults sink.new) (K.puts sink.new)) n) }
+        (world_of S.files S.faults S.calls shelf.new K.written K.faults K.puts sink.new n) }
+    ensures played { (r : Reading) → IsRight replies.new.items r → (n : ℕ)
+        → Played (with_spec checked name.now r.verdict) [] replies.new.items (ended result)
+        (world_of S.files S.faults S.calls shelf.old K.written K.faults K.puts sink.old n)
+        (world_of S.files S.faults S.calls shelf.new K.written K.faults K.puts sink.new n) }
 {
-    fetch_spec(alloc, name, shelf, replies)?;
-    jobs::check(alloc, &replies[0], sink)
+    open(alloc, name, shelf, sink, replies)?;
+    end(finish(sink, b"ok\n", Status::Done))
+}
+
+fn run_script<S: Shelf, K: Sink>(
+    alloc: Global,
+    name: &str,
+    script_name: &str,
+    width: usize,
+    height: usize,
+    shelf: &mut S,
+    sink: &mut K,
+    journal: &mut Journal,
+    replies: &mut Vec<Reply>,
+) -> Result<(), Status>
+    requires least { (1 ≤ width) × (1 ≤ height) }
+    requires most { (width ≤ 1024) × (height ≤ 1024) }
+    requires room { counted journal.old < 2 ^ 60 }
+    requires none { replies.old.items ≡ [] }
+    ensures known { IsReadOf name.now
+        (world_of S.files S.faults S.calls shelf.old K.written K.faults K.puts sink.old (counted journal.old))
+        replies.new.items (ended result)
+        (world_of S.files S.faults S.calls shelf.new K.written K.faults K.puts sink.new (counted journal.new)) }
+    ensures played { (r : Reading) → IsRight replies.new.items r
+        → Played (with_spec (performed script_name.now width height r.readers) name.now r.verdict) []
+        replies.new.items (ended result)
+        (world_of S.files S.faults S.calls shelf.old K.written K.faults K.puts sink.old (counted journal.old))
+        (world_of S.files S.faults S.calls shelf.new K.written K.faults K.puts sink.new (counted journal.new)) }
+{
+    let opened = open(alloc, name, shelf, sink, replies)?;
+    let commands = script(alloc, script_name, shelf, sink, replies)?;
+    play_all(
+        alloc,
+        opened,
+        width,
+        height,
+        commands.as_slice(),
+        shelf,
+        sink,
+        journal,
+        replies,
+    )
 }
 
 fn run_job<S: Shelf, K: Sink>(
@@ -100,24 +164,30 @@ fn run_job<S: Shelf, K: Sink>(
 ) -> Result<(), Status>
     requires room { counted journal.old < 2 ^ 60 }
     requires none { replies.old.items ≡ [] }
-    ensures faults { raised_by (failures replies.new.items) (S.faults shelf.old) ≤ S.faults shelf.new }
-    ensures known { IsKnownRight (job (map string_bytes words.now))
-        (world (shelf_state (S.files shelf.old) (S.faults shelf.old) (S.calls shelf.old))
-        (sink_state (K.written sink.old) (K.faults sink.old) (K.puts sink.old)) (counted journal.old))
+    ensures known { IsRead (job (map string_bytes words.now))
+        (world_of S.files S.faults S.calls shelf.old K.written K.faults K.puts sink.old (counted journal.old))
         replies.new.items (ended result)
-        (world (shelf_state (S.files shelf.new) (S.faults shelf.new) (S.calls shelf.new))
-        (sink_state (K.written sink.new) (K.faults sink.new) (K.puts sink.new)) (counted journal.new)) }
-    ensures played { (v : Verdict) → IsRight replies.new.items v
-        → Played (told (map string_bytes words.now) v) [] replies.new.items (ended result)
-        (world (shelf_state (S.files shelf.old) (S.faults shelf.old) (S.calls shelf.old))
-        (sink_state (K.written sink.old) (K.faults sink.old) (K.puts sink.old)) (counted journal.old))
-        (world (shelf_state (S.files shelf.new) (S.faults shelf.new) (S.calls shelf.new))
-        (sink_state (K.written sink.new) (K.faults sink.new) (K.puts sink.new)) (counted journal.new)) }
+        (world_of S.files S.faults S.calls shelf.new K.written K.faults K.puts sink.new (counted journal.new)) }
+    ensures played { (r : Reading) → IsRight replies.new.items r
+        → Played (told (map string_bytes words.now) r) [] replies.new.items (ended result)
+        (world_of S.files S.faults S.calls shelf.old K.written K.faults K.puts sink.old (counted journal.old))
+        (world_of S.files S.faults S.calls shelf.new K.written K.faults K.puts sink.new (counted journal.new)) }
 {
     match read(words) {
         None => Err(finish(sink, USAGE, Status::Usage)),
         Some(Job::Show(name)) => show(alloc, name, shelf, sink, journal, replies),
         Some(Job::Check(name)) => check(alloc, name, shelf, sink, replies),
+        Some(Job::Run(name, script_name, width, height)) => run_script(
+            alloc,
+            name,
+            script_name,
+            width,
+            height,
+            shelf,
+            sink,
+            journal,
+            replies,
+        ),
     }
 }
 
@@ -129,19 +199,14 @@ fn run_to_end<S: Shelf, K: Sink>(
     journal: &mut Journal,
 ) -> Outcome
     requires { counted journal.old < 2 ^ 60 }
-    ensures faults { raised_by (failures result.replies.items) (S.faults shelf.old) ≤ S.faults shelf.new }
-    ensures known { IsKnownRight (job (map string_bytes words.now))
-        (world (shelf_state (S.files shelf.old) (S.faults shelf.old) (S.calls shelf.old))
-        (sink_state (K.written sink.old) (K.faults sink.old) (K.puts sink.old)) (counted journal.old))
+    ensures known { IsRead (job (map string_bytes words.now))
+        (world_of S.files S.faults S.calls shelf.old K.written K.faults K.puts sink.old (counted journal.old))
         result.replies.items result.status
-        (world (shelf_state (S.files shelf.new) (S.faults shelf.new) (S.calls shelf.new))
-        (sink_state (K.written sink.new) (K.faults sink.new) (K.puts sink.new)) (counted journal.new)) }
-    ensures ended { (v : Verdict) → IsRight result.replies.items v
-        → Ends (world (shelf_state (S.files shelf.old) (S.faults shelf.old) (S.calls shelf.old))
-        (sink_state (K.written sink.old) (K.faults sink.old) (K.puts sink.old)) (counted journal.old))
-        (told (map string_bytes words.now) v result.replies.items) result.replies.items result.status
-        (world (shelf_state (S.files shelf.new) (S.faults shelf.new) (S.calls shelf.new))
-        (sink_state (K.written sink.new) (K.faults sink.new) (K.puts sink.new)) (counted journal.new)) }
+        (world_of S.files S.faults S.calls shelf.new K.written K.faults K.puts sink.new (counted journal.new)) }
+    ensures ended { (r : Reading) → IsRight result.replies.items r
+        → Ends (world_of S.files S.faults S.calls shelf.old K.written K.faults K.puts sink.old (counted journal.old))
+        (told (map string_bytes words.now) r result.replies.items) result.replies.items result.status
+        (world_of S.files S.faults S.calls shelf.new K.written K.faults K.puts sink.new (counted journal.new)) }
 {
     let mut replies = Vec::new(alloc);
     let status = match run_job(alloc, words, shelf, sink, journal, &mut replies) {
@@ -162,52 +227,49 @@ pub fn run<S: Shelf, K: Sink>(
 ) -> Outcome
     requires room { counted journal.old < 2 ^ 60 }
 
-    // The verdict on the specification that was fetched, or what was done before there was one. Whatever verdict is
-    // right, the rest follows.
-    ensures known { IsKnownRight (job (map string_bytes words.now))
-        (world (shelf_state (S.files shelf.old) (S.faults shelf.old) (S.calls shelf.old))
-        (sink_state (K.written sink.old) (K.faults sink.old) (K.puts sink.old)) (counted journal.old))
+    // There is a reading of what was fetched: the verdict on the specification, of which there is no other, and how
+    // texts that are typed and files that are loaded are read; or memory was wanting before there was a verdict. For
+    // each right reading the rest follows.
+    ensures known { IsRead (job (map string_bytes words.now))
+        (world_of S.files S.faults S.calls shelf.old K.written K.faults K.puts sink.old (counted journal.old))
         result.replies.items result.status
-        (world (shelf_state (S.files shelf.new) (S.faults shelf.new) (S.calls shelf.new))
-        (sink_state (K.written sink.new) (K.faults sink.new) (K.puts sink.new)) (counted journal.new)) }
+        (world_of S.files S.faults S.calls shelf.new K.written K.faults K.puts sink.new (counted journal.new)) }
 
     // What was written and evaluated, at an end of its own and after it was cut short.
-    ensures output { (v : Verdict) → IsRight result.replies.items v → IsEnd result.status
+    ensures output { (r : Reading) → IsRight result.replies.items r → IsEnd result.status
         → K.written sink.new ≡ appended (K.written sink.old)
-        (joined (told (map string_bytes words.now) v result.replies.items).blocks) }
-    ensures puts { (v : Verdict) → IsRight result.replies.items v → IsEnd result.status
-        → K.puts sink.new ≡ tallied (length (told (map string_bytes words.now) v result.replies.items).blocks)
+        (joined (told (map string_bytes words.now) r result.replies.items).blocks) }
+    ensures puts { (r : Reading) → IsRight result.replies.items r → IsEnd result.status
+        → K.puts sink.new ≡ tallied (length (told (map string_bytes words.now) r result.replies.items).blocks)
         (K.puts sink.old) }
-    ensures finished { (v : Verdict) → IsRight result.replies.items v → IsEnd result.status
-        → (told (map string_bytes words.now) v result.replies.items).status ≡ Some result.status }
-    ensures evaluated { (v : Verdict) → IsRight result.replies.items v → IsEnd result.status
+    ensures finished { (r : Reading) → IsRight result.replies.items r → IsEnd result.status
+        → (told (map string_bytes words.now) r result.replies.items).status ≡ Some result.status }
+    ensures evaluated { (r : Reading) → IsRight result.replies.items r → IsEnd result.status
         → counted journal.new ≡ counted journal.old + sum
-        (told (map string_bytes words.now) v result.replies.items).evs }
-    ensures cut_short { (v : Verdict) → IsRight result.replies.items v → IsCut result.status
+        (told (map string_bytes words.now) r result.replies.items).evs }
+    ensures cut_short { (r : Reading) → IsRight result.replies.items r → IsCut result.status
         → WroteCounted result.status
-        (world (shelf_state (S.files shelf.old) (S.faults shelf.old) (S.calls shelf.old))
-        (sink_state (K.written sink.old) (K.faults sink.old) (K.puts sink.old)) (counted journal.old))
-        (world (shelf_state (S.files shelf.new) (S.faults shelf.new) (S.calls shelf.new))
-        (sink_state (K.written sink.new) (K.faults sink.new) (K.puts sink.new)) (counted journal.new))
-        (told (map string_bytes words.now) v result.replies.items) }
-    ensures after_memory { (v : Verdict) → IsRight result.replies.items v → result.status ≡ Status.Memory
+        (world_of S.files S.faults S.calls shelf.old K.written K.faults K.puts sink.old (counted journal.old))
+        (world_of S.files S.faults S.calls shelf.new K.written K.faults K.puts sink.new (counted journal.new))
+        (told (map string_bytes words.now) r result.replies.items) }
+    ensures after_memory { (r : Reading) → IsRight result.replies.items r → result.status ≡ Status.Memory
         → WholeBlocks (K.written sink.old) (K.written sink.new)
-        (told (map string_bytes words.now) v result.replies.items).blocks }
-    ensures after_sink_fault { (v : Verdict) → IsRight result.replies.items v → result.status ≡ Status.SinkFault
+        (told (map string_bytes words.now) r result.replies.items).blocks }
+    ensures after_sink_fault { (r : Reading) → IsRight result.replies.items r → result.status ≡ Status.SinkFault
         → CutShort (K.written sink.old) (K.written sink.new)
-        (joined (told (map string_bytes words.now) v result.replies.items).blocks) }
+        (joined (told (map string_bytes words.now) r result.replies.items).blocks) }
 
     // The replies, and what they say of the shelf.
-    ensures replies { (v : Verdict) → IsRight result.replies.items v
-        → (told (map string_bytes words.now) v result.replies.items).taken ≡ length result.replies.items }
-    ensures files { (v : Verdict) → IsRight result.replies.items v
+    ensures replies { (r : Reading) → IsRight result.replies.items r
+        → (told (map string_bytes words.now) r result.replies.items).taken ≡ length result.replies.items }
+    ensures files { (r : Reading) → IsRight result.replies.items r
         → Serves (S.files shelf.old)
-        (told (map string_bytes words.now) v result.replies.items).requests result.replies.items (S.files shelf.new) }
+        (told (map string_bytes words.now) r result.replies.items).requests result.replies.items (S.files shelf.new) }
     ensures failed_replies { raised_by (failures result.replies.items) (S.faults shelf.old) ≤ S.faults shelf.new }
     ensures calls { result.status ≢ Status.Memory → S.calls shelf.new
         ≡ tallied (length result.replies.items) (S.calls shelf.old) }
-    ensures calls_or_one_more { (v : Verdict) → IsRight result.replies.items v
-        → CallsOrOneMore (length (told (map string_bytes words.now) v result.replies.items).requests
+    ensures calls_or_one_more { (r : Reading) → IsRight result.replies.items r
+        → CallsOrOneMore (length (told (map string_bytes words.now) r result.replies.items).requests
         ≡ length result.replies.items + 1)
         (length result.replies.items) (S.calls shelf.old) (S.calls shelf.new) }
 
@@ -216,7 +278,8 @@ pub fn run<S: Shelf, K: Sink>(
     ensures read_fault { result.status ≡ Status.ReadFault
         → LastFailed result.replies.items × Rose (S.faults shelf.old) (S.faults shelf.new) }
     ensures spec_fault { result.status ≡ Status.SpecFault
-        → FirstFetched result.replies.items (IsRefused (job (map string_bytes words.now))) }
+        → FirstFetched result.replies.items HasFault }
+    ensures script_fault { result.status ≡ Status.ScriptFault → SecondFetched result.replies.items IsNoScript }
     ensures sink_fault { result.status ≡ Status.SinkFault → Rose (K.faults sink.old) (K.faults sink.new) }
     ensures complete { (Rose (S.faults shelf.old) (S.faults shelf.new) → ⊥)
         → (Rose (K.faults sink.old) (K.faults sink.new) → ⊥) → IsSome (job (map string_bytes words.now))

@@ -1,8 +1,8 @@
 // The words of the command line.
-ghost use Rattle.std.specs.Prelude.{◌≡◌, map, string_bytes};
+ghost use Rattle.std.specs.Prelude.{◌≡◌, map, string_bytes, IfSome};
 ghost use Rattle.std.specs.Option.{option_map};
-ghost use Rattle.sg_run.specs.Job.{job};
-ghost use Rattle.sg_run.specs.JobView.{job_of};
+ghost use Rattle.sg_told.specs.Job.{job, size_of, sized as sized_job};
+ghost use Rattle.sg_run.specs.JobView.{job_of, HasWindow};
 
 /// What the words ask for.
 #[derive(Drop)]
@@ -11,15 +11,55 @@ pub enum Job<'a> {
     Show(&'a str),
     /// To tell whether the specification of that name has a fault.
     Check(&'a str),
+    /// To perform the script of the second name on the specification of the first, in a window of that width and
+    /// height, each from 1 to 1,024.
+    Run(&'a str, &'a str, usize, usize),
+}
+
+/// A width or a height: a number from 1 to 1,024 in decimal digits, of which the first is no 0.
+fn size(word: &str) -> Option<usize>
+    ensures { result ≡ size_of word.now }
+{
+    let bytes = word.as_bytes();
+    if bytes.is_empty() || bytes[0] <= b'0' {
+        return None;
+    }
+    let mut n = 0usize;
+    for b in bytes {
+        if !b.is_ascii_digit() || n > 1024 {
+            return None;
+        }
+        n = n * 10 + (*b - b'0') as usize;
+    }
+    if n > 1024 { None } else { Some(n) }
+}
+
+fn sized<'a>(name: &'a str, script: &'a str, width: &str, height: &str) -> Option<Job<'a>>
+    ensures job { option_map job_of result ≡ sized_job name.now script.now (size_of width.now) (size_of height.now) }
+    ensures window { IfSome result HasWindow }
+{
+    let width = size(width)?;
+    let height = size(height)?;
+    Some(Job::Run(name, script, width, height))
 }
 
 /// The job of these words, if they are one.
 pub fn read<'a>(words: &'a [String]) -> Option<Job<'a>>
-    ensures { option_map job_of result ≡ job (map string_bytes words.now) }
+    ensures job { option_map job_of result ≡ job (map string_bytes words.now) }
+    ensures window { IfSome result HasWindow }
 {
     match words {
         [word, name] if word.as_str() == "show" => Some(Job::Show(name.as_str())),
         [word, name] if word.as_str() == "check" => Some(Job::Check(name.as_str())),
+        [word, name, script] if word.as_str() == "run" => {
+            Some(Job::Run(name.as_str(), script.as_str(), 80, 24))
+        }
+        [word, name, script, width, height] if word.as_str() == "run" => sized(
+            name.as_str(),
+            script.as_str(),
+            width.as_str(),
+            height.as_str(),
+        ),
         _ => None,
     }
 }

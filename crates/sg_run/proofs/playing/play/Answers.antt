@@ -1,19 +1,45 @@
-use Rattle.std.proofs.Common.{◌≡◌, ◌+◌, ℕ, List, arith, subst, ◌∙◌}
-use Rattle.sg_eval.specs.Journal.{counted}
-use Rattle.sg_outside.specs.Sink.{CutShort}
-use Rattle.sg_small_screen.specs.FirstScreen.{first_screen, first_evs}
-use Rattle.sg_run.specs.Statuses.{sink_status}
-use Rattle.sg_run.proofs.Exits.{ended_is, is_cut, memory_of, fault_of}
-use Rattle.sg_run.proofs.Endings.{ends_unput, ends_with}
+use Rattle.std.proofs.Common.{◌≡◌, ◌+◌, ℕ, List, length, arith, refl, ap, ◌∙◌, subst, inl, inr}
+use Rattle.sg_eval.specs.Journal.{counted, now_of}
+use Rattle.sg_eval.specs.declared.journal.Instance.{Instance}
+use Rattle.sg_editor.specs.Editing.{session_of}
+use Rattle.sg_outside.specs.Sink.{appended, CutShort}
+use Rattle.sg_told.specs.declared.status.Status.TheVariants.{Memory}
+use Rattle.sg_told.specs.Statuses.{sink_status}
+use Rattle.sg_told.proofs.Exits.{exits, is_cut, memory_of, fault_of}
+use Rattle.sg_told.proofs.Turns.{command_passed, command_cut, command_unput}
+use Rattle.sg_run.specs.DeskView.{desk_in}
+use Rattle.sg_run.proofs.Screens.{shown_at}
 use Rattle.sg_run.proofs.playing.play.Goals as goal
 
-pub returns-in_err-put : goal.returns-in_err-put
-returns-in_err-put g c = λ shelf.
+pub returns-in_err-message-clause-played : goal.returns-in_err-message-clause-played
+returns-in_err-message-clause-played g c = λ r right.
+    let counts : counted c.step.new.journal ≡ counted c.args.journal.now + length (now_of c.step.new.journal) = omega (arith, c.step.ensures.total) in
+    exits _ Memory _ c.from_residual.ensures.1
+    (λ commands. command_cut (desk_in c.args.editor.now r) (session_of c.args.editor.now) c.args.command.now (now_of c.step.new.journal) _ _ _ _ _ _ _ (c.in_err-message.ensures.err r right) counts commands)
+
+pub returns-in_err-block-clause-played : goal.returns-in_err-block-clause-played
+returns-in_err-block-clause-played g c = λ r right.
+    let counts : counted c.step.new.journal ≡ counted c.args.journal.now + length (now_of c.step.new.journal) = omega (arith, c.step.ensures.total) in
+    exits _ Memory _ c.from_residual-in_err-block.ensures.1
+    (λ commands. command_unput (desk_in c.args.editor.now r) (session_of c.args.editor.now) c.args.command.now c.step.new.self c.in_ok-message.message (now_of c.step.new.journal)
+    _ _ _ _ _ _ _ _ Memory (c.in_ok-message.ensures.ok r right) tt (λ is. (refl, inl refl)) (λ is. cc) (omega arith) counts commands)
+
+pub returns-in_err-put-clause-played : goal.returns-in_err-put-clause-played
+returns-in_err-put-clause-played g c = λ r right.
+    let counts : counted c.step.new.journal ≡ counted c.args.journal.now + length (now_of c.step.new.journal) = omega (arith, c.step.ensures.total) in
     let e = c.in_err-put.field-0.0 in
-    let counts : counted c.show.new.journal ≡ counted c.args.journal.now + first_evs c.args.spec.now = omega (arith, c.in_ok-block.ensures.evaluated, c.show.ensures.total) in
-    let block : c.as_slice.result.now ≡ first_screen c.args.spec.now = c.as_slice.ensures ∙ c.in_ok-block.ensures.screen in
+    let block = shown_at c.args.editor.now c.step.new.self _ _ _ _ (c.as_slice.ensures.value ∙ c.in_ok-block.ensures) c.step.ensures.setting (ap (λ (es : List Instance). length es) c.now.ensures) in
     let P : List ℕ → Type 0 = λ b. CutShort (g.K.Sink.written c.args.sink.now) (g.K.Sink.written c.put.new.self) b in
-    ends_with _ _ _ _ _ _
-    (ends_unput shelf _ _ _ _ c.args.spec.now (sink_status e) (is_cut e) (memory_of e _ c.in_err-put.ensures.memory)
-    (λ is. subst P block (fault_of e _ c.in_err-put.ensures.failed is)) (fault_of e _ c.in_err-put.ensures.cause) c.in_err-put.ensures.later c.in_err-put.ensures.counted counts)
-    (ended_is (sink_status e) _ c.from_residual-in_err-put.ensures.1)
+    exits _ (sink_status e) _ c.from_residual-in_err-put.ensures.1
+    (λ commands. command_unput (desk_in c.args.editor.now r) (session_of c.args.editor.now) c.args.command.now c.step.new.self c.in_ok-message.message (now_of c.step.new.journal)
+    _ _ _ _ _ _ _ _ (sink_status e) (c.in_ok-message.ensures.ok r right) (is_cut e)
+    (λ is. (memory_of e _ c.in_err-put.ensures.memory is, inr c.in_err-put.ensures.counted))
+    (λ is. (subst P block (fault_of e _ c.in_err-put.ensures.failed is), c.in_err-put.ensures.counted, fault_of e _ c.in_err-put.ensures.cause is)) c.in_err-put.ensures.later counts commands)
+
+pub returns-clause-passed : goal.returns-clause-passed
+returns-clause-passed g c = λ r right.
+    let counts : counted c.step.new.journal ≡ counted c.args.journal.now + length (now_of c.step.new.journal) = omega (arith, c.step.ensures.total) in
+    let block = shown_at c.args.editor.now c.step.new.self _ _ _ _ (c.as_slice.ensures.value ∙ c.in_ok-block.ensures) c.step.ensures.setting (ap (λ (es : List Instance). length es) c.now.ensures) in
+    λ commands. command_passed (desk_in c.args.editor.now r) (session_of c.args.editor.now) c.args.command.now c.step.new.self c.in_ok-message.message (now_of c.step.new.journal)
+    _ _ _ _ _ _ _ _ (c.in_ok-message.ensures.ok r right)
+    (c.in_ok-put.ensures.ok ∙ ap (λ (b : List ℕ). appended (g.K.Sink.written c.args.sink.now) b) block) c.in_ok-put.ensures.counted c.in_ok-put.ensures.later counts commands

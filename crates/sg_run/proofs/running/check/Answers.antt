@@ -1,21 +1,26 @@
-use Rattle.sg_run.specs.Output.{opened, checked}
-use Rattle.sg_run.specs.Job.Job.{Check}
-use Rattle.sg_run.specs.Opening.{IsRightOf}
-use Rattle.sg_run.proofs.Exits.{ended_is}
-use Rattle.sg_run.proofs.Requests.{played_as, played_first, right_first, known_nothing, known_first}
+use Rattle.std.proofs.Common.{refl, arith}
+use Rattle.sg_told.specs.declared.status.Status.TheVariants.{Done}
+use Rattle.sg_told.specs.Output.{checked, ok_text}
+use Rattle.sg_told.proofs.Exits.{ended_is}
+use Rattle.sg_told.proofs.Endings.{ends_text}
+use Rattle.sg_told.proofs.Opened.{read_opened, played_opened, read_as}
+use Rattle.sg_told.proofs.Requests.{played_as, played_at}
 use Rattle.sg_run.proofs.running.check.Goals as goal
 
-pub returns-in_err-fetch_spec-clause-played : goal.returns-in_err-fetch_spec-clause-played
-returns-in_err-fetch_spec-clause-played g c = λ v right n.
-    played_as _ _ _ _ _ _ _ (ended_is c.in_err-fetch_spec.field-0.0 _ c.from_residual.ensures.1) (c.in_err-fetch_spec.ensures.ended (opened checked v) _ n)
+pub returns-in_err-open : goal.returns-in_err-open
+returns-in_err-open g c = record {
+  known = λ n. read_as _ _ _ _ _ _ (ended_is c.in_err-open.field-0.0 _ c.from_residual.ensures.1) (c.in_err-open.ensures.known n);
+  played = λ r right n. played_as _ _ _ _ _ _ _ (ended_is c.in_err-open.field-0.0 _ c.from_residual.ensures.1)
+      (c.in_err-open.ensures.played r.verdict right.verdict checked (λ spec. record { taken = refl; asked = omega arith }) n);
+}
 
-pub returns-clause-played : goal.returns-clause-played
-returns-clause-played g c = λ v right n.
-    let rightly : IsRightOf c.index.result.now v = right_first c.args.name.now c.fetch_spec.new.replies.items c.index.result.now _ _ v c.in_ok-fetch_spec.ensures.fetched c.index.ensures right in
-    played_first c.args.name.now (opened checked v) c.fetch_spec.new.replies.items c.index.result.now _ _ _ _ _ _ _ c.in_ok-fetch_spec.ensures.fetched c.index.ensures (c.check.ensures.ended v rightly _ n)
-
-pub returns-in_err-fetch_spec-clause-known : goal.returns-in_err-fetch_spec-clause-known
-returns-in_err-fetch_spec-clause-known g c = λ n. known_nothing _ _ _ _ _ c.in_err-fetch_spec.ensures.none
-
-pub returns-clause-known : goal.returns-clause-known
-returns-clause-known g c = λ n. known_first (Check c.args.name.now) c.fetch_spec.new.replies.items c.index.result.now _ _ _ _ _ _ _ c.in_ok-fetch_spec.ensures.fetched c.index.ensures (c.check.ensures.known n)
+pub returns : goal.returns
+returns g c =
+    let o = c.in_ok-open.ensures.opened in
+    let spec = c.in_ok-open.field-0.spec in
+    record {
+      known = λ n. read_as _ _ _ _ _ _ c.end.ensures (read_opened c.args.name.now spec _ _ _ _ (λ readers. checked spec) _ _ _ _ o
+          (λ readers read. played_at (checked spec) _ _ _ _ (ends_text _ _ _ n Done _ ok_text c.finish.ensures)));
+      played = λ r right n. played_as _ _ _ _ _ _ _ c.end.ensures (played_opened c.args.name.now spec _ _ _ _ _ _ _ (λ readers. checked) _ _ o c.in_ok-open.ensures.quiet
+          (λ readers read. played_at (checked spec) _ _ _ _ (ends_text _ _ _ n Done _ ok_text c.finish.ensures)) r right);
+    }

@@ -42,6 +42,14 @@ returns-in_err-redone-clause-noted c =
     (noted_here (held c.self.inside) c.args.self.now c.self.view_is c.self.inside.nodes c.self.inside.history.room c.self.inside.page c.self.invariant
     c.in-Some.step.now (rest_of steps) (first_step steps c.in-Some.step.now c.in-Some.ensures) (now_of c.args.journal.now) (now_of c.step_forth.new.journal) c.in_err-redone.ensures.some)
 
+pub returns-in_err-redone-clause-some : goal.returns-in_err-redone-clause-some
+returns-in_err-redone-clause-some c =
+    let steps = c.self.inside.history.future in
+    let p = err_from_is_err_and c.from_residual.result c.from_residual.ensures.1 in
+    rw p.1
+    (some_future (held c.self.inside) c.args.self.now c.self.view_is c.self.inside.nodes c.self.inside.history.room c.self.inside.page c.self.invariant
+    c.in-Some.step.now (rest_of steps) (first_step steps c.in-Some.step.now c.in-Some.ensures))
+
 pub invariant_of-self-2 : goal.invariant_of-self-2
 invariant_of-self-2 c =
     let steps = c.self.inside.history.future in

@@ -1,0 +1,13 @@
+pub mod Choosing
+pub mod Counting
+pub mod Putting
+pub mod Reading
+pub mod Removing
+pub mod Typed
+pub mod Moved
+pub mod Undoing
+pub mod Captures
+pub mod Keeping
+pub mod Table
+pub mod Readers
+pub mod Alike

@@ -1,0 +1,57 @@
+use Rattle.std.specs.Prelude.{IfOk, OnErr}
+use Rattle.std.proofs.Common.{refl, sym, ap, ◌∙◌, subst}
+use Rattle.sg_kinds.specs.Sound.{IsSound}
+use Rattle.sg_kinds.specs.declared.spec.Spec.{Spec}
+use Rattle.sg_patterns.specs.LexemesOf.{AreLexemesOf}
+use Rattle.sg_grammar.specs.Numbered.{grammar_of}
+use Rattle.sg_eval.specs.Journal.{now_of}
+use Rattle.sg_screen.specs.declared.message.Message.{Message}
+use Rattle.sg_screen.specs.declared.message.Message.TheVariants as message
+use Rattle.sg_commands.specs.Did.{Did, GaveUp}
+use Rattle.sg_commands.specs.Turn.{Turn}
+use Rattle.sg_commands.proofs.Putting.{refused_did}
+use Rattle.sg_commands.proofs.Reading.{fits_there, low_there, reads_there, stops_within}
+use Rattle.sg_commands.proofs.Typed.{entry_none, entry_read, not_in_text, typed_text, within_typed}
+use Rattle.sg_commands.proofs.entering.enter_typed.Goals as goal
+
+pub enter-read-requires-clause-grammar : goal.enter-read-requires-clause-grammar
+enter-read-requires-clause-grammar c = c.requires.tools.grammar ∙ ap grammar_of (sym c.requires.tools.same)
+
+pub enter-read-requires-clause-sound : goal.enter-read-requires-clause-sound
+enter-read-requires-clause-sound c = subst IsSound (sym c.requires.tools.same) c.requires.tools.sound
+
+pub enter-read-requires-clause-entry : goal.enter-read-requires-clause-entry
+enter-read-requires-clause-entry c = low_there c.args.buffer.now c.args.tools.now.evaluator.now c.requires.tools.same c.in-Some-entry_here.entry (sym c.entry_here.ensures ∙ c.in-Some-entry_here.is)
+
+pub enter-read-requires-clause-lexemes : goal.enter-read-requires-clause-lexemes
+enter-read-requires-clause-lexemes c = subst (λ (s : Spec). AreLexemesOf s c.args.tools.now.lexemes.now) (sym c.requires.tools.same) c.requires.tools.lexemes
+
+pub put_read-requires-clause-fits : goal.put_read-requires-clause-fits
+put_read-requires-clause-fits c = fits_there c.args.buffer.now c.args.tools.now.evaluator.now c.requires.tools.same c.in-Some-entry_here.entry (sym c.entry_here.ensures ∙ c.in-Some-entry_here.is) c.enter-read.result c.enter-read.ensures.fits
+
+pub put_read-requires-clause-within : goal.put_read-requires-clause-within
+put_read-requires-clause-within c = within_typed c.args.buffer.now.capture c.in-Some.text.now c.enter-read.result c.in-Some.ensures (stops_within c.args.tools.now.evaluator.now c.in-Some-entry_here.entry c.in-Some.text.now c.enter-read.result c.enter-read.ensures.right)
+
+pub returns-in_default-clause-did : goal.returns-in_default-clause-did
+returns-in_default-clause-did c = λ clip reads are.
+    let b = c.args.buffer.now in
+    let was = now_of c.args.journal.now in
+    subst (λ (t : Turn). Did t message.NotInText b clip was was) (sym (not_in_text b clip reads c.in_default.ensures)) (refused_did b b clip was was message.NotInText refl refl)
+
+pub returns-in_default-entry_here-clause-did : goal.returns-in_default-entry_here-clause-did
+returns-in_default-entry_here-clause-did c = λ clip reads are.
+    let b = c.args.buffer.now in
+    let was = now_of c.args.journal.now in
+    subst (λ (t : Turn). Did t message.NoEntry b clip was was) (sym ((let typed = typed_text c.args.buffer.now.capture c.in-Some.text.now c.in-Some.ensures in entry_none b clip reads typed.capture typed.is (sym c.entry_here.ensures ∙ c.in_default-entry_here.is)))) (refused_did b b clip was was message.NoEntry refl refl)
+
+pub returns-clause-did : goal.returns-clause-did
+returns-clause-did c = λ clip reads are.
+    let b = c.args.buffer.now in
+    subst (λ (t : Turn). IfOk c.put_read.result (λ (m : Message). Did t m c.put_read.new.buffer clip (now_of c.args.journal.now) (now_of c.put_read.new.journal))) (sym ((let typed = typed_text c.args.buffer.now.capture c.in-Some.text.now c.in-Some.ensures in entry_read b clip reads typed.capture typed.is c.in-Some-entry_here.entry c.in-Some.text.now typed.text_is (sym c.entry_here.ensures ∙ c.in-Some-entry_here.is))))
+    (c.put_read.ensures.did clip (reads c.in-Some-entry_here.entry c.in-Some.text.now) (reads_there c.args.buffer.now c.args.tools.now.evaluator.now c.requires.tools.same c.in-Some-entry_here.entry (sym c.entry_here.ensures ∙ c.in-Some-entry_here.is) c.in-Some.text.now c.enter-read.result c.enter-read.ensures.only reads are))
+
+pub returns-clause-gave_up : goal.returns-clause-gave_up
+returns-clause-gave_up c = λ clip reads are.
+    let b = c.args.buffer.now in
+    subst (λ (t : Turn). OnErr c.put_read.result (GaveUp b.grove.spec t b c.put_read.new.buffer clip clip (now_of c.args.journal.now) (now_of c.put_read.new.journal))) (sym ((let typed = typed_text c.args.buffer.now.capture c.in-Some.text.now c.in-Some.ensures in entry_read b clip reads typed.capture typed.is c.in-Some-entry_here.entry c.in-Some.text.now typed.text_is (sym c.entry_here.ensures ∙ c.in-Some-entry_here.is))))
+    (c.put_read.ensures.gave_up clip (reads c.in-Some-entry_here.entry c.in-Some.text.now) (reads_there c.args.buffer.now c.args.tools.now.evaluator.now c.requires.tools.same c.in-Some-entry_here.entry (sym c.entry_here.ensures ∙ c.in-Some-entry_here.is) c.in-Some.text.now c.enter-read.result c.enter-read.ensures.only reads are))

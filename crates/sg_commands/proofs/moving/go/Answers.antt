@@ -1,0 +1,14 @@
+use Rattle.std.proofs.Common.{sym, subst}
+use Rattle.sg_screen.specs.declared.message.Message.TheVariants as message
+use Rattle.sg_states.specs.States.{moved}
+use Rattle.sg_buffer.specs.Held.{state_of}
+use Rattle.sg_commands.specs.Did.{Did}
+use Rattle.sg_commands.specs.Turns.{goes}
+use Rattle.sg_commands.proofs.Moved.{found_did}
+use Rattle.sg_commands.proofs.moving.go.Goals as goal
+
+pub returns-clause-did : goal.returns-clause-did
+returns-clause-did c = λ clip now.
+    let b = c.args.buffer.now in
+    subst (λ m. Did (goes b.grove.spec b.height clip (state_of b) c.args.to) m c.go.new.self clip now now) (sym c.said.ensures)
+    (found_did b c.go.new.self clip now message.NoPlace (moved b.grove.spec b.height c.args.to (state_of b)) c.go.result c.go.ensures.none)

@@ -1,0 +1,170 @@
+-- The table of commands in the current buffer: of each its refusals in their order, and what it does.
+use Rattle.std.specs.Prelude.{ℕ, Bool, true, false, not, nat_eq, List, [], ◌∷◌, Option, None, Some}
+use Rattle.std.specs.Option.{option_map_or}
+use Rattle.sg_kinds.specs.Values.{Bytes}
+use Rattle.sg_kinds.specs.Terms.{Term}
+use Rattle.sg_kinds.specs.Places.{Place}
+use Rattle.sg_kinds.specs.Nets.{Reference}
+use Rattle.sg_kinds.specs.declared.spec.Spec.{Spec}
+use Rattle.sg_groves.specs.Evaluated.{evaluated}
+use Rattle.sg_changes.specs.Captured.{Captured}
+use Rattle.sg_changes.specs.Changes.{Change, Put as Putting, Mark as Marking, part_of}
+use Rattle.sg_screen.specs.declared.message.Message.TheVariants as message
+use Rattle.sg_script.specs.declared.command.Command.{Command}
+use Rattle.sg_script.specs.declared.command.Command.TheVariants as command
+use Rattle.sg_states.specs.Selections.{alone}
+use Rattle.sg_states.specs.States.{State, selected_place, moved, picked, marked, replaced, undone, redone, typed, erased, pointed, ended}
+use Rattle.sg_states.specs.declared.marks.Mark.{Mark}
+use Rattle.sg_states.specs.declared.marks.Mark.TheVariants.{Alternate, Elide}
+use Rattle.sg_states.specs.declared.marks.Move.{Move}
+use Rattle.sg_states.specs.declared.marks.Move.TheVariants.{Next, Prev, Up, First, Sibling}
+use Rattle.sg_edits.specs.Choice.{Choice, Refused, Put, limited}
+use Rattle.sg_edits.specs.Edits.{phylum_in, is_editable, clip_of, done, deleted, pasted, removed, inserted, typed as typed_in}
+use Rattle.sg_edits.specs.declared.clip.Clip.{Clip}
+use Rattle.sg_input.specs.Entered.{Entered, BadByte, NoToken, Stopped, Faulted, Typed, entry_at, bad_byte}
+use Rattle.sg_commands.specs.Turn.{Turn, Reads, says, becomes, refused_if, found_or}
+
+-- the selected term; the entry of its phylum; whether it may be typed in
+abbrev pub selected_term : State → Term
+selected_term st = part_of st.term (selected_place st)
+
+abbrev pub entry_here : Spec → State → Option ℕ
+entry_here spec st = entry_at spec (phylum_in spec (selected_term st))
+
+abbrev pub is_editable_here : Spec → State → Bool
+is_editable_here spec st = is_editable spec (selected_term st)
+
+-- what is evaluated where a change is undone, and where it is done again
+abbrev pub evaluated_back : Spec → Term → Change → List (Reference Place)
+evaluated_back spec t (Putting u old new before after) = evaluated spec t u old
+evaluated_back spec t (Marking u old new before after) = []
+
+abbrev pub evaluated_forth : Spec → Term → Change → List (Reference Place)
+evaluated_forth spec t (Putting u old new before after) = evaluated spec t u new
+evaluated_forth spec t (Marking u old new before after) = []
+
+module _ (clip : Option Clip) (st : State) where
+  -- bytes typed in
+  abbrev pub types_unless : Option ℕ → Bytes → Turn
+  types_unless None bytes = becomes clip (typed bytes st)
+  types_unless (Some k) bytes = says clip (message.ByteAt k) st
+
+  abbrev pub types : Bytes → Turn
+  types bytes = types_unless (bad_byte bytes) bytes
+
+  -- a byte taken away
+  abbrev pub erases : Captured → Turn
+  erases c = refused_if clip st (nat_eq c.point 0) message.NoPlace (becomes clip (erased st))
+
+module _ (spec : Spec) (clip : Option Clip) (st : State) where
+  -- a node that may be typed in, and its entry
+  abbrev pub enterable : (ℕ → Turn) → Turn
+  enterable enters = refused_if clip st (not (is_editable_here spec st)) message.NotEditable
+      (found_or clip st message.NoEntry enters (entry_here spec st))
+
+  -- the newest change undone, and the next one done again
+  abbrev pub undoes : List Change → Turn
+  undoes [] = says clip message.NothingToUndo st
+  undoes (c ∷ cs) = record (becomes clip (undone st)) { set = evaluated_back spec st.term c }
+
+  abbrev pub redoes : List Change → Turn
+  redoes [] = says clip message.NothingToRedo st
+  redoes (c ∷ cs) = record (becomes clip (redone st)) { set = evaluated_forth spec st.term c }
+
+-- what is copied
+abbrev pub copied_of : Spec → State → Clip
+copied_of spec st = clip_of spec (selected_term st)
+
+module _ (spec : Spec) (height : ℕ) (clip : Option Clip) (st : State) where
+  -- moves of the selection
+  abbrev pub goes : Move → Turn
+  goes move = found_or clip st message.NoPlace (becomes clip) (moved spec height move st)
+
+  abbrev pub picks : ℕ → ℕ → Turn
+  picks line column = found_or clip st message.NoPlace (becomes clip) (picked spec height line column st)
+
+  -- a mark turned
+  abbrev pub marks : Mark → Turn
+  marks mark = found_or clip st message.NoAlternate (becomes clip) (marked spec height mark st)
+
+  -- a replacement, or why there is none; with what is copied then
+  abbrev pub replaces : Option Clip → Choice → Turn
+  replaces copied (Refused m) = says clip m st
+  replaces copied (Put u s select) = record {
+    state = replaced spec height u s (alone select) st;
+    clip = copied;
+    message = message.Fine;
+    set = evaluated spec st.term u s;
+  }
+
+  abbrev pub puts : Choice → Turn
+  puts choice = replaces clip (limited st.term choice)
+
+  abbrev pub cuts : Turn
+  cuts = replaces (Some (copied_of spec st)) (limited st.term (deleted spec st.term (selected_place st)))
+
+  -- a text that an entry read; where it was typed, the point goes where the reading failed
+  abbrev pub enters : Entered → Turn
+  enters (BadByte k) = says clip (message.ByteAt k) st
+  enters (NoToken k) = says clip (message.LexicalAt k) st
+  enters (Stopped k) = says clip (message.ParseAt k) st
+  enters (Faulted why) = says clip (message.Result why) st
+  enters (Typed v) = puts (typed_in spec st.term (selected_place st) v)
+
+  abbrev pub enters_typed : Entered → Turn
+  enters_typed (NoToken k) = says clip (message.LexicalAt k) (pointed k st)
+  enters_typed (Stopped k) = says clip (message.ParseAt k) (pointed k st)
+  enters_typed read = enters read
+
+  -- by the entry of the node where it was typed
+  abbrev pub enters_captured : (ℕ → Entered) → Turn
+  enters_captured read = found_or clip st message.NoEntry (λ entry. enters_typed (read entry)) (entry_here spec st)
+
+-- the table while nothing is being typed; the commands of sessions and files leave the buffer
+module _ (spec : Spec) (height : ℕ) (reads : Reads) (clip : Option Clip) (st : State) where
+  abbrev pub plain_turn : Command → Turn
+  plain_turn command.Next = goes spec height clip st Next
+  plain_turn command.Prev = goes spec height clip st Prev
+  plain_turn command.Up = goes spec height clip st Up
+  plain_turn command.First = goes spec height clip st First
+  plain_turn command.Sibling = goes spec height clip st Sibling
+  plain_turn (command.Goto line column) = picks spec height clip st line column
+  plain_turn (command.Do name) = puts spec height clip st (done spec st.term (selected_place st) name)
+  plain_turn command.Delete = puts spec height clip st (deleted spec st.term (selected_place st))
+  plain_turn command.Remove = replaces spec height clip st clip (removed spec st.term (selected_place st))
+  plain_turn command.InsertBefore = puts spec height clip st (inserted spec st.term (selected_place st) false)
+  plain_turn command.InsertAfter = puts spec height clip st (inserted spec st.term (selected_place st) true)
+  plain_turn command.Cut = cuts spec height clip st
+  plain_turn command.Copy = becomes (Some (copied_of spec st)) st
+  plain_turn command.Paste = puts spec height clip st (pasted spec st.term (selected_place st) clip)
+  plain_turn (command.Text text) =
+      enterable spec clip st (λ entry. enters spec height clip st (reads entry text))
+  plain_turn (command.TypeIn text) = enterable spec clip st (λ entry. types clip st text)
+  plain_turn command.Erase = says clip message.NotInText st
+  plain_turn command.Enter = says clip message.NotInText st
+  plain_turn command.Abandon = says clip message.NotInText st
+  plain_turn command.Alternate = marks spec height clip st Alternate
+  plain_turn command.Elide = marks spec height clip st Elide
+  plain_turn command.Undo = undoes spec clip st st.past
+  plain_turn command.Redo = redoes spec clip st st.future
+  plain_turn other = becomes clip st
+
+  -- and while this text is
+  abbrev pub typing_turn : Captured → Command → Turn
+  typing_turn c (command.TypeIn text) = types clip st text
+  typing_turn c command.Erase = erases clip st c
+  typing_turn c command.Enter = enters_captured spec height clip st (λ entry. reads entry c.text)
+  typing_turn c command.Abandon = becomes clip (ended st)
+  typing_turn c command.Show = becomes clip st
+  typing_turn c (command.New name) = becomes clip st
+  typing_turn c (command.Load name file) = becomes clip st
+  typing_turn c (command.Switch name) = becomes clip st
+  typing_turn c (command.Save file) = becomes clip st
+  typing_turn c (command.SaveText file) = becomes clip st
+  typing_turn c other = says clip message.InText st
+
+-- a command
+unfoldable pub turn : Spec → ℕ → Reads → Option Clip → State → Command → Turn
+turn spec height reads clip st command =
+    option_map_or (λ c. typing_turn spec height reads clip st c command) st.capture
+    (plain_turn spec height reads clip st command)

@@ -1,0 +1,15 @@
+//! One command in the current buffer: what it leaves of the buffer and of what was copied, what it says, and what it
+//! evaluates.
+#![tactic(auto)]
+
+mod entering;
+mod history;
+pub mod laws;
+mod moving;
+mod replacing;
+mod tools;
+mod turning;
+mod typing;
+
+pub use tools::Tools;
+pub use turning::turn;

@@ -1,0 +1,263 @@
+//! Commands that put another term in the place of a subterm.
+ghost use Rattle.std.specs.Prelude.{◌≡◌, Option, IfOk, OnErr};
+ghost use Rattle.sg_kinds.specs.Fits.{Fits};
+ghost use Rattle.sg_kinds.specs.Places.{place_of};
+ghost use Rattle.sg_eval.specs.Journal.{now_of, total_of};
+ghost use Rattle.sg_states.specs.Selections.{place_in};
+ghost use Rattle.sg_buffer.specs.Held.{state_of};
+ghost use Rattle.sg_edits.specs.Choice.{choice_of, FitsThere, IsFit, Put};
+ghost use Rattle.sg_edits.specs.Edits as edits;
+ghost use Rattle.sg_edits.specs.declared.clip.Clip.{Clip as IsClipped};
+ghost use Rattle.sg_commands.specs.Did.{Did, GaveUp};
+ghost use Rattle.sg_commands.specs.Replaced.{chosen_in, puts_in, replaces_in};
+ghost use Rattle.sg_commands.specs.Turns.{cuts};
+ghost use Rattle.sg_commands.specs.Tools.{AreTools, IsClip};
+
+use crate::tools::Tools;
+use sg_buffer::{Buffer, BufferFault};
+use sg_changes::Selection;
+use sg_edits::{Choice, Clip, copied, deleted, done, inserted, pasted, removed};
+use sg_eval::Journal;
+use sg_kinds::memory::NoMemory;
+use sg_kinds::row::Path;
+use sg_kinds::term::Term;
+use sg_screen::Message;
+use std::alloc::Global;
+
+// puts a term in the place of a subterm whose phylum it fits, unless the whole term would be over a limit
+fn put_in(
+    tools: &Tools,
+    buffer: &mut Buffer,
+    at: &Path,
+    t: &Term,
+    select: &Selection,
+    journal: &mut Journal,
+) -> Result<Message, NoMemory>
+    requires tools { AreTools buffer.old.grove.spec tools.now }
+    requires one { select.now.count ≡ 1 }
+    requires fits { FitsThere buffer.old.grove.spec (state_of buffer.old).term (place_of at.now) t.now }
+    ensures did { (clip : Option IsClipped) → IfOk result (λ m. Did (puts_in buffer.old clip
+        (Put (place_of at.now) t.now (place_in select.now))) m buffer.new clip
+        (now_of journal.old) (now_of journal.new)) }
+    ensures gave_up { (clip : Option IsClipped) → OnErr result (GaveUp buffer.old.grove.spec (puts_in buffer.old clip
+        (Put (place_of at.now) t.now (place_in select.now))) buffer.old buffer.new clip clip
+        (now_of journal.old) (now_of journal.new)) }
+    ensures spec { buffer.new.grove.spec ≡ buffer.old.grove.spec }
+    ensures height { buffer.new.height ≡ buffer.old.height }
+    ensures total { total_of journal.new ≡ total_of journal.old }
+{
+    match buffer.replace(at, t, select, tools.plans, tools.evaluator, journal) {
+        Ok(()) => Ok(Message::Fine),
+        Err(BufferFault::Size(_)) => Ok(Message::Size),
+        Err(BufferFault::NoMemory) => Err(NoMemory),
+    }
+}
+
+/// Puts what a choice says in its place, unless it is refused or the whole term would be over a limit.
+pub fn put_choice(
+    tools: &Tools,
+    buffer: &mut Buffer,
+    choice: Choice,
+    journal: &mut Journal,
+) -> Result<Message, NoMemory>
+    requires tools { AreTools buffer.old.grove.spec tools.now }
+    requires fits { IsFit buffer.old.grove.spec (state_of buffer.old).term (choice_of choice) }
+    ensures did { (clip : Option IsClipped) → IfOk result (λ m. Did (puts_in buffer.old clip (choice_of choice)) m
+        buffer.new clip (now_of journal.old) (now_of journal.new)) }
+    ensures gave_up { (clip : Option IsClipped) → OnErr result (GaveUp buffer.old.grove.spec
+        (puts_in buffer.old clip (choice_of choice)) buffer.old buffer.new clip clip
+        (now_of journal.old) (now_of journal.new)) }
+    ensures spec { buffer.new.grove.spec ≡ buffer.old.grove.spec }
+    ensures height { buffer.new.height ≡ buffer.old.height }
+    ensures total { total_of journal.new ≡ total_of journal.old }
+{
+    match choice {
+        Choice::Refused(why) => Ok(why),
+        Choice::Put { at, term, select } => {
+            let select = Selection {
+                path: select,
+                count: 1,
+            };
+            Ok(put_in(tools, buffer, &at, &term, &select, journal)?)
+        }
+    }
+}
+
+/// `do`: what the transformations of a name give at the selected node, in its place.
+pub fn transform(
+    alloc: Global,
+    tools: &Tools,
+    buffer: &mut Buffer,
+    name: &[u8],
+    journal: &mut Journal,
+) -> Result<Message, NoMemory>
+    requires tools { AreTools buffer.old.grove.spec tools.now }
+    ensures did { (clip : Option IsClipped) → IfOk result (λ m. Did (puts_in buffer.old clip
+        (chosen_in buffer.old (λ spec t u. edits.done spec t u name.now))) m
+        buffer.new clip (now_of journal.old) (now_of journal.new)) }
+    ensures gave_up { (clip : Option IsClipped) → OnErr result (GaveUp buffer.old.grove.spec (puts_in buffer.old clip
+        (chosen_in buffer.old (λ spec t u. edits.done spec t u name.now)))
+        buffer.old buffer.new clip clip (now_of journal.old) (now_of journal.new)) }
+    ensures spec { buffer.new.grove.spec ≡ buffer.old.grove.spec }
+    ensures height { buffer.new.height ≡ buffer.old.height }
+    ensures total { total_of journal.new ≡ total_of journal.old }
+{
+    buffer.facts();
+    let choice = done(
+        alloc,
+        buffer.terms(),
+        tools.evaluator,
+        buffer.selected(),
+        name,
+    )?;
+    put_choice(tools, buffer, choice, journal)
+}
+
+/// `delete`: the completing term of the selected node's phylum in its place.
+pub fn delete(
+    alloc: Global,
+    tools: &Tools,
+    buffer: &mut Buffer,
+    journal: &mut Journal,
+) -> Result<Message, NoMemory>
+    requires tools { AreTools buffer.old.grove.spec tools.now }
+    ensures did { (clip : Option IsClipped) → IfOk result (λ m. Did (puts_in buffer.old clip
+        (chosen_in buffer.old edits.deleted)) m
+        buffer.new clip (now_of journal.old) (now_of journal.new)) }
+    ensures gave_up { (clip : Option IsClipped) → OnErr result (GaveUp buffer.old.grove.spec (puts_in buffer.old clip
+        (chosen_in buffer.old edits.deleted))
+        buffer.old buffer.new clip clip (now_of journal.old) (now_of journal.new)) }
+    ensures spec { buffer.new.grove.spec ≡ buffer.old.grove.spec }
+    ensures height { buffer.new.height ≡ buffer.old.height }
+    ensures total { total_of journal.new ≡ total_of journal.old }
+{
+    buffer.facts();
+    let choice = deleted(alloc, buffer.terms(), buffer.selected())?;
+    put_choice(tools, buffer, choice, journal)
+}
+
+/// `remove`: the list without the selected element. It never gets over a limit.
+pub fn remove(
+    alloc: Global,
+    tools: &Tools,
+    buffer: &mut Buffer,
+    journal: &mut Journal,
+) -> Result<Message, NoMemory>
+    requires tools { AreTools buffer.old.grove.spec tools.now }
+    ensures did { (clip : Option IsClipped) → IfOk result (λ m. Did (replaces_in buffer.old clip
+        (chosen_in buffer.old edits.removed)) m
+        buffer.new clip (now_of journal.old) (now_of journal.new)) }
+    ensures gave_up { (clip : Option IsClipped) → OnErr result (GaveUp buffer.old.grove.spec
+        (replaces_in buffer.old clip (chosen_in buffer.old edits.removed))
+        buffer.old buffer.new clip clip (now_of journal.old) (now_of journal.new)) }
+    ensures spec { buffer.new.grove.spec ≡ buffer.old.grove.spec }
+    ensures height { buffer.new.height ≡ buffer.old.height }
+    ensures total { total_of journal.new ≡ total_of journal.old }
+{
+    buffer.facts();
+    let choice = removed(alloc, buffer.terms(), buffer.selected())?;
+    put_choice(tools, buffer, choice, journal)
+}
+
+/// `insert-before` and `insert-after`: a new element beside the selected one.
+pub fn insert(
+    alloc: Global,
+    tools: &Tools,
+    buffer: &mut Buffer,
+    after: bool,
+    journal: &mut Journal,
+) -> Result<Message, NoMemory>
+    requires tools { AreTools buffer.old.grove.spec tools.now }
+    ensures did { (clip : Option IsClipped) → IfOk result (λ m. Did (puts_in buffer.old clip
+        (chosen_in buffer.old (λ spec t u. edits.inserted spec t u after))) m
+        buffer.new clip (now_of journal.old) (now_of journal.new)) }
+    ensures gave_up { (clip : Option IsClipped) → OnErr result (GaveUp buffer.old.grove.spec (puts_in buffer.old clip
+        (chosen_in buffer.old (λ spec t u. edits.inserted spec t u after)))
+        buffer.old buffer.new clip clip (now_of journal.old) (now_of journal.new)) }
+    ensures spec { buffer.new.grove.spec ≡ buffer.old.grove.spec }
+    ensures height { buffer.new.height ≡ buffer.old.height }
+    ensures total { total_of journal.new ≡ total_of journal.old }
+{
+    buffer.facts();
+    let choice = inserted(alloc, buffer.terms(), buffer.selected(), after)?;
+    put_choice(tools, buffer, choice, journal)
+}
+
+// `paste` of what was copied
+fn paste_clip(
+    alloc: Global,
+    tools: &Tools,
+    buffer: &mut Buffer,
+    copy: &Clip,
+    journal: &mut Journal,
+) -> Result<Message, NoMemory>
+    requires tools { AreTools buffer.old.grove.spec tools.now }
+    requires clip { Fits buffer.old.grove.spec copy.now.term copy.now.phylum }
+    ensures did { (clip : Option IsClipped) → IfOk result (λ m. Did (puts_in buffer.old clip
+        (chosen_in buffer.old (λ spec t u. edits.pasted spec t u (Some copy.now)))) m
+        buffer.new clip (now_of journal.old) (now_of journal.new)) }
+    ensures gave_up { (clip : Option IsClipped) → OnErr result (GaveUp buffer.old.grove.spec (puts_in buffer.old clip
+        (chosen_in buffer.old (λ spec t u. edits.pasted spec t u (Some copy.now))))
+        buffer.old buffer.new clip clip (now_of journal.old) (now_of journal.new)) }
+    ensures spec { buffer.new.grove.spec ≡ buffer.old.grove.spec }
+    ensures height { buffer.new.height ≡ buffer.old.height }
+    ensures total { total_of journal.new ≡ total_of journal.old }
+{
+    buffer.facts();
+    let choice = pasted(alloc, buffer.terms(), buffer.selected(), Some(copy))?;
+    put_choice(tools, buffer, choice, journal)
+}
+
+/// `paste`: what was copied, in the place of the selected node, whose phylum it must have.
+pub fn paste(
+    alloc: Global,
+    tools: &Tools,
+    buffer: &mut Buffer,
+    clip: &Option<Clip>,
+    journal: &mut Journal,
+) -> Result<Message, NoMemory>
+    requires tools { AreTools buffer.old.grove.spec tools.now }
+    requires clip { IsClip buffer.old.grove.spec clip.now }
+    ensures did { IfOk result (λ m. Did (puts_in buffer.old clip.now
+        (chosen_in buffer.old (λ spec t u. edits.pasted spec t u clip.now))) m
+        buffer.new clip.now (now_of journal.old) (now_of journal.new)) }
+    ensures gave_up { OnErr result (GaveUp buffer.old.grove.spec (puts_in buffer.old clip.now
+        (chosen_in buffer.old (λ spec t u. edits.pasted spec t u clip.now)))
+        buffer.old buffer.new clip.now clip.now (now_of journal.old) (now_of journal.new)) }
+    ensures spec { buffer.new.grove.spec ≡ buffer.old.grove.spec }
+    ensures height { buffer.new.height ≡ buffer.old.height }
+    ensures total { total_of journal.new ≡ total_of journal.old }
+{
+    match clip {
+        Some(copy) => paste_clip(alloc, tools, buffer, copy, journal),
+        None => Ok(Message::ClipEmpty),
+    }
+}
+
+/// `cut`: the selected term is copied and then deleted. Where that is refused nothing is copied.
+pub fn cut(
+    alloc: Global,
+    tools: &Tools,
+    buffer: &mut Buffer,
+    clip: &mut Option<Clip>,
+    journal: &mut Journal,
+) -> Result<Message, NoMemory>
+    requires tools { AreTools buffer.old.grove.spec tools.now }
+    ensures did { IfOk result (λ m. Did (cuts buffer.old.grove.spec buffer.old.height clip.old (state_of buffer.old)) m
+        buffer.new clip.new (now_of journal.old) (now_of journal.new)) }
+    ensures gave_up { OnErr result (GaveUp buffer.old.grove.spec
+        (cuts buffer.old.grove.spec buffer.old.height clip.old (state_of buffer.old))
+        buffer.old buffer.new clip.old clip.new (now_of journal.old) (now_of journal.new)) }
+    ensures fits { IsClip buffer.old.grove.spec clip.old → IsClip buffer.old.grove.spec clip.new }
+    ensures spec { buffer.new.grove.spec ≡ buffer.old.grove.spec }
+    ensures height { buffer.new.height ≡ buffer.old.height }
+    ensures total { total_of journal.new ≡ total_of journal.old }
+{
+    buffer.facts();
+    let copy = copied(alloc, buffer.terms(), buffer.selected())?;
+    let said = delete(alloc, tools, buffer, journal)?;
+    if let Message::Fine = said {
+        *clip = Some(copy);
+    }
+    Ok(said)
+}

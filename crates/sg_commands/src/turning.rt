@@ -1,0 +1,214 @@
+//! The table of commands.
+ghost use Rattle.std.specs.Prelude.{◌≡◌, ◌≤◌, [], length, is_some, None, Option, Some, IfOk, OnErr};
+ghost use Rattle.sg_eval.specs.Journal.{now_of, total_of};
+ghost use Rattle.sg_changes.specs.Captured.{Captured};
+ghost use Rattle.sg_buffer.specs.Held.{state_of};
+ghost use Rattle.sg_edits.specs.declared.clip.Clip.{Clip as IsClipped};
+ghost use Rattle.sg_commands.specs.Did.{Did, GaveUp, turn_of};
+ghost use Rattle.sg_commands.specs.Tools.{AreTools, IsClip};
+ghost use Rattle.sg_commands.specs.Turn.{AreReads, Reads};
+ghost use Rattle.sg_commands.specs.Turns.{plain_turn, typing_turn};
+ghost use Rattle.sg_commands.specs.Typing.{IsTyping};
+
+use crate::entering::{enter_typed, text};
+use crate::history::{redo, undo};
+use crate::moving::{copy, go, pick, toggle};
+use crate::replacing::{cut, delete, insert, paste, remove, transform};
+use crate::tools::Tools;
+use crate::typing::{abandon, begin, erase, type_in};
+use sg_buffer::Buffer;
+use sg_edits::Clip;
+use sg_eval::Journal;
+use sg_kinds::memory::NoMemory;
+use sg_screen::Message;
+use sg_script::Command;
+use sg_states::{Mark, Move};
+use std::alloc::Global;
+
+// a command while no text is being typed
+fn plain(
+    alloc: Global,
+    tools: &Tools,
+    buffer: &mut Buffer,
+    clip: &mut Option<Clip>,
+    command: &Command,
+    journal: &mut Journal,
+) -> Result<Message, NoMemory>
+    requires tools { AreTools buffer.old.grove.spec tools.now }
+    requires clip { IsClip buffer.old.grove.spec clip.old }
+    requires typing { IsTyping buffer.old.grove.spec (state_of buffer.old) }
+    requires none { buffer.old.capture ≡ None }
+    ensures did { (reads : Reads) → AreReads buffer.old.grove.spec reads → IfOk result (λ m. Did
+        (plain_turn buffer.old.grove.spec buffer.old.height reads clip.old (state_of buffer.old) command.now) m
+        buffer.new clip.new (now_of journal.old) (now_of journal.new)) }
+    ensures gave_up { (reads : Reads) → AreReads buffer.old.grove.spec reads → OnErr result (GaveUp
+        buffer.old.grove.spec (plain_turn buffer.old.grove.spec buffer.old.height reads clip.old (state_of buffer.old)
+        command.now) buffer.old buffer.new clip.old clip.new (now_of journal.old) (now_of journal.new)) }
+    ensures spec { buffer.new.grove.spec ≡ buffer.old.grove.spec }
+    ensures height { buffer.new.height ≡ buffer.old.height }
+    ensures total { total_of journal.new ≡ total_of journal.old }
+{
+    match command {
+        Command::Next => Ok(go(buffer, Move::Next)),
+        Command::Prev => Ok(go(buffer, Move::Prev)),
+        Command::Up => Ok(go(buffer, Move::Up)),
+        Command::First => Ok(go(buffer, Move::First)),
+        Command::Sibling => Ok(go(buffer, Move::Sibling)),
+        Command::Goto(line, column) => Ok(pick(buffer, *line, *column)),
+        Command::Do(name) => transform(alloc, tools, buffer, name.as_slice(), journal),
+        Command::Delete => delete(alloc, tools, buffer, journal),
+        Command::Remove => remove(alloc, tools, buffer, journal),
+        Command::InsertBefore => insert(alloc, tools, buffer, false, journal),
+        Command::InsertAfter => insert(alloc, tools, buffer, true, journal),
+        Command::Cut => cut(alloc, tools, buffer, clip, journal),
+        Command::Copy => {
+            *clip = Some(copy(alloc, buffer)?);
+            Ok(Message::Fine)
+        }
+        Command::Paste => paste(alloc, tools, buffer, clip, journal),
+        Command::Text(bytes) => text(alloc, tools, buffer, bytes.as_slice(), journal),
+        Command::TypeIn(bytes) => begin(buffer, bytes.as_slice()),
+        Command::Erase | Command::Enter | Command::Abandon => Ok(Message::NotInText),
+        Command::Alternate => toggle(buffer, Mark::Alternate),
+        Command::Elide => toggle(buffer, Mark::Elide),
+        Command::Undo => undo(tools, buffer, journal),
+        Command::Redo => redo(tools, buffer, journal),
+        Command::New(_)
+        | Command::Load(_, _)
+        | Command::Switch(_)
+        | Command::Show
+        | Command::Save(_)
+        | Command::SaveText(_) => Ok(Message::Fine),
+    }
+}
+
+// a command while a text is being typed
+fn typing(
+    alloc: Global,
+    tools: &Tools,
+    buffer: &mut Buffer,
+    command: &Command,
+    journal: &mut Journal,
+) -> Result<Message, NoMemory>
+    requires tools { AreTools buffer.old.grove.spec tools.now }
+    requires typing { IsTyping buffer.old.grove.spec (state_of buffer.old) }
+    ensures did { (c : Captured) → (state_of buffer.old).capture ≡ Some c → (reads : Reads)
+        → AreReads buffer.old.grove.spec reads → (clip : Option IsClipped) → IfOk result (λ m. Did
+        (typing_turn buffer.old.grove.spec buffer.old.height reads clip (state_of buffer.old) c command.now) m
+        buffer.new clip (now_of journal.old) (now_of journal.new)) }
+    ensures gave_up { (c : Captured) → (state_of buffer.old).capture ≡ Some c → (reads : Reads)
+        → AreReads buffer.old.grove.spec reads → (clip : Option IsClipped) → OnErr result (GaveUp
+        buffer.old.grove.spec (typing_turn buffer.old.grove.spec buffer.old.height reads clip (state_of buffer.old) c
+        command.now) buffer.old buffer.new clip clip (now_of journal.old) (now_of journal.new)) }
+    ensures spec { buffer.new.grove.spec ≡ buffer.old.grove.spec }
+    ensures height { buffer.new.height ≡ buffer.old.height }
+    ensures total { total_of journal.new ≡ total_of journal.old }
+{
+    match command {
+        Command::TypeIn(bytes) => type_in(buffer, bytes.as_slice()),
+        Command::Erase => erase(buffer),
+        Command::Enter => enter_typed(alloc, tools, buffer, journal),
+        Command::Abandon => abandon(buffer),
+        Command::New(_)
+        | Command::Load(_, _)
+        | Command::Switch(_)
+        | Command::Show
+        | Command::Save(_)
+        | Command::SaveText(_) => Ok(Message::Fine),
+        Command::Next
+        | Command::Prev
+        | Command::Up
+        | Command::First
+        | Command::Sibling
+        | Command::Goto(_, _)
+        | Command::Do(_)
+        | Command::Delete
+        | Command::Remove
+        | Command::InsertBefore
+        | Command::InsertAfter
+        | Command::Cut
+        | Command::Copy
+        | Command::Paste
+        | Command::Text(_)
+        | Command::Alternate
+        | Command::Elide
+        | Command::Undo
+        | Command::Redo => Ok(Message::InText),
+    }
+}
+
+// whether a text is being typed
+fn is_typing(buffer: &Buffer) -> bool
+    ensures { result ≡ is_some (state_of buffer.now).capture }
+{
+    match buffer.captured() {
+        Some(_) => true,
+        None => false,
+    }
+}
+
+// a command
+fn turned(
+    alloc: Global,
+    tools: &Tools,
+    buffer: &mut Buffer,
+    clip: &mut Option<Clip>,
+    command: &Command,
+    journal: &mut Journal,
+) -> Result<Message, NoMemory>
+    requires tools { AreTools buffer.old.grove.spec tools.now }
+    requires clip { IsClip buffer.old.grove.spec clip.old }
+    requires typing { IsTyping buffer.old.grove.spec (state_of buffer.old) }
+    ensures did { (reads : Reads) → AreReads buffer.old.grove.spec reads → IfOk result (λ m. Did
+        (turn_of buffer.old reads clip.old command.now) m buffer.new clip.new (now_of journal.old)
+        (now_of journal.new)) }
+    ensures gave_up { (reads : Reads) → AreReads buffer.old.grove.spec reads → OnErr result (GaveUp
+        buffer.old.grove.spec (turn_of buffer.old reads clip.old command.now) buffer.old buffer.new clip.old clip.new
+        (now_of journal.old) (now_of journal.new)) }
+    ensures spec { buffer.new.grove.spec ≡ buffer.old.grove.spec }
+    ensures height { buffer.new.height ≡ buffer.old.height }
+    ensures total { total_of journal.new ≡ total_of journal.old }
+{
+    buffer.facts();
+    if is_typing(buffer) {
+        typing(alloc, tools, buffer, command, journal)
+    } else {
+        plain(alloc, tools, buffer, clip, command, journal)
+    }
+}
+
+/// Does a command in a buffer and says what came of it. `clip` is what was copied last. The commands of sessions and
+/// files do nothing here. Without memory the buffer's state and what was copied stay, and the journal may have gained
+/// some of what the command evaluates.
+pub fn turn(
+    alloc: Global,
+    tools: &Tools,
+    buffer: &mut Buffer,
+    clip: &mut Option<Clip>,
+    command: &Command,
+    journal: &mut Journal,
+) -> Result<Message, NoMemory>
+    requires tools { AreTools buffer.old.grove.spec tools.now }
+    requires clip { IsClip buffer.old.grove.spec clip.old }
+    requires typing { IsTyping buffer.old.grove.spec (state_of buffer.old) }
+    ensures did { (reads : Reads) → AreReads buffer.old.grove.spec reads → IfOk result (λ m. Did
+        (turn_of buffer.old reads clip.old command.now) m buffer.new clip.new (now_of journal.old)
+        (now_of journal.new)) }
+    ensures counted { (reads : Reads) → AreReads buffer.old.grove.spec reads → now_of journal.old ≡ []
+        → IfOk result (λ _. length (now_of journal.new) ≡ length (turn_of buffer.old reads clip.old command.now).set) }
+    ensures gave_up { (reads : Reads) → AreReads buffer.old.grove.spec reads → OnErr result (GaveUp
+        buffer.old.grove.spec (turn_of buffer.old reads clip.old command.now) buffer.old buffer.new clip.old clip.new
+        (now_of journal.old) (now_of journal.new)) }
+    ensures fewer { (reads : Reads) → AreReads buffer.old.grove.spec reads → now_of journal.old ≡ []
+        → OnErr result (length (now_of journal.new) ≤ length (turn_of buffer.old reads clip.old command.now).set) }
+    ensures typing { IsTyping buffer.new.grove.spec (state_of buffer.new) }
+    ensures fits { IsClip buffer.new.grove.spec clip.new }
+    ensures spec { buffer.new.grove.spec ≡ buffer.old.grove.spec }
+    ensures height { buffer.new.height ≡ buffer.old.height }
+    ensures total { total_of journal.new ≡ total_of journal.old }
+{
+    tools.tables.sound();
+    tools.tables.decided();
+    buffer.facts();
+    turned(alloc, tools, buffer, clip, command, journal)
+}

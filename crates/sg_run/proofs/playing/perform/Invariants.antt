@@ -1,0 +1,22 @@
+use Rattle.std.proofs.Common.{◌≡◌, ◌≤◌, ◌+◌, ◌*◌, ◌^◌, drop}
+use Rattle.sg_eval.specs.Journal.{counted}
+use Rattle.sg_editor.specs.Ask.{Readers, AreReaders}
+use Rattle.sg_editor.specs.Editing.{spec_in, session_of}
+use Rattle.sg_told.specs.Session.{session}
+use Rattle.sg_told.specs.World.{world_of}
+use Rattle.sg_told.specs.Parts.{Passed}
+use Rattle.sg_run.specs.DeskView.{desk_in}
+use Rattle.sg_run.proofs.playing.perform.Given as goal
+
+-- the run goes on as the session of the commands that are left
+abbrev pub invariant-loop-command : goal.invariant-loop-command
+invariant-loop-command g l = record {
+  kept : (r : Readers) → desk_in l.editor r ≡ desk_in l.initial.editor r;
+  passed : (r : Readers) → AreReaders (spec_in l.initial.editor) r
+      → Passed (session (desk_in l.initial.editor r) (session_of l.initial.editor) l.commands)
+      (session (desk_in l.initial.editor r) (session_of l.editor) (drop l.command-index l.commands))
+      l.initial.replies.items l.replies.items
+      (world_of g.S.Shelf.files g.S.Shelf.faults g.S.Shelf.calls l.initial.shelf g.K.Sink.written g.K.Sink.faults g.K.Sink.puts l.initial.sink (counted l.initial.journal))
+      (world_of g.S.Shelf.files g.S.Shelf.faults g.S.Shelf.calls l.shelf g.K.Sink.written g.K.Sink.faults g.K.Sink.puts l.sink (counted l.journal));
+  room : counted l.journal ≤ counted l.initial.journal + 2 ^ 40 * l.command-index;
+}

@@ -1,4 +1,0 @@
-mod Worked
-pub mod Turns
-pub mod Found
-pub mod Newlines

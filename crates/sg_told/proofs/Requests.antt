@@ -1,0 +1,129 @@
+-- One part of a run after another, and a request to the shelf within a run
+use Rattle.std.proofs.Common.{◌≡◌, ℕ, List, [], ◌∷◌, ◌++◌, Bool, refl, sym, ap, ◌∙◌, subst, arith, if◌then◌else◌, append-nil, append_assoc}
+use Rattle.sg_outside.proofs.Tally.{tallied-zero}
+use Rattle.sg_replies.specs.declared.reply.Reply.{Reply}
+use Rattle.sg_replies.specs.Requests.{Request}
+use Rattle.sg_replies.specs.Calls.{ShelfState, Replied, Unanswered}
+use Rattle.sg_replies.proofs.Laws.{served_one, none_or_one_more, unanswered_one_more}
+use Rattle.sg_told.specs.declared.status.Status.{Status}
+use Rattle.sg_told.specs.declared.status.Status.TheVariants.{Memory}
+use Rattle.sg_told.specs.Told.{Told, before, unfinished, taking, asked}
+use Rattle.sg_told.specs.Output.{whole_file}
+use Rattle.sg_told.specs.Opening.{IsFetched}
+use Rattle.sg_told.specs.World.{SinkState, World, world}
+use Rattle.sg_told.specs.Parts.{Ends, Passed, Played}
+use Rattle.sg_told.proofs.Laws.{appended-nil, goes_on, goes_and_ends, before-before, before_nothing, nothing}
+use Rattle.sg_told.proofs.Endings.{ends_memory}
+
+pub played_at : (f : List Reply → Told) (rs : List Reply) (status : Status) (old new : World) → Ends old (f []) [] status new → Played f rs rs status old new
+played_at f rs status old new e = record { got = []; replies = sym (append-nil rs); ends = e }
+
+-- the run goes on as next, and ends there
+pub played_after : (f next : List Reply → Told) (rb rm ra : List Reply) (old between new : World) (status : Status)
+    → Passed f next rb rm old between → Played next rm ra status between new → Played f rb ra status old new
+played_after f next rb rm ra old between new status p q = record {
+  got = p.got ++ q.got;
+  replies = q.replies ∙ ap (λ (rs : List Reply). rs ++ q.got) p.replies ∙ append_assoc rb p.got q.got;
+  ends = let ends = goes_and_ends old between new p.so_far (next q.got) p.got q.got status p.goes q.ends in
+      subst (λ (t : Told). Ends old t (p.got ++ q.got) status new) (sym (p.law q.got)) ends;
+}
+
+-- the run goes on as g, and then as h
+pub passed_after : (f g h : List Reply → Told) (rb rm ra : List Reply) (old between new : World)
+    → Passed f g rb rm old between → Passed g h rm ra between new → Passed f h rb ra old new
+passed_after f g h rb rm ra old between new p q = record {
+  got = p.got ++ q.got;
+  so_far = before p.so_far q.so_far;
+  replies = q.replies ∙ ap (λ (rs : List Reply). rs ++ q.got) p.replies ∙ append_assoc rb p.got q.got;
+  goes = goes_on old between new p.so_far q.so_far p.got q.got p.goes q.goes;
+  law = λ more. ap f (append_assoc p.got q.got more) ∙ p.law (q.got ++ more) ∙ ap (λ (v : Told). before p.so_far v) (q.law more) ∙ before-before p.so_far q.so_far (h more);
+}
+
+-- nothing has happened yet
+pub passed_start : (f : List Reply → Told) (rs : List Reply) (w : World) → Passed f f rs rs w w
+passed_start f rs w = record {
+  got = [];
+  so_far = nothing;
+  replies = sym (append-nil rs);
+  goes = record {
+    output = sym (appended-nil w.sink.written);
+    puts = sym (tallied-zero w.sink.puts);
+    evaluated = omega arith;
+    each = refl;
+    taken = refl;
+    answered = refl;
+    served = record { files = refl; faults = omega arith; later = omega arith; calls = sym (tallied-zero w.shelf.calls) };
+    sink_later = omega arith;
+  };
+  law = λ more. sym (before_nothing (f more));
+}
+
+-- the shelf replied
+pub passed_reply : (q : Request) (next : Reply → List Reply → Told) (reply : Reply) (rb ra : List Reply) (shelf shelf' : ShelfState) (sink : SinkState) (n : ℕ)
+    → Replied q reply shelf shelf' → ra ≡ rb ++ reply ∷ [] → Passed (asked q next) (next reply) rb ra (world shelf sink n) (world shelf' sink n)
+passed_reply q next reply rb ra shelf shelf' sink n r e = record {
+  got = reply ∷ [];
+  so_far = taking q;
+  replies = e;
+  goes = record {
+    output = sym (appended-nil sink.written);
+    puts = sym (tallied-zero sink.puts);
+    evaluated = omega arith;
+    each = refl;
+    taken = refl;
+    answered = refl;
+    served = served_one q reply shelf shelf' r;
+    sink_later = omega arith;
+  };
+  law = λ more. ap (λ (b : Bool). if b then before (taking q) (next reply more) else unfinished q) r.kind;
+}
+
+-- the shelf had no memory
+pub no_reply : (q : Request) (next : Reply → List Reply → Told) (rb ra : List Reply) (shelf shelf' : ShelfState) (sink : SinkState) (n : ℕ)
+    → ra ≡ rb → Unanswered shelf shelf' → Played (asked q next) rb ra Memory (world shelf sink n) (world shelf' sink n)
+no_reply q next rb ra shelf shelf' sink n e u = record {
+  got = [];
+  replies = e ∙ sym (append-nil rb);
+  ends = ends_memory shelf shelf' sink n n (unfinished q) [] refl (unanswered_one_more q shelf shelf' u) (omega arith) (omega arith);
+}
+
+-- there was no memory to ask
+pub not_asked : (q : Request) (next : Reply → List Reply → Told) (rb ra : List Reply) (shelf : ShelfState) (sink : SinkState) (n : ℕ) → ra ≡ rb
+    → Played (asked q next) rb ra Memory (world shelf sink n) (world shelf sink n)
+not_asked q next rb ra shelf sink n e = record {
+  got = [];
+  replies = e ∙ sym (append-nil rb);
+  ends = ends_memory shelf shelf sink n n (unfinished q) [] refl (none_or_one_more (q ∷ []) shelf (omega arith)) (omega arith) (omega arith);
+}
+
+-- the one reply more to the fetch of a file, and what follows it
+pub passed_fetched : (name : List ℕ) (next : Reply → List Reply → Told) (rb ra : List Reply) (shelf shelf' : ShelfState) (sink sink' : SinkState) (n : ℕ) (f : IsFetched name rb ra shelf shelf')
+    → sink' ≡ sink → Passed (asked (whole_file name) next) (next f.reply) rb ra (world shelf sink n) (world shelf' sink' n)
+passed_fetched name next rb ra shelf shelf' sink sink' n f same =
+    subst (λ (s : SinkState). Passed (asked (whole_file name) next) (next f.reply) rb ra (world shelf sink n) (world shelf' s n)) (sym same)
+    (passed_reply (whole_file name) next f.reply rb ra shelf shelf' sink n f.replied f.last)
+
+pub played_fetched : (name : List ℕ) (next : Reply → List Reply → Told) (rb ra : List Reply) (shelf shelf' : ShelfState) (old new : SinkState) (n m : ℕ) (status : Status)
+    (f : IsFetched name rb ra shelf shelf') → Ends (world shelf' old n) (next f.reply []) [] status (world shelf' new m)
+    → Played (asked (whole_file name) next) rb ra status (world shelf old n) (world shelf' new m)
+played_fetched name next rb ra shelf shelf' old new n m status f ends =
+    played_after (asked (whole_file name) next) (next f.reply) rb ra ra (world shelf old n) (world shelf' old n) (world shelf' new m) status
+    (passed_fetched name next rb ra shelf shelf' old old n f refl)
+    (played_at (next f.reply) ra status (world shelf' old n) (world shelf' new m) ends)
+
+-- the same, with the status that it ended with; as what is told
+pub played_as : (f : List Reply → Told) (rb ra : List Reply) (status other : Status) (old new : World) → other ≡ status → Played f rb ra status old new → Played f rb ra other old new
+played_as f rb ra status other old new e p = subst (λ (s : Status). Played f rb ra s old new) (sym e) p
+
+-- no reply
+pub played_nothing : (f : List Reply → Told) (rb ra : List Reply) (status : Status) (old new : World) → ra ≡ rb → Ends old (f []) [] status new → Played f rb ra status old new
+played_nothing f rb ra status old new none e = record { got = []; replies = none ∙ sym (append-nil rb); ends = e }
+
+-- all replies
+pub ends_whole : (f : List Reply → Told) (ra : List Reply) (status ended : Status) (old new : World) → Played f [] ra status old new → ended ≡ status → Ends old (f ra) ra ended new
+ends_whole f ra status ended old new p is =
+    subst (λ (s : Status). Ends old (f ra) ra s new) (sym is) (subst (λ (rs : List Reply). Ends old (f rs) rs status new) (sym p.replies) p.ends)
+
+-- the same, after replies that are known
+pub played_from : (f : List Reply → Told) (rb rs ra : List Reply) (status : Status) (old new : World) → rb ≡ rs → Played f rb ra status old new → Played f rs ra status old new
+played_from f rb rs ra status old new e p = subst (λ (x : List Reply). Played f x ra status old new) e p

@@ -1,0 +1,75 @@
+-- The causes of a status, by the replies
+use Rattle.std.specs.Prelude.{◌≡◌, ◌⊎◌, ℕ, List, [], ◌∷◌, ◌++◌, Option, Some, Ok, Err, ⊤}
+use Rattle.sg_kinds.specs.declared.spec.Spec.{Spec}
+use Rattle.sg_kinds.specs.declared.fault.SpecFault.{SpecFault}
+use Rattle.sg_replies.specs.declared.reply.Reply.{Reply}
+use Rattle.sg_replies.specs.declared.reply.Reply.TheVariants.{Fetched, FetchFailed}
+use Rattle.sg_replies.specs.Calls.{Served}
+use Rattle.sg_script.specs.declared.command.Command.{Command}
+use Rattle.sg_script.specs.declared.fault.ScriptFault.{ScriptFault}
+use Rattle.sg_script.specs.Script.{script_of}
+use Rattle.sg_load.specs.Verdict.{IsVerdict}
+use Rattle.sg_load.specs.Verdict.Verdict.{Refused, Accepted}
+use Rattle.sg_told.specs.declared.status.Status.{Status}
+use Rattle.sg_told.specs.declared.status.Status.TheVariants.{Memory}
+use Rattle.sg_told.specs.Job.{Job, spec_name}
+use Rattle.sg_told.specs.Job.Job.{Run}
+use Rattle.sg_told.specs.Output.{whole_file}
+use Rattle.sg_told.specs.Reading.{Reading, IsTheReading}
+use Rattle.sg_told.specs.World.{World}
+
+-- memory was wanting before there was a verdict: the specification of that name was fetched, and nothing was written or
+-- evaluated
+pub record Unjudged (name : List ℕ) (old : World) (replies : List Reply) (status : Status) (new : World) : Type 0 where
+  pub memory : status ≡ Memory
+  pub bytes : List ℕ
+  pub fetched : replies ≡ Fetched bytes ∷ []
+  pub served : Served old.shelf (whole_file name ∷ []) replies new.shelf
+  pub sink : new.sink ≡ old.sink
+  pub counted : new.counted ≡ old.counted
+
+-- there is a reading, whose verdict is the only one, or memory was wanting before there was one
+abbrev pub IsReadOf : List ℕ → World → List Reply → Status → World → Type 0
+IsReadOf name old replies status new =
+    ((r : Reading) × IsTheReading replies r) ⊎ Unjudged name old replies status new
+
+-- the same of the specification of this job
+abbrev pub IsRead : Option Job → World → List Reply → Status → World → Type 0
+IsRead asked old replies status new = ((r : Reading) × IsTheReading replies r)
+    ⊎ ((job : Job) × (asked ≡ Some job) × Unjudged (spec_name job) old replies status new)
+
+-- the last reply is a failed fetch
+abbrev pub LastFailed : List Reply → Type 0
+LastFailed replies = (front : List Reply) × (replies ≡ front ++ FetchFailed ∷ [])
+
+-- the first reply brought bytes of which P holds; the second did
+abbrev pub FirstFetched : List Reply → (List ℕ → Type 0) → Type 0
+FirstFetched replies P = (bytes : List ℕ) × (rest : List Reply) × (replies ≡ Fetched bytes ∷ rest) × P bytes
+
+abbrev pub SecondFetched : List Reply → (List ℕ → Type 0) → Type 0
+SecondFetched replies P =
+    (first : Reply) × (bytes : List ℕ) × (rest : List Reply) × (replies ≡ first ∷ Fetched bytes ∷ rest) × P bytes
+
+-- a specification with a fault; one without
+abbrev pub HasFault : List ℕ → Type 0
+HasFault bytes = (f : SpecFault) × IsVerdict bytes (Refused f)
+
+abbrev pub HasNoFault : List ℕ → Type 0
+HasNoFault bytes = (spec : Spec) × IsVerdict bytes (Accepted spec)
+
+-- a text that is no script; one that is
+abbrev pub IsNoScript : List ℕ → Type 0
+IsNoScript bytes = (f : ScriptFault) × (script_of bytes ≡ Err f)
+
+abbrev pub IsScript : List ℕ → Type 0
+IsScript bytes = (commands : List Command) × (script_of bytes ≡ Ok commands)
+
+-- what was fetched is a specification without a fault; and a script, where one is to be performed
+abbrev pub AreScripts : Option Job → List Reply → Type 0
+AreScripts (Some (Run name script width height)) replies =
+    (first : Reply) (bytes : List ℕ) (rest : List Reply) → replies ≡ first ∷ Fetched bytes ∷ rest → IsScript bytes
+AreScripts job replies = ⊤
+
+pub record IsAccepted (job : Option Job) (replies : List Reply) : Type 0 where
+  pub spec : (bytes : List ℕ) (rest : List Reply) → replies ≡ Fetched bytes ∷ rest → HasNoFault bytes
+  pub script : AreScripts job replies

@@ -1,0 +1,10 @@
+pub mod Statuses
+pub mod Job
+pub mod Told
+pub mod Session
+pub mod Output
+pub mod Reading
+pub mod World
+pub mod Parts
+pub mod Causes
+pub mod Opening

@@ -1,0 +1,61 @@
+-- What a run finds and leaves: the shelf, the sink and the journal
+use Rattle.std.specs.Prelude.{◌≡◌, ◌≤◌, ◌<◌, ℕ, ◌+◌, List, [], ◌++◌, length, take, get_or, sum, Option}
+use Rattle.sg_outside.specs.Shelf.{Files}
+use Rattle.sg_outside.specs.Count.{tallied}
+use Rattle.sg_outside.specs.Sink.{appended}
+use Rattle.sg_replies.specs.Calls.{ShelfState, shelf_state}
+use Rattle.sg_replies.specs.Counts.{CallsOrOneMore}
+use Rattle.sg_told.specs.declared.status.Status.{Status}
+use Rattle.sg_told.specs.declared.status.Status.TheVariants.{Memory, SinkFault}
+use Rattle.sg_told.specs.Told.{Told, joined}
+
+-- what is known of a sink: its bytes, its count of failures, and how many puts there were
+pub record SinkState : Type 0 where
+  pub written : Option (List ℕ)
+  pub faults : ℕ
+  pub puts : Option ℕ
+
+abbrev pub sink_state : Option (List ℕ) → ℕ → Option ℕ → SinkState
+sink_state written faults puts = record { written = written; faults = faults; puts = puts }
+
+-- what is known of the shelf and of the sink, and how many entries the journal has in all
+pub record World : Type 0 where
+  pub shelf : ShelfState
+  pub sink : SinkState
+  pub counted : ℕ
+
+abbrev pub world : ShelfState → SinkState → ℕ → World
+world shelf sink counted = record { shelf = shelf; sink = sink; counted = counted }
+
+-- the world of a shelf and of a sink, by what their types tell of them, and of a number of entries
+abbrev pub world_of : {S K : Type 0} → (S → Option Files) → (S → ℕ) → (S → Option ℕ) → S → (K → Option (List ℕ))
+    → (K → ℕ) → (K → Option ℕ) → K → ℕ → World
+world_of files faults calls shelf written failed puts sink counted =
+    world (shelf_state (files shelf) (faults shelf) (calls shelf))
+    (sink_state (written sink) (failed sink) (puts sink)) counted
+
+-- k whole blocks were written, each by one put; the next one may have been refused by one put more
+pub record WroteWhole (k : ℕ) (old new : SinkState) (blocks : List (List ℕ)) : Type 0 where
+  pub written : new.written ≡ appended old.written (joined (take k blocks))
+  pub puts : CallsOrOneMore (k < length blocks) k old.puts new.puts
+
+-- k whole blocks were written, each by one put, and a front of the next by the last put, which failed
+pub record WroteFront (k : ℕ) (old new : SinkState) (blocks : List (List ℕ)) : Type 0 where
+  pub front : ℕ
+  pub more : k < length blocks
+  pub written : new.written ≡ appended old.written (joined (take k blocks) ++ take front (get_or blocks k []))
+  pub puts : new.puts ≡ tallied (k + 1) old.puts
+
+-- k whole blocks were written, and nothing else but, after a fault of the sink, a front of the next; the journal counts
+-- what was evaluated for them, and no more than what is evaluated for the next besides
+pub record WroteCounted (status : Status) (old new : World) (t : Told) : Type 0 where
+  pub k : ℕ
+  pub within : k ≤ length t.blocks
+  pub memory : status ≡ Memory → WroteWhole k old.sink new.sink t.blocks
+  pub fault : status ≡ SinkFault → WroteFront k old.sink new.sink t.blocks
+  pub least : old.counted + sum (take k t.evs) ≤ new.counted
+  pub most : new.counted ≤ old.counted + sum (take (k + 1) t.evs)
+
+-- some whole blocks were written, and nothing else
+abbrev pub WholeBlocks : Option (List ℕ) → Option (List ℕ) → List (List ℕ) → Type 0
+WholeBlocks old new blocks = (k : ℕ) × (k ≤ length blocks) × (new ≡ appended old (joined (take k blocks)))
