@@ -1,5 +1,5 @@
 -- How much a command evaluates at most.
-use Rattle.std.specs.Prelude.{◌≡◌, refl, ℕ, zero, suc, ◌+◌, ◌*◌, ◌^◌, ◌<◌, ◌≤◌, Bool, true, false, if◌then◌else◌, List, [], ◌∷◌, ◌++◌, length, map, filter, flat_map, All, Contains, get_or, slice_get, Option, Some, None, option_map, unwrap_or, MatchOption, ⊤}
+use Rattle.std.specs.Prelude.{◌≡◌, refl, ℕ, zero, suc, ◌+◌, ◌*◌, ◌^◌, ◌<◌, ◌≤◌, Bool, true, false, if◌then◌else◌, Result, Ok, Err, IfOk, List, [], ◌∷◌, ◌++◌, length, map, filter, flat_map, All, Contains, get_or, slice_get, Option, Some, None, option_map, unwrap_or, MatchOption, ⊤}
 use Rattle.std.proofs.Common.{sym, ap, ◌∙◌, subst, arith, length-append}
 use Rattle.std.proofs.lemmas.List.{length-map}
 use Rattle.std.proofs.lemmas.List.Elements.{All-get_or}
@@ -17,14 +17,16 @@ use Rattle.sg_eval.specs.declared.journal.Instance.{Instance}
 use Rattle.sg_forest.specs.declared.node_id.NodeId.{NodeId}
 use Rattle.sg_groves.specs.Grove.{Grove}
 use Rattle.sg_groves.proofs.InstancesOnce.{instance_has}
+use Rattle.sg_replies.specs.Calls.{ShelfState}
+use Rattle.sg_replies.specs.declared.reply.Reply.{Reply}
 use Rattle.sg_terms.specs.Entries.{AreEntries, Gained, GainedAll}
 use Rattle.sg_screen.specs.declared.message.Message.{Message}
 use Rattle.sg_buffer.specs.Held.{term_in}
 use Rattle.sg_commands.proofs.Counting.{gained_most}
 use Rattle.sg_editor.specs.declared.desk.Named.{Named}
-use Rattle.sg_editor.specs.Ask.{Step}
-use Rattle.sg_editor.specs.Editing.{IsKept, Kept, current_in}
-use Rattle.sg_editor.specs.Steps.{Took}
+use Rattle.sg_editor.specs.Ask.{Ask}
+use Rattle.sg_editor.specs.Editing.{Editing, IsKept, current_in, height_in, spec_in}
+use Rattle.sg_editor.specs.Steps.{Stepped}
 use Rattle.sg_editor.proofs.Stays.{over_current}
 
 module _ {X : Type 0} where
@@ -121,14 +123,19 @@ module _ (g : Grove) (root : NodeId) (t : Term) (sound : IsSound g.spec) where
       let few = few_instances g.spec sound.counted t small in
       omega (arith, most, few)
 
-pub took_few : (spec : Spec) (height : ℕ) → IsSound spec → (k : Kept) → IsKept spec height k → MatchOption (current_in k) ⊤ (λ b. IsSmall (term_in b.buffer))
-    → (step : Step) (m : Message) (now : List Instance) → Took step k m now → length now ≤ 2 ^ 40
-took_few spec height sound k kept small step m now took = by (current_in k) refl small took.noted
-  where
-    by : (o : Option Named) → current_in k ≡ o → MatchOption o ⊤ (λ b. IsSmall (term_in b.buffer))
-        → MatchOption o (now ≡ []) (λ b. GainedAll b.buffer.grove b.buffer.root (term_in b.buffer) (Contains step.set) [] now) → length now ≤ 2 ^ 40
-    by None here few none = let e : length now ≡ 0 = ap length none in omega (arith, e)
-    by (Some b) here few all =
-        let over = over_current spec height k kept b here in
-        let l = gained_few b.buffer.grove b.buffer.root (term_in b.buffer) (subst IsSound (sym over.spec_is) sound) (Contains step.set) now few all.gained in
-        omega (arith, l)
+module _ (e : Editing) (sound : IsSound (spec_in e)) (kept : IsKept (spec_in e) (height_in e) e.kept) (small : MatchOption (current_in e.kept) ⊤ (λ b. IsSmall (term_in b.buffer)))
+    (asked : Ask) (now : List Instance) (before after : List Reply) (old new : ShelfState) where
+  stepped_few : (m : Message) → Stepped asked e m now before after old new → length now ≤ 2 ^ 40
+  stepped_few m stepped = by (current_in e.kept) refl small stepped.noted
+    where
+      by : (o : Option Named) → current_in e.kept ≡ o → MatchOption o ⊤ (λ b. IsSmall (term_in b.buffer))
+          → MatchOption o (now ≡ []) (λ b. GainedAll b.buffer.grove b.buffer.root (term_in b.buffer) (Contains stepped.step.set) [] now) → length now ≤ 2 ^ 40
+      by None here few none = let none_long : length now ≡ 0 = ap length none in omega (arith, none_long)
+      by (Some b) here few all =
+          let over = over_current (spec_in e) (height_in e) e.kept kept b here in
+          let l = gained_few b.buffer.grove b.buffer.root (term_in b.buffer) (subst IsSound (sym over.spec_is) sound) (Contains stepped.step.set) now few all.gained in
+          omega (arith, l)
+
+  pub steps_few : {E : Type 0} (res : Result Message E) → IfOk res (λ m. Stepped asked e m now before after old new) → IfOk res (λ _. length now ≤ 2 ^ 40)
+  steps_few (Ok m) stepped = stepped_few m stepped
+  steps_few (Err x) stepped = tt

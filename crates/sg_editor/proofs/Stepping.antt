@@ -21,7 +21,7 @@ use Rattle.sg_editor.proofs.Taken.{none_noted, none_some, said}
 not_served : (s : ShelfState) → Served s [] [] s
 not_served s = record { files = refl; faults = omega arith; later = omega arith; calls = sym (tallied-zero s.calls) }
 
-of_kept : (e : Editing) → session_of e ≡ session_in e.kept
+pub of_kept : (e : Editing) → session_of e ≡ session_in e.kept
 unfolding session_of
 of_kept e = refl
 
@@ -39,6 +39,11 @@ module _ (e : Editing) (step : Step) (m : Message) (now : List Instance) (took :
     noted = took.noted;
     served = not_served shelf;
   }
+
+pub told_steps : {E : Type 0} (e : Editing) (step : Step) (now : List Instance) (replies : List Reply) (shelf : ShelfState) (res : Result Message E) → IfOk res (λ m. Took step e.kept m now)
+    → IfOk res (λ m. Stepped (Tells step) e m now replies replies shelf shelf)
+told_steps e step now replies shelf (Ok m) took = told_step e step m now took replies shelf
+told_steps e step now replies shelf (Err x) took = tt
 
 -- a step by a reply
 pub asked_step : (e : Editing) (request : Request) (next : Reply → Step) (reply : Reply) (m : Message) (now : List Instance) (before after : List Reply) (old new : ShelfState)
@@ -64,6 +69,11 @@ module _ (spec : Spec) where
     cut = (refl, some);
     served = none_or_one_more [] shelf (omega arith);
   }
+
+  pub told_cuts : {E : Type 0} (step : Step) (now : List Instance) (replies : List Reply) (shelf : ShelfState) (res : Result Message E) → OnErr res (AreSome spec step now)
+      → OnErr res (Interrupted spec (Tells step) now replies replies shelf shelf)
+  told_cuts step now replies shelf (Ok m) some = tt
+  told_cuts step now replies shelf (Err x) some = told_cut step now replies shelf some
 
   -- before anything was asked, and without a reply
   unanswered : (request : Request) (old new : ShelfState) → IsUnanswered old new → ServedOrOneMore old (request ∷ []) [] new

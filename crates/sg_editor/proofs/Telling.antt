@@ -18,7 +18,9 @@ use Rattle.sg_grammar.specs.Numbered.{grammar_of}
 use Rattle.sg_lalr.specs.Tables.{View, IsTables, Decided}
 use Rattle.sg_input.proofs.Texts.{each-text}
 use Rattle.sg_saved.proofs.Opening.{each-opened}
+use Rattle.sg_kinds.specs.declared.text.Text.{Text}
 use Rattle.sg_script.specs.declared.command.Command.{Command}
+use Rattle.sg_script.specs.declared.command.FileName.{FileName}
 use Rattle.sg_script.specs.declared.command.Command.TheVariants as command
 use Rattle.sg_commands.proofs.Readers.{reads_there}
 use Rattle.sg_editor.specs.Ask.{AreReaders, Readers, Step, Tells, ask, asks_nothing, tells}
@@ -30,6 +32,13 @@ others_tell spec height r s (command.Load name file) others = absurd (false≢tr
 others_tell spec height r s (command.Save file) others = absurd (false≢true others)
 others_tell spec height r s (command.SaveText file) others = absurd (false≢true others)
 others_tell spec height r s c others = refl
+
+pub other : (c : Command) → ((name : Text) → (file : FileName) → c ≡ command.Load name file → ⊥) → ((file : FileName) → c ≡ command.Save file → ⊥)
+    → ((file : FileName) → c ≡ command.SaveText file → ⊥) → IsTrue (asks_nothing c)
+other (command.Load name file) no_load no_save no_text = absurd (no_load name file refl)
+other (command.Save file) no_load no_save no_text = absurd (no_save file refl)
+other (command.SaveText file) no_load no_save no_text = absurd (no_text file refl)
+other c no_load no_save no_text = refl
 
 pub readers_there : (spec : Spec) → IsSound spec → (l : Lexemes) → AreLexemesOf spec l → (v : View) → v.grammar ≡ grammar_of spec → IsTables v → Decided v → (r : Readers) × AreReaders spec r
 readers_there spec sound l of v same tables m =

@@ -71,13 +71,15 @@ impl Editor {
         })
     }
 
-    // the specification is sound, and the current term is in the limits
+    // the specification is sound, there are readers for it, and the current term is in the limits
     fn facts(&self)
         ensures sound { IsSound (spec_in self.now) }
+        ensures readers { (r : Readers) × AreReaders (spec_in self.now) r }
         ensures kept { IsKept (spec_in self.now) (height_in self.now) self.now.kept }
         ensures small { MatchOption (current_in self.now.kept) ⊤ (λ b. IsSmall (term_in b.buffer)) }
     {
         let _ = self.base.spec();
+        self.base.readers();
         if let Some(named) = self.desk.current() {
             named.buffer.facts();
         }

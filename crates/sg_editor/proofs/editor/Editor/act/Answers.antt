@@ -4,9 +4,11 @@ use Rattle.sg_eval.specs.Journal.{now_of}
 use Rattle.sg_eval.specs.declared.journal.Instance.{Instance}
 use Rattle.sg_replies.specs.Calls.{shelf_state}
 use Rattle.sg_script.specs.declared.command.Command.{Command}
-use Rattle.sg_editor.specs.Ask.{ask, keeps, saved_form, saved_text}
-use Rattle.sg_editor.specs.Editing.{height_in, session_in, spec_in}
+use Rattle.sg_editor.specs.Ask.{AreReaders, Ask, ask, keeps, saved_form, saved_text, tells}
+use Rattle.sg_editor.specs.Editing.{Editing, height_in, session_in, spec_in}
 use Rattle.sg_editor.specs.Steps.{Interrupted, Stepped}
+use Rattle.sg_editor.proofs.Stepping.{told_cuts, told_steps}
+use Rattle.sg_editor.proofs.Telling.{other, others_tell}
 use Rattle.sg_editor.proofs.editor.Editor.act.Goals as goal
 
 pub returns-in-Load-clause-ok : goal.returns-in-Load-clause-ok
@@ -51,5 +53,29 @@ returns-in-SaveText-clause-err g c = λ r given.
     subst (λ (x : Command). OnErr c.save_text.result (Interrupted (spec_in e) (ask (spec_in e) (height_in e) r (session_in e.kept) x) (now_of c.args.journal.now) c.args.replies.now.items c.save_text.new.replies.items (shelf_state (g.S.Shelf.files c.args.shelf.now) (g.S.Shelf.faults c.args.shelf.now) (g.S.Shelf.calls c.args.shelf.now)) (shelf_state (g.S.Shelf.files c.save_text.new.shelf) (g.S.Shelf.faults c.save_text.new.shelf) (g.S.Shelf.calls c.save_text.new.shelf)))) (sym c.in-SaveText.is)
     (subst (λ (es : List Instance). OnErr c.save_text.result (Interrupted (spec_in e) (keeps c.in-SaveText.file (session_in e.kept) (saved_text (spec_in e) (session_in e.kept))) es c.args.replies.now.items c.save_text.new.replies.items (shelf_state (g.S.Shelf.files c.args.shelf.now) (g.S.Shelf.faults c.args.shelf.now) (g.S.Shelf.calls c.args.shelf.now)) (shelf_state (g.S.Shelf.files c.save_text.new.shelf) (g.S.Shelf.faults c.save_text.new.shelf) (g.S.Shelf.calls c.save_text.new.shelf)))) (sym c.requires.begun) c.save_text.ensures.err)
 
-pub returns-in_default : goal.returns-in_default
-returns-in_default g c = ?
+pub returns-in_default-clause-ok : goal.returns-in_default-clause-ok
+returns-in_default-clause-ok g c = λ r given.
+    let e : Editing = record { setting = c.self.inside.base; kept = c.self.inside.desk } in
+    let f : Editing = record { setting = c.self.inside.base; kept = c.tell.new.self } in
+    let said = c.args.command.now in
+    let now = now_of c.tell.new.journal in
+    let replies = c.args.replies.now.items in
+    let shelf = shelf_state (g.S.Shelf.files c.args.shelf.now) (g.S.Shelf.faults c.args.shelf.now) (g.S.Shelf.calls c.args.shelf.now) in
+    let right : AreReaders (spec_in e) r = subst (λ (x : Editing). AreReaders (spec_in x) r) (sym c.self.view_is) given in
+    let asked = others_tell (spec_in e) (height_in e) r (session_in e.kept) said (other said c.in_default.not-Load c.in_default.not-Save c.in_default.not-SaveText) in
+    subst (λ (x : Editing). IfOk c.tell.result (λ m. Stepped (ask (spec_in x) (height_in x) r (session_in x.kept) said) f m now replies replies shelf shelf)) c.self.view_is
+    (subst (λ (a : Ask). IfOk c.tell.result (λ m. Stepped a f m now replies replies shelf shelf)) (sym asked)
+    (told_steps f (tells (spec_in e) (height_in e) r (session_in e.kept) said) now replies shelf c.tell.result (c.tell.ensures.took r right)))
+
+pub returns-in_default-clause-err : goal.returns-in_default-clause-err
+returns-in_default-clause-err g c = λ r given.
+    let e : Editing = record { setting = c.self.inside.base; kept = c.self.inside.desk } in
+    let said = c.args.command.now in
+    let now = now_of c.tell.new.journal in
+    let replies = c.args.replies.now.items in
+    let shelf = shelf_state (g.S.Shelf.files c.args.shelf.now) (g.S.Shelf.faults c.args.shelf.now) (g.S.Shelf.calls c.args.shelf.now) in
+    let right : AreReaders (spec_in e) r = subst (λ (x : Editing). AreReaders (spec_in x) r) (sym c.self.view_is) given in
+    let asked = others_tell (spec_in e) (height_in e) r (session_in e.kept) said (other said c.in_default.not-Load c.in_default.not-Save c.in_default.not-SaveText) in
+    subst (λ (x : Editing). OnErr c.tell.result (Interrupted (spec_in x) (ask (spec_in x) (height_in x) r (session_in x.kept) said) now replies replies shelf shelf)) c.self.view_is
+    (subst (λ (a : Ask). OnErr c.tell.result (Interrupted (spec_in e) a now replies replies shelf shelf)) (sym asked)
+    (told_cuts (spec_in e) (tells (spec_in e) (height_in e) r (session_in e.kept) said) now replies shelf c.tell.result (c.tell.ensures.some r right)))

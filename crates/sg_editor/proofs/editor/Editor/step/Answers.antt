@@ -1,5 +1,9 @@
-use Rattle.std.specs.Prelude.{IfOk, OnErr}
-use Rattle.sg_editor.specs.Editing.{session_of}
+use Rattle.std.proofs.Common.{subst}
+use Rattle.sg_eval.specs.Journal.{now_of}
+use Rattle.sg_replies.specs.Calls.{shelf_state}
+use Rattle.sg_editor.specs.Ask.{AreReaders, ask}
+use Rattle.sg_editor.specs.Editing.{Setting, height_in, session_in, session_of, spec_in}
+use Rattle.sg_editor.proofs.Bound.{steps_few}
 use Rattle.sg_editor.proofs.editor.Editor.step.Goals as goal
 
 pub returns-clause-ok : goal.returns-clause-ok
@@ -15,4 +19,14 @@ unfolding session_of
 returns-clause-same g c = c.act-message.ensures.same
 
 pub returns-clause-most : goal.returns-clause-most
-returns-clause-most g c = ?
+returns-clause-most g c =
+    let f = c.act-message.new.self in
+    let r = c.facts.ensures.readers.0 in
+    let right : AreReaders (spec_in c.args.self.now) r =
+        subst (λ (s : Setting). AreReaders s.contents.spec r) c.act-message.ensures.setting c.facts.ensures.readers.1 in
+    let old = shelf_state (g.S.Shelf.files c.args.shelf.now) (g.S.Shelf.faults c.args.shelf.now) (g.S.Shelf.calls c.args.shelf.now) in
+    let new = shelf_state (g.S.Shelf.files c.act-message.new.shelf) (g.S.Shelf.faults c.act-message.new.shelf) (g.S.Shelf.calls c.act-message.new.shelf) in
+    steps_few f c.facts.ensures.sound c.facts.ensures.kept c.facts.ensures.small
+    (ask (spec_in c.args.self.now) (height_in c.args.self.now) r (session_in c.args.self.now.kept) c.args.command.now)
+    (now_of c.act-message.new.journal) c.args.replies.now.items c.act-message.new.replies.items old new c.act-message.result
+    (c.act-message.ensures.ok r right)
