@@ -1,5 +1,5 @@
 -- How much a command evaluates at most.
-use Rattle.std.specs.Prelude.{◌≡◌, refl, ℕ, zero, suc, ◌+◌, ◌*◌, ◌^◌, ◌<◌, ◌≤◌, Bool, true, false, if◌then◌else◌, Result, Ok, Err, IfOk, List, [], ◌∷◌, ◌++◌, length, map, filter, flat_map, All, Contains, get_or, slice_get, Option, Some, None, option_map, unwrap_or, MatchOption, ⊤}
+use Rattle.std.specs.Prelude.{◌≡◌, refl, ℕ, zero, suc, ◌+◌, ◌*◌, ◌^◌, ◌<◌, ◌≤◌, Bool, true, false, is_some, if◌then◌else◌, Result, Ok, Err, IfOk, List, [], ◌∷◌, ◌++◌, length, map, filter, flat_map, All, Contains, get_or, slice_get, Option, Some, None, option_map, unwrap_or, MatchOption, ⊤}
 use Rattle.std.proofs.Common.{sym, ap, ◌∙◌, subst, arith, length-append}
 use Rattle.std.proofs.lemmas.List.{length-map}
 use Rattle.std.proofs.lemmas.List.Elements.{All-get_or}
@@ -35,14 +35,11 @@ module _ {X : Type 0} where
 
   filter_short : (p : X → Bool) (xs : List X) → length (filter p xs) ≤ length xs
   filter_short p [] = omega arith
-  filter_short p (x ∷ xs) = by (p x)
+  filter_short p (x ∷ xs) = by (p x) (filter_short p xs)
     where
-      short : length (filter p xs) ≤ length xs
-      short = filter_short p xs
-
-      by : (b : Bool) → length (if b then x ∷ filter p xs else filter p xs) ≤ suc (length xs)
-      by true = omega (arith, short)
-      by false = omega (arith, short)
+      by : (b : Bool) → length (filter p xs) ≤ length xs → length (if b then x ∷ filter p xs else filter p xs) ≤ suc (length xs)
+      by true short = omega (arith, short)
+      by false short = omega (arith, short)
 
   flat_short : {Y : Type 0} (f : X → List Y) → ((x : X) → length (f x) ≤ 64) → (xs : List X) → length (flat_map f xs) ≤ 64 * length xs
   flat_short f few [] = omega arith
@@ -93,14 +90,14 @@ module _ (spec : Spec) (counted : AreCounted spec) where
   few_references : (t : Term) (u : Place) → length (references_at (rules_of spec) t u) ≤ 64
   few_references t u =
       let slots = slots_of (rules_of spec) ((net_of t).label u) in
-      let e = length-map (below slots) (λ slot. record { node = u; slot = slot }) in
+      let e = length-map {B = Reference Place} (below slots) (λ slot. record { node = u; slot = slot }) in
       let b = below_long slots in
       let f = few_slots ((net_of t).label u) in
       omega (arith, e, b, f)
 
   few_instances : (t : Term) → IsSmall t → length (instances (rules_of spec) t) ≤ 4194304
   few_instances t small =
-      let a = filter_short _ (flat_map (references_at (rules_of spec) t) (places_in t)) in
+      let a = filter_short (λ a. is_some (site_of (rules_of spec) (net_of t) a)) (flat_map (references_at (rules_of spec) t) (places_in t)) in
       let b = flat_short (references_at (rules_of spec) t) (few_references t) (places_in t) in
       let c = places_long [] t in
       let d = small.0 in
