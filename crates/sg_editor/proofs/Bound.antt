@@ -116,7 +116,7 @@ module _ (g : Grove) (root : NodeId) (t : Term) (sound : IsSound g.spec) where
   gained_few IsAmong now small gained =
       let among = entry_site gained.refs gained.entries gained.are in
       let most = gained_most g root t (instances (rules_of g.spec) t) [] now refl
-          (record { refs = gained.refs; entries = gained.entries; are = gained.are; appended = gained.appended; once = gained.once; among = among }) in
+      (record { refs = gained.refs; entries = gained.entries; are = gained.are; appended = gained.appended; once = gained.once; among = among }) in
       let few = few_instances g.spec sound.counted t small in
       omega (arith, most, few)
 

@@ -95,7 +95,7 @@ module _ (spec : Spec) (k : Kept) (name : Bytes) (t : Term) where
   opens_session : (h : Held) → state_of h ≡ begun t → session_in (opened k name h) ≡ (opens spec name t (session_in k)).session
   opens_session h state =
       let buffers : map told (k.buffers ++ record { name = name; buffer = h } ∷ []) ≡ map told k.buffers ++ (name, begun t) ∷ [] =
-          map-append told k.buffers (record { name = name; buffer = h } ∷ []) ∙ ap (λ (st : State). map told k.buffers ++ (name, st) ∷ []) state in
+      map-append told k.buffers (record { name = name; buffer = h } ∷ []) ∙ ap (λ (st : State). map told k.buffers ++ (name, st) ∷ []) state in
       let place : length k.buffers ≡ length (map told k.buffers) = sym (length-map k.buffers told) in
       λ i. record { buffers = buffers i; current = Some (place i); clip = k.clip; loads = k.loads }
 
@@ -142,7 +142,7 @@ module _ (spec : Spec) (k : Kept) (i : ℕ) (b : Named) (here : slice_get k.buff
       → session_in (after k i b h clip) ≡ (turned_to i b.name (session_in k) t).session
   turned_session h clip t state same =
       let buffers : map told (slice_set k.buffers i (record b { buffer = h })) ≡ slice_set (map told k.buffers) i (b.name, t.state) =
-          map-set told k.buffers i (record b { buffer = h }) ∙ ap (λ (st : State). slice_set (map told k.buffers) i (b.name, st)) state in
+      map-set told k.buffers i (record b { buffer = h }) ∙ ap (λ (st : State). slice_set (map told k.buffers) i (b.name, st)) state in
       λ j. record { buffers = buffers j; current = k.current; clip = same j; loads = k.loads }
 
   turned_current : (h : Held) (clip : Option Clip) → current_in (after k i b h clip) ≡ Some (record b { buffer = h })
@@ -200,13 +200,13 @@ module _ (spec : Spec) (k : Kept) (i : ℕ) (b : Named) (here : slice_get k.buff
     turn_some old (Err e) up fewer =
         subst (λ (step : Step). AreSome spec step now) (sym (current_turn height r c over))
         (turned_some the_turn now (subst (λ (sp : Spec). Noted sp the_turn.state.term (Contains the_turn.set) [] now) over.spec_is
-          (subst (λ (es : List Instance). Noted b.buffer.grove.spec the_turn.state.term (Contains the_turn.set) es now) none up.noted)) fewer)
+        (subst (λ (es : List Instance). Noted b.buffer.grove.spec the_turn.state.term (Contains the_turn.set) es now) none up.noted)) fewer)
 
     turned_back : state_of h ≡ state_of b.buffer → clip ≡ k.clip → session_in (after k i b h clip) ≡ session_in k
     turned_back state same =
         let read : get_or k.buffers i b ≡ b = get_or_from_slice_get k.buffers i b b here in
         let buffers : map told (slice_set k.buffers i (record b { buffer = h })) ≡ map told k.buffers =
-            map-set_same told k.buffers i (record b { buffer = h }) b (ap (λ (st : State). (b.name, st)) state ∙ ap told (sym read)) in
+        map-set_same told k.buffers i (record b { buffer = h }) b (ap (λ (st : State). (b.name, st)) state ∙ ap told (sym read)) in
         λ j. record { buffers = buffers j; current = k.current; clip = same j; loads = k.loads }
 
     pub turn_same : {E : Type 0} (old : Held) (res : Result Message E) → old ≡ b.buffer → OnErr res (GaveUp b.buffer.grove.spec the_turn old h k.clip clip was now)

@@ -39,12 +39,7 @@ impl Model for Base {
 
 impl Base {
     /// The base of an editor of this specification, with a window of so many columns and lines.
-    pub fn new(
-        alloc: Global,
-        loaded: Loaded,
-        width: usize,
-        height: usize,
-    ) -> Result<Base, NoMemory>
+    pub fn new(alloc: Global, loaded: Loaded, width: usize, height: usize) -> Result<Base, NoMemory>
         requires low { 1 ≤ height }
         requires high { height ≤ 1024 }
         ensures { IfOk result (λ b. b ≡ record { contents = loaded; width = width; height = height }) }

@@ -42,7 +42,15 @@ fn begun(base: &Base, t: &Term, journal: &mut Journal) -> Result<Buffer, NoMemor
         lexemes: _,
     } = base.tools();
     let height = base.height();
-    match Buffer::new(base.alloc(), base.spec(), t, height, plans, evaluator, journal) {
+    match Buffer::new(
+        base.alloc(),
+        base.spec(),
+        t,
+        height,
+        plans,
+        evaluator,
+        journal,
+    ) {
         Ok(buffer) => Ok(buffer),
         Err(BufferFault::NoMemory) => Err(NoMemory),
         Err(BufferFault::Size(_)) => unreachable!(),

@@ -40,7 +40,14 @@ impl Desk {
         let tools = base.tools();
         let named = &mut self.named[k];
         let buffer = &mut named.buffer;
-        let message = turn(base.alloc(), &tools, buffer, &mut self.clip, command, journal);
+        let message = turn(
+            base.alloc(),
+            &tools,
+            buffer,
+            &mut self.clip,
+            command,
+            journal,
+        );
         let Tools {
             plans: _,
             evaluator: _,

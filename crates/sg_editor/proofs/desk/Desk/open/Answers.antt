@@ -25,7 +25,7 @@ returns-clause-took c =
     let clip : c.self.inside.clip ≡ k.clip = ap (λ (x : Kept). x.clip) c.self.view_is in
     let loads : c.self.inside.loads ≡ k.loads = ap (λ (x : Kept). x.loads) c.self.view_is in
     let same : record { buffers = c.push.new.self.items; current = Some c.len-place.result; clip = c.self.inside.clip; loads = c.self.inside.loads } ≡ opened k c.args.name.now h =
-        λ i. record { buffers = items i; current = Some (place i); clip = clip i; loads = loads i } in
+    λ i. record { buffers = items i; current = Some (place i); clip = clip i; loads = loads i } in
     subst (λ (x : Kept). Took (opens c.args.base.now.contents.spec c.args.name.now c.args.t.now (session_in k)) x message.Fine (now_of c.begun.new.journal)) (sym same)
     (opens_took c.args.base.now.contents.spec k c.args.name.now c.args.t.now h (now_of c.args.journal.now) (now_of c.begun.new.journal) c.requires.begun c.in_ok-buffer.ensures.state c.in_ok-buffer.ensures.evaluated)
 
@@ -38,6 +38,6 @@ returns-clause-kept c =
     let clip : c.self.inside.clip ≡ k.clip = ap (λ (x : Kept). x.clip) c.self.view_is in
     let loads : c.self.inside.loads ≡ k.loads = ap (λ (x : Kept). x.loads) c.self.view_is in
     let same : record { buffers = c.push.new.self.items; current = Some c.len-place.result; clip = c.self.inside.clip; loads = c.self.inside.loads } ≡ opened k c.args.name.now h =
-        λ i. record { buffers = items i; current = Some (place i); clip = clip i; loads = loads i } in
+    λ i. record { buffers = items i; current = Some (place i); clip = clip i; loads = loads i } in
     subst (IsKept c.args.base.now.contents.spec c.args.base.now.height) (sym same)
     (opened_kept c.args.base.now.contents.spec c.args.base.now.height k c.requires.kept c.args.name.now h c.in_ok-buffer.ensures.over)

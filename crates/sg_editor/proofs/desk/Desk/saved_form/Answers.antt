@@ -23,8 +23,8 @@ returns c =
     let t = (state_of b.buffer).term in
     let over = over_current spec c.args.base.now.height c.args.self.now c.requires b c.in-Ok.ensures.ok.0 in
     let holds : Holds c.terms.result.now c.root.result t =
-        subst (λ (g : Grove). Holds g c.root.result t) (sym c.terms.ensures) (subst (λ (n : NodeId). Holds b.buffer.grove n t) (sym c.root.ensures) c.facts.ensures.whole.holds) in
+    subst (λ (g : Grove). Holds g c.root.result t) (sym c.terms.ensures) (subst (λ (n : NodeId). Holds b.buffer.grove n t) (sym c.root.ensures) c.facts.ensures.whole.holds) in
     let bytes : c.in_ok-bytes.bytes.items ≡ saved spec (value_of t) =
-        c.in_ok-bytes.ensures t holds ∙ ap (λ (g : Grove). saved g.spec (value_of t)) c.terms.ensures ∙ ap (λ (sp : Spec). saved sp (value_of t)) over.spec_is in
+    c.in_ok-bytes.ensures t holds ∙ ap (λ (g : Grove). saved g.spec (value_of t)) c.terms.ensures ∙ ap (λ (sp : Spec). saved sp (value_of t)) over.spec_is in
     buffer_rests c.args.self.now (λ (st : State). Ok (saved spec (value_of st.term))) b c.in-Ok.ensures.ok.0 c.in-Ok.ensures.ok.1
     ∙ ap (λ (x : Bytes). Ok x) (sym bytes)

@@ -23,7 +23,7 @@ returns-clause-most g c =
     let f = c.act-message.new.self in
     let r = c.facts.ensures.readers.0 in
     let right : AreReaders (spec_in c.args.self.now) r =
-        subst (λ (s : Setting). AreReaders s.contents.spec r) c.act-message.ensures.setting c.facts.ensures.readers.1 in
+    subst (λ (s : Setting). AreReaders s.contents.spec r) c.act-message.ensures.setting c.facts.ensures.readers.1 in
     let old = shelf_state (g.S.Shelf.files c.args.shelf.now) (g.S.Shelf.faults c.args.shelf.now) (g.S.Shelf.calls c.args.shelf.now) in
     let new = shelf_state (g.S.Shelf.files c.act-message.new.shelf) (g.S.Shelf.faults c.act-message.new.shelf) (g.S.Shelf.calls c.act-message.new.shelf) in
     steps_few f c.facts.ensures.sound c.facts.ensures.kept c.facts.ensures.small
