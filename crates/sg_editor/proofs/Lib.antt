@@ -8,3 +8,4 @@ mod Resting
 mod Printed
 mod Bound
 mod Telling
+mod Refusing

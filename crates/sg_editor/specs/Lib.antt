@@ -3,3 +3,4 @@ pub mod Ask
 pub mod Screen
 pub mod Editing
 pub mod Steps
+pub mod Refused
