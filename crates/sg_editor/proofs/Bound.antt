@@ -1,6 +1,6 @@
 -- How much a command evaluates at most.
-use Rattle.std.specs.Prelude.{◌≡◌, refl, ℕ, zero, suc, ◌+◌, ◌*◌, ◌^◌, ◌<◌, ◌≤◌, Bool, true, false, is_some, if◌then◌else◌, Result, Ok, Err, IfOk, List, [], ◌∷◌, ◌++◌, length, map, filter, flat_map, All, Contains, get_or, slice_get, Option, Some, None, option_map, unwrap_or, MatchOption, ⊤}
-use Rattle.std.proofs.Common.{sym, ap, ◌∙◌, subst, arith, length-append}
+use Rattle.std.specs.Prelude.{◌≡◌, refl, ℕ, zero, suc, ◌*◌, ◌^◌, ◌<◌, ◌≤◌, Bool, true, false, is_some, if◌then◌else◌, Result, Ok, Err, IfOk, List, [], ◌∷◌, length, filter, flat_map, All, Contains, get_or, slice_get, Option, Some, None, option_map, unwrap_or, MatchOption, ⊤}
+use Rattle.std.proofs.Common.{sym, ap, subst, arith, length-append}
 use Rattle.std.proofs.lemmas.List.{length-map}
 use Rattle.std.proofs.lemmas.List.Elements.{All-get_or}
 use Rattle.std.proofs.lemmas.Option.{get_or_from_slice_get, slice_get_within}

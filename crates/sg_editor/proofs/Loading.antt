@@ -1,6 +1,6 @@
 -- Files that are loaded.
-use Rattle.std.specs.Prelude.{◌≡◌, refl, ℕ, suc, ◌<◌, Bool, true, false, nat_lt, List, length, if◌then◌else◌, Option, Some, None, IfSome}
-use Rattle.std.proofs.Common.{sym, ap, ◌∙◌, subst, arith}
+use Rattle.std.specs.Prelude.{◌≡◌, refl, ℕ, suc, Bool, true, false, nat_lt, List, length, if◌then◌else◌}
+use Rattle.std.proofs.Common.{ap}
 use Rattle.sg_kinds.specs.Values.{Bytes}
 use Rattle.sg_kinds.specs.declared.spec.Spec.{Spec}
 use Rattle.sg_eval.specs.declared.journal.Instance.{Instance}
@@ -10,7 +10,7 @@ use Rattle.sg_saved.specs.Read.{Opened, FormAt, PhylumAt, TooLarge, Holds}
 use Rattle.sg_screen.specs.declared.message.Message.{Message}
 use Rattle.sg_screen.specs.declared.message.Message.TheVariants as message
 use Rattle.sg_editor.specs.Ask.{Readers, Step, fetched, opened, read_in, longest_file, says}
-use Rattle.sg_editor.specs.Editing.{Kept, session_in}
+use Rattle.sg_editor.specs.Editing.{Kept}
 use Rattle.sg_editor.specs.Session.{Session, with_load}
 use Rattle.sg_editor.specs.Steps.{AreSome, Took}
 

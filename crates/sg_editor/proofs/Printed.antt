@@ -1,23 +1,23 @@
 -- What is printed of a buffer: its page is that of its term, by the nodes at the places.
-use Rattle.std.specs.Prelude.{◌≡◌, refl, ℕ, Bool, true, ◌==◌, bytes_eq, if◌then◌else◌, List, [], ◌∷◌, map, Option, Some, None, option_map, unwrap_or, slice_get}
+use Rattle.std.specs.Prelude.{◌≡◌, refl, ◌==◌, bytes_eq, List, [], ◌∷◌, map, Option, Some, None, option_map, unwrap_or}
 use Rattle.std.specs.List.{AllByRecursion, slice_split}
-use Rattle.std.proofs.Common.{sym, ap, ◌∙◌, subst, arith}
+use Rattle.std.proofs.Common.{ap, ◌∙◌, subst}
 use Rattle.sg_kinds.specs.Values.{Bytes}
 use Rattle.sg_kinds.specs.Terms.{Term}
-use Rattle.sg_kinds.specs.Places.{Place, sub}
+use Rattle.sg_kinds.specs.Places.{Place}
 use Rattle.sg_kinds.specs.FromScratch.{value_in}
 use Rattle.sg_kinds.proofs.Elementary.{bytes_is, bytes_itself, eq_is, eq_itself}
 use Rattle.sg_forest.specs.declared.node_id.NodeId.{NodeId}
 use Rattle.sg_forest.specs.Trees.{Climbs}
 use Rattle.sg_groves.specs.Grove.{Grove, nodes, IsGrove}
-use Rattle.sg_groves.specs.Holds.{Holds, IsPlaced}
+use Rattle.sg_groves.specs.Holds.{IsPlaced}
 use Rattle.sg_groves.proofs.Held.{node_held}
 use Rattle.sg_groves.proofs.Ways.{one_node, one_way}
 use Rattle.sg_select.proofs.Settling.{same_tests}
 use Rattle.sg_unparse.specs.Along.{node_along}
 use Rattle.sg_unparse.specs.Cells.{Mark}
 use Rattle.sg_unparse.specs.Owned.{place_of_mark}
-use Rattle.sg_unparse.specs.Page.{Cell, Region, bytes_of, cells_of, is_cut, is_newline, lines_of, region_of}
+use Rattle.sg_unparse.specs.Page.{Cell, bytes_of, cells_of, is_cut, is_newline, lines_of, region_of}
 use Rattle.sg_unparse.specs.Sheet.{Sheet, region_on, told}
 use Rattle.sg_unparse.specs.Written.{by_node}
 use Rattle.sg_unparse.proofs.Placed.{climbs_along}

@@ -1,5 +1,5 @@
 -- Commands that are not done.
-use Rattle.std.specs.Prelude.{◌≡◌, ◌≢◌, ◌⊎◌, refl, ℕ, Bool, true, false, not, nat_eq, nat_lt, length, if◌then◌else◌, is_some, List, [], ◌∷◌, slice_get, slice_set, Option, None, Some, Result, Ok, Err}
+use Rattle.std.specs.Prelude.{◌≡◌, ◌≢◌, ◌⊎◌, refl, ℕ, Bool, true, false, not, nat_eq, nat_lt, length, if◌then◌else◌, List, [], ◌∷◌, slice_get, slice_set, Option, None, Some, Result, Ok, Err}
 use Rattle.std.specs.Option.{option_map_or}
 use Rattle.std.proofs.Common.{sym, ap, ◌∙◌, subst, inl, inr}
 use Rattle.std.proofs.lemmas.Option.{get_or_from_slice_get}
@@ -30,7 +30,7 @@ use Rattle.sg_commands.specs.Turns.{copied_of, enterable, enters, enters_typed, 
 use Rattle.sg_editor.specs.Ask.{Ask, Readers, Step, ask, barred, fetched, in_current, keeps, loads, longest_file, news, opened, opens, read_in, saved_form, saved_text, shows, switches, taken, turned_at, turned_to}
 use Rattle.sg_editor.specs.Ask as asking
 use Rattle.sg_editor.specs.Refused.{IsPointed, Leaves, counted_by}
-use Rattle.sg_editor.specs.Session.{Session, buffer_named, with_load, with_state}
+use Rattle.sg_editor.specs.Session.{Session, buffer_named, with_load}
 use Rattle.sg_editor.specs.Steps.{Comes}
 
 -- a turn is done, or leaves the buffer and what was copied, or moves the point of a text that is entered

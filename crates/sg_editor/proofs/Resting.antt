@@ -1,5 +1,5 @@
 -- The current buffer, where no text is typed in it.
-use Rattle.std.specs.Prelude.{◌≡◌, refl, ℕ, Bool, true, false, List, is_some, if◌then◌else◌, Option, Some, None, option_map, MatchOption, Result, Ok, Err, IsErrAnd, MatchResult}
+use Rattle.std.specs.Prelude.{◌≡◌, refl, Bool, true, is_some, if◌then◌else◌, Option, Some, None, option_map, MatchOption, Result, Ok, Err, IsErrAnd, MatchResult}
 use Rattle.std.proofs.Common.{sym, ap, ◌∙◌, subst}
 use Rattle.std.proofs.lemmas.Bool.{false≢true}
 use Rattle.std.proofs.lemmas.Option.{none-some}

@@ -1,6 +1,6 @@
 -- What is kept of all buffers.
-use Rattle.std.specs.Prelude.{◌≡◌, refl, ℕ, ◌<◌, ◌++◌, List, [], ◌∷◌, length, All, slice_get, slice_set, get_or, Option, Some, None, option_and_then, MatchOption, ⊤}
-use Rattle.std.proofs.Common.{sym, ap, ◌∙◌, subst, arith, length-append, length-set}
+use Rattle.std.specs.Prelude.{◌≡◌, ℕ, ◌<◌, [], ◌∷◌, slice_get, Option, Some, MatchOption, ⊤}
+use Rattle.std.proofs.Common.{sym, subst, arith, length-append, length-set}
 use Rattle.std.proofs.lemmas.List.Elements.{All-append, All-nil, All-cons, All-set, All-get_or}
 use Rattle.std.proofs.lemmas.Option.{get_or_from_slice_get, slice_get_within, option_and_then_some}
 use Rattle.sg_kinds.specs.Values.{Bytes}

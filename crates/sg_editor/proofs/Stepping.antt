@@ -1,21 +1,19 @@
 -- What a command comes to.
-use Rattle.std.specs.Prelude.{◌≡◌, refl, ℕ, ◌≤◌, List, [], ◌∷◌, ◌++◌, length, IsTrue, IfOk, OnErr, Result, Ok, Err, Option, None, Some}
-use Rattle.std.proofs.Common.{sym, ap, ◌∙◌, subst, arith, inl, inr, append-nil}
+use Rattle.std.specs.Prelude.{◌≡◌, refl, List, [], ◌∷◌, ◌++◌, IfOk, OnErr, Result, Ok, Err}
+use Rattle.std.proofs.Common.{sym, ◌∙◌, subst, arith, inl, inr, append-nil}
 use Rattle.sg_kinds.specs.Values.{Bytes}
 use Rattle.sg_kinds.specs.declared.spec.Spec.{Spec}
 use Rattle.sg_eval.specs.declared.journal.Instance.{Instance}
-use Rattle.sg_replies.specs.Calls.{ShelfState, Replied, Unanswered, Served, ServedOrOneMore}
-use Rattle.sg_replies.specs.Requests.{Request, Fetch, Keep, fits}
+use Rattle.sg_replies.specs.Calls.{ShelfState, Replied, Served, ServedOrOneMore}
+use Rattle.sg_replies.specs.Requests.{Request, Keep}
 use Rattle.sg_replies.specs.declared.reply.Reply.{Reply}
 use Rattle.sg_replies.proofs.Laws.{served_one, none_or_one_more, unanswered_one_more}
-use Rattle.sg_outside.specs.Count.{raised_by, tallied}
 use Rattle.sg_outside.proofs.Tally.{tallied-zero}
 use Rattle.sg_screen.specs.declared.message.Message.{Message}
 use Rattle.sg_editor.specs.Ask.{Ask, Step, Tells, Asks, says, keeps, said_of_keep}
-use Rattle.sg_editor.specs.Editing.{Editing, Kept, session_in, session_of}
-use Rattle.sg_editor.specs.Session.{Session}
-use Rattle.sg_editor.specs.Steps.{Answered, AreSome, Interrupted, IsCutShort, IsUnanswered, Stepped, Took}
-use Rattle.sg_editor.proofs.Taken.{none_noted, none_some, said}
+use Rattle.sg_editor.specs.Editing.{Editing, session_in, session_of}
+use Rattle.sg_editor.specs.Steps.{Answered, AreSome, Interrupted, IsUnanswered, Stepped, Took}
+use Rattle.sg_editor.proofs.Taken.{none_some, said}
 
 -- no call was made
 not_served : (s : ShelfState) → Served s [] [] s

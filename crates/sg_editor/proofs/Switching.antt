@@ -1,5 +1,5 @@
 -- Commands that only choose among the buffers.
-use Rattle.std.specs.Prelude.{◌≡◌, refl, ℕ, ◌<◌, Bool, true, false, cond, nat_lt, List, [], map, length, is_some, if◌then◌else◌, Option, Some, None, option_map, MatchOption, ⊤}
+use Rattle.std.specs.Prelude.{◌≡◌, refl, ℕ, ◌<◌, Bool, true, false, cond, nat_lt, [], map, length, is_some, if◌then◌else◌, Option, Some, None, option_map}
 use Rattle.std.specs.List.{position_or_len}
 use Rattle.std.specs.Option.{option_map_or}
 use Rattle.std.proofs.Common.{sym, ap, ◌∙◌, subst, arith}
@@ -12,7 +12,7 @@ use Rattle.sg_states.specs.States.{State}
 use Rattle.sg_editor.specs.declared.desk.Named.{Named}
 use Rattle.sg_editor.specs.Ask.{Step, says, shows, switches}
 use Rattle.sg_editor.specs.Editing.{IsKept, Kept, current_in, session_in, told}
-use Rattle.sg_editor.specs.Session.{buffer_named, current_of, has_name}
+use Rattle.sg_editor.specs.Session.{buffer_named, has_name}
 use Rattle.sg_editor.specs.Steps.{Took}
 use Rattle.sg_editor.proofs.Taken.{said}
 use Rattle.sg_editor.proofs.Told.{current_told}

@@ -1,18 +1,16 @@
 -- Steps that are taken.
-use Rattle.std.specs.Prelude.{◌≡◌, refl, ℕ, ◌<◌, ◌≤◌, List, [], ◌∷◌, ◌++◌, map, length, Contains, get_or, slice_get, slice_set, Result, Ok, Err, IfOk, OnErr, Option, None, Some, option_map, option_and_then, MatchOption, ⊤}
-use Rattle.std.proofs.Common.{sym, ap, ◌∙◌, subst, arith, inl, inr, append-nil}
+use Rattle.std.specs.Prelude.{◌≡◌, refl, ℕ, ◌≤◌, List, [], ◌∷◌, ◌++◌, map, length, Contains, get_or, slice_get, slice_set, Result, Ok, Err, IfOk, OnErr, Option, None, Some, option_map, option_and_then, MatchOption}
+use Rattle.std.proofs.Common.{sym, ap, ◌∙◌, subst, arith, inl}
 use Rattle.std.proofs.lemmas.List.{map-set, map-append, length-map}
 use Rattle.std.proofs.lemmas.Option.{get_or_from_slice_get, slice_get-map, slice_get_within}
 use Rattle.std.proofs.Math.Seq.{map-set_same}
 use Rattle.sg_kinds.specs.Values.{Bytes}
 use Rattle.sg_kinds.specs.Terms.{Term}
-use Rattle.sg_kinds.specs.Places.{Place}
-use Rattle.sg_kinds.specs.Nets.{Reference}
 use Rattle.sg_kinds.specs.Instances.{instances}
 use Rattle.sg_kinds.specs.Specification.{rules_of}
 use Rattle.sg_kinds.specs.declared.spec.Spec.{Spec}
 use Rattle.sg_eval.specs.declared.journal.Instance.{Instance}
-use Rattle.sg_terms.specs.Entries.{Gained, GainedAll}
+use Rattle.sg_terms.specs.Entries.{GainedAll}
 use Rattle.sg_groves.proofs.InstancesOnce.{instances_apart}
 use Rattle.sg_turns.specs.Noted.{Noted}
 use Rattle.sg_edits.specs.declared.clip.Clip.{Clip}
@@ -28,7 +26,7 @@ use Rattle.sg_commands.proofs.Counting.{gained_count, noted_most}
 use Rattle.sg_editor.specs.declared.desk.Named.{Named}
 use Rattle.sg_editor.specs.Ask.{Step, Readers, says, opens, turned_to, turned_at, in_current}
 use Rattle.sg_editor.specs.Editing.{Kept, IsOver, told, session_in, current_in}
-use Rattle.sg_editor.specs.Session.{Session, current_of, with_load}
+use Rattle.sg_editor.specs.Session.{Session, current_of}
 use Rattle.sg_editor.specs.Steps.{AreNoted, AreSome, Took}
 use Rattle.sg_editor.proofs.Told.{written_there, last_there}
 

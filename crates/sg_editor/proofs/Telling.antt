@@ -23,7 +23,7 @@ use Rattle.sg_script.specs.declared.command.Command.{Command}
 use Rattle.sg_script.specs.declared.command.FileName.{FileName}
 use Rattle.sg_script.specs.declared.command.Command.TheVariants as command
 use Rattle.sg_commands.proofs.Readers.{reads_there}
-use Rattle.sg_editor.specs.Ask.{AreReaders, Readers, Step, Tells, ask, asks_nothing, tells}
+use Rattle.sg_editor.specs.Ask.{AreReaders, Readers, Tells, ask, asks_nothing, tells}
 use Rattle.sg_editor.specs.Session.{Session}
 
 pub others_tell : (spec : Spec) (height : ℕ) (r : Readers) (s : Session) (c : Command) → IsTrue (asks_nothing c) → ask spec height r s c ≡ Tells (tells spec height r s c)

@@ -1,11 +1,10 @@
 -- The session for which what is kept stands.
-use Rattle.std.specs.Prelude.{◌≡◌, refl, ℕ, ◌+◌, ◌<◌, Bool, cond, not, nat_lt, List, [], ◌∷◌, ◌++◌, map, length, position, bytes_eq, slice_get, slice_set, Option, None, Some, option_map, option_and_then, MatchOption, ⊤}
+use Rattle.std.specs.Prelude.{◌≡◌, refl, ℕ, ◌+◌, ◌<◌, cond, not, nat_lt, List, [], ◌∷◌, ◌++◌, map, length, position, bytes_eq, slice_get, slice_set, Option, None, Some, option_map, option_and_then}
 use Rattle.std.specs.List.{position_or_len}
-use Rattle.std.proofs.Common.{sym, ap, ◌∙◌, subst, arith, length-set}
+use Rattle.std.proofs.Common.{sym, ap, length-set}
 use Rattle.std.proofs.lemmas.List.{get_or-set_same, length-map}
 use Rattle.std.proofs.lemmas.Option.{slice_get-map, slice_get_read}
 use Rattle.sg_kinds.specs.Values.{Bytes}
-use Rattle.sg_states.specs.States.{State}
 use Rattle.sg_editor.specs.declared.desk.Named.{Named}
 use Rattle.sg_editor.specs.Editing.{Kept, told, session_in, current_in}
 use Rattle.sg_editor.specs.Session.{current_of, has_name}

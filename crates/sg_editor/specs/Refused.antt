@@ -1,5 +1,5 @@
 -- What a command leaves that is not done.
-use Rattle.std.specs.Prelude.{◌≡◌, ◌⊎◌, ℕ, List, [], ◌∷◌, Option, Some, slice_get}
+use Rattle.std.specs.Prelude.{◌≡◌, ◌⊎◌, ℕ, List, [], ◌∷◌, Some, slice_get}
 use Rattle.sg_kinds.specs.Values.{Bytes}
 use Rattle.sg_replies.specs.declared.reply.Reply.{Reply}
 use Rattle.sg_script.specs.declared.command.Command.{Command}

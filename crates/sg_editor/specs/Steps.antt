@@ -1,5 +1,5 @@
 -- What a command did: the step that was taken, the replies of the shelf, and what was evaluated.
-use Rattle.std.specs.Prelude.{◌≡◌, ◌⊎◌, ◌≤◌, ◌++◌, ℕ, List, [], ◌∷◌, length, Contains, IsTrue, MatchOption}
+use Rattle.std.specs.Prelude.{◌≡◌, ◌⊎◌, ◌≤◌, ◌++◌, List, [], ◌∷◌, length, Contains, IsTrue, MatchOption}
 use Rattle.sg_kinds.specs.Places.{Place}
 use Rattle.sg_kinds.specs.Nets.{Reference}
 use Rattle.sg_kinds.specs.declared.spec.Spec.{Spec}

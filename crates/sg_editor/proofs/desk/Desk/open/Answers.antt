@@ -1,12 +1,10 @@
-use Rattle.std.specs.Prelude.{◌≡◌, ℕ, [], ◌∷◌, ◌++◌, List, length, Option, Some}
-use Rattle.std.proofs.Common.{sym, ap, ◌∙◌, subst, arith}
-use Rattle.sg_edits.specs.declared.clip.Clip.{Clip}
+use Rattle.std.specs.Prelude.{◌≡◌, [], ◌∷◌, ◌++◌, length, Some}
+use Rattle.std.proofs.Common.{sym, ap, subst, arith}
 use Rattle.sg_eval.specs.Journal.{now_of}
 use Rattle.sg_screen.specs.declared.message.Message.TheVariants as message
-use Rattle.sg_editor.specs.declared.desk.Named.{Named}
 use Rattle.sg_editor.specs.Ask.{opens}
 use Rattle.sg_editor.specs.Editing.{IsKept, Kept, session_in}
-use Rattle.sg_editor.specs.Steps.{AreSome, Took}
+use Rattle.sg_editor.specs.Steps.{Took}
 use Rattle.sg_editor.proofs.Stays.{opened_kept}
 use Rattle.sg_editor.proofs.Taken.{on_err, opened, opens_some, opens_took}
 use Rattle.sg_editor.proofs.desk.Desk.open.Goals as goal

@@ -1,4 +1,3 @@
-use Rattle.std.specs.Prelude.{true}
 use Rattle.std.proofs.Common.{arith}
 use Rattle.sg_editor.proofs.Resting.{captured_some, typed_rests}
 use Rattle.sg_editor.proofs.desk.Desk.resting.Goals as goal

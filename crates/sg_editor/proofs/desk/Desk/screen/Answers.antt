@@ -1,9 +1,8 @@
-use Rattle.std.specs.Prelude.{◌≡◌, ℕ, IfOk, Some, None, Option, option_map}
+use Rattle.std.specs.Prelude.{◌≡◌, IfOk, Option, option_map}
 use Rattle.std.proofs.Common.{sym, ap, ◌∙◌, subst}
 use Rattle.sg_kinds.specs.Values.{Bytes}
 use Rattle.sg_screen.specs.Block.{block}
-use Rattle.sg_states.specs.States.{State, selected_place}
-use Rattle.sg_buffer.specs.Held.{state_of, typed_by}
+use Rattle.sg_states.specs.States.{State}
 use Rattle.sg_editor.specs.Editing.{told}
 use Rattle.sg_editor.specs.Screen.{printed, screen}
 use Rattle.sg_editor.proofs.Printed.{lines_seen}

@@ -1,4 +1,4 @@
-use Rattle.std.specs.Prelude.{◌≡◌, List, IfOk, OnErr}
+use Rattle.std.specs.Prelude.{List, IfOk, OnErr}
 use Rattle.std.proofs.Common.{sym, subst}
 use Rattle.sg_eval.specs.Journal.{now_of}
 use Rattle.sg_eval.specs.declared.journal.Instance.{Instance}

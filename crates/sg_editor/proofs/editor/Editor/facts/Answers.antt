@@ -1,7 +1,6 @@
-use Rattle.std.specs.Prelude.{◌≡◌, Option, Some, MatchOption, ⊤}
+use Rattle.std.specs.Prelude.{Option, MatchOption, ⊤}
 use Rattle.std.proofs.Common.{sym, ap, ◌∙◌, subst}
 use Rattle.sg_kinds.specs.Sound.{IsSmall}
-use Rattle.sg_kinds.specs.Terms.{Term}
 use Rattle.sg_buffer.specs.Held.{term_in}
 use Rattle.sg_editor.specs.declared.desk.Named.{Named}
 use Rattle.sg_editor.specs.Editing.{Editing, current_in}

@@ -1,6 +1,5 @@
-use Rattle.std.specs.Prelude.{◌≡◌, [], IfOk, MatchResult, OnErr, Ok, Err}
-use Rattle.std.proofs.Common.{refl, sym, ap, ◌∙◌, subst}
-use Rattle.sg_kinds.specs.Values.{Bytes}
+use Rattle.std.specs.Prelude.{◌≡◌, [], IfOk, OnErr, Ok, Err}
+use Rattle.std.proofs.Common.{refl, subst}
 use Rattle.sg_replies.specs.Calls.{shelf_state}
 use Rattle.sg_editor.specs.Ask.{keeps, saved_text}
 use Rattle.sg_editor.specs.Editing.{Editing, session_in, spec_in}
