@@ -1,0 +1,8 @@
+use Rattle.std.proofs.Common.{◌≡◌, ◌++◌}
+use Rattle.std.specs.Prelude.{replicate}
+use Rattle.sg_script.specs.declared.command.Command.TheVariants.{Undo}
+use Rattle.sg_workload.proofs.workload.undo.Given as goal
+
+-- the turns so far
+abbrev pub invariant-loop-turn : goal.invariant-loop-turn
+invariant-loop-turn l = l.commands.items ≡ l.initial.commands.items ++ replicate l._turn Undo

@@ -1,0 +1,10 @@
+//! Laws of workloads, each as the contract of a function without code.
+ghost use Rattle.std.specs.Prelude.{◌≡◌, ◌≤◌, ◌+◌, ◌*◌, ℕ, length};
+ghost use Rattle.sg_workload.specs.Workload.{turns, workload};
+
+/// How many commands a workload has.
+#[tactic(auto, using(crate::proofs::Counts::size, crate::proofs::Counts::few))]
+pub fn sizes()
+    ensures size { (n : ℕ) → 1 ≤ n → length (workload n) ≡ 2 + 2 * n + 2 * turns n }
+    ensures few { (n : ℕ) → n ≤ 400 → length (workload n) ≤ 1002 }
+{}
