@@ -5,7 +5,8 @@ use crate::loading::loaded;
 use sg_kinds::plans::{PlanStep, Plans};
 use sg_kinds::spec::Rules;
 use sg_load::Loaded;
-use sg_orders::{is_in_range, is_proper, order};
+use sg_dependencies::{is_in_range, is_proper};
+use sg_orders::order;
 use std::fmt::Write;
 use std::process::Abort;
 
