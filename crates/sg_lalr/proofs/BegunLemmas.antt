@@ -9,7 +9,7 @@ use Rattle.std.proofs.lemmas.List.Elements.{Contains-push, Contains-push_cases, 
 use Rattle.sg_grammar.specs.declared.grammar.Production.{Production}
 use Rattle.sg_grammar.specs.Grammar.{Grammar}
 use Rattle.sg_lalr.specs.declared.lookaheads.Node.{Node}
-use Rattle.sg_lalr.specs.Items.{Item, item}
+use Rattle.sg_lalr.specs.Items.{item}
 use Rattle.sg_lalr.specs.Closure.{HasLeft}
 use Rattle.sg_lalr.specs.Lefts.{AreLefts}
 use Rattle.sg_lalr.specs.Lookaheads.{node_at, BeginsWith}
@@ -49,9 +49,6 @@ lefts-all rules lefts n all l X q = (λ h. ((l X q).0 h).1, λ h. (l X q).1 ((le
 -- what stands in the row of a symbol is a production of it
 pub row-left : (rules : List Production) (lefts : List (List ℕ)) (row : List ℕ) (x q : ℕ) → AreLefts rules lefts → row ≡ get_or lefts x [] → Contains row q → HasLeft rules x q
 row-left rules lefts row x q are is c = (are x q).0 (subst (λ r. Contains r q) is c)
-
-pub row-none : (rules : List Production) (lefts : List (List ℕ)) (row : List ℕ) (x q : ℕ) → AreLefts rules lefts → row ≡ get_or lefts x [] → length row ≡ 0 → HasLeft rules x q → ⊥
-row-none rules lefts row x q are is none left = let c = subst (λ r. Contains r q) (sym is) ((are x q).1 left) in let l = c.1 in omega (arith, l, none)
 
 -- the row of the node that begins one production of a symbol is that of all that begin its productions
 pub begun-found : (g : Grammar) (nodes : List Node) (slots : List ℕ) (from to x q b : ℕ) → length slots ≡ length nodes → to ≤ length nodes → IsOneEach g nodes from to slots → HasLeft g.rules x q → ((c : ℕ) × (from ≤ c) × (c < to) × ((node_at nodes c).item ≡ item q 0)) → ((m : ℕ) → from ≤ m → m < to → (node_at nodes m).item ≡ item q 0 → m ≡ b)

@@ -69,9 +69,6 @@ module _ (g : Grammar) (cores : List (List Item)) (nodes : List Node) (firsts : 
   abbrev pub Begun : ℕ → Type 0
   Begun c = (slice_index firsts (node_at nodes a).state ≤ c) × (c < slice_index firsts (suc (node_at nodes a).state)) × BeginsWith g (node_at nodes c).item x
 
-  pub begun-opens : (c : ℕ) → c < length nodes → Begun c ↔ OpensTo g nodes a c
-  begun-opens c l = (λ h. (opens-range c h).1, λ h. range-opens c l h)
-
   module _ (slots : List ℕ) (count : length slots ≡ length nodes) where
     pub seeded : (old now : List (List Bool)) (first : List Bool) (set : List Bool) (rows : List (List Bool)) → IsNullable g set → ((X u : ℕ) → Holds rows X u ↔ ((X < g.symbols) × First g X u)) → ((u : ℕ) → Has first u ↔ ((Y : ℕ) × StandsBehind set (rest_of g (node_at nodes a).item) Y × Holds rows Y u)) → IsWellFormed g
         → (s : ℕ) → ((y : ℕ) → OfSome slots Begun y ↔ (y ≡ s)) → ((y u : ℕ) → Holds now y u ↔ (Holds old y u ⊎ ((y ≡ s) × Has first u))) → Gained old now slots (Gives g nodes a)

@@ -1,5 +1,5 @@
 -- Lemmas on rows that nodes share.
-use Rattle.std.proofs.Common.{◌≡◌, ℕ, zero, suc, ◌+◌, ◌<◌, ◌≤◌, ◌⊎◌, inl, inr, max, List, [], ◌∷◌, ◌++◌, length, get_or, refl, sym, ap, ◌∙◌, subst, arith, Option, Some, None}
+use Rattle.std.proofs.Common.{◌≡◌, ℕ, suc, ◌+◌, ◌<◌, ◌≤◌, ◌⊎◌, inl, inr, max, List, [], ◌∷◌, ◌++◌, length, refl, sym, ap, ◌∙◌, subst, arith, Option, Some, None}
 use Rattle.std.specs.Prelude.{slice_index, slice_set}
 use Rattle.std.proofs.lemmas.Bool.{cases_eq, cases_lt}
 use Rattle.std.proofs.lemmas.List.{get_or_append_left, get_or_push, get_or-set_same, get_or-set_other, length_push}
@@ -161,7 +161,7 @@ module _ (g : Grammar) (nodes : List Node) (from m : ℕ) (at : List (Option ℕ
   filled-more new slot more is here (inl next) = (
     (let e = next.2 in omega (arith, e)),
     subst (λ a. Filled g nodes from (m + 1) a (slots ++ slot ∷ []) more) (sym next.1)
-    (subst (λ k. Filled g nodes from (m + 1) at (slots ++ k ∷ []) more) (sym next.2) (subst (Filled g nodes from (m + 1) at (slots ++ count ∷ [])) (let e = next.2 in let q : count + 1 ≡ more = omega (arith, e, is) in q) (filled-next next.0))),
+        (subst (λ k. Filled g nodes from (m + 1) at (slots ++ k ∷ []) more) (sym next.2) (subst (Filled g nodes from (m + 1) at (slots ++ count ∷ [])) (let e = next.2 in let q : count + 1 ≡ more = omega (arith, e, is) in q) (filled-next next.0))),
   )
   filled-more new slot more is here (inr (inl known)) =
       let k = filled-known known.0 slot known.1 known.2 here in (
@@ -171,7 +171,7 @@ module _ (g : Grammar) (nodes : List Node) (from m : ℕ) (at : List (Option ℕ
   filled-more new slot more is here (inr (inr first)) = (
     (let e = first.5 in omega (arith, e)),
     subst (λ a. Filled g nodes from (m + 1) a (slots ++ slot ∷ []) more) (sym first.4)
-    (subst (λ k. Filled g nodes from (m + 1) (slice_set at first.0 (Some count)) (slots ++ k ∷ []) more) (sym first.5) (subst (Filled g nodes from (m + 1) (slice_set at first.0 (Some count)) (slots ++ count ∷ [])) (let e = first.5 in let q : count + 1 ≡ more = omega (arith, e, is) in q) (filled-first first.0 first.1 first.2 first.3))),
+        (subst (λ k. Filled g nodes from (m + 1) (slice_set at first.0 (Some count)) (slots ++ k ∷ []) more) (sym first.5) (subst (Filled g nodes from (m + 1) (slice_set at first.0 (Some count)) (slots ++ count ∷ [])) (let e = first.5 in let q : count + 1 ≡ more = omega (arith, e, is) in q) (filled-first first.0 first.1 first.2 first.3))),
   )
 
   -- nodes that begin productions of one symbol have one row

@@ -197,7 +197,7 @@ fn open_node(
 }
 
 /// Where the moves of a state lead on a symbol.
-pub(crate) fn goto_of(moves: &[Row<Move>], state: u32, x: u32) -> u32
+fn goto_of(moves: &[Row<Move>], state: u32, x: u32) -> u32
     requires there { state < length moves.now }
     requires sorted { IsSorted (moves_at moves.now state) }
     ensures { result ≡ goto moves.now state x }
@@ -303,11 +303,13 @@ pub(crate) fn all_lookaheads(
     let count = layout.nodes.len();
     let mut flow = Flow {
         rows: Rows::new(alloc, slots.count, g.terminals() as usize)?,
-        links: Vec::new(alloc),
+        links: Vec::with_capacity(alloc, count)?,
     };
     seed_starts(g, &layout.nodes, &slots.of, &mut flow.rows);
     for a in 0..count {
-        link_node(alloc, g, &begins, automaton, &layout, &slots.of, a, &mut flow)?;
+        link_node(
+            alloc, g, &begins, automaton, &layout, &slots.of, a, &mut flow,
+        )?;
     }
     let Flow { mut rows, links } = flow;
     rows.flow(&links);

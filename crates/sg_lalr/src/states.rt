@@ -112,7 +112,7 @@ impl Automaton {
     {
         g.sound();
         let state = self.cores.len();
-        let core = self.core_of(alloc, g, opens, state)?;
+        let mut core = self.core_of(alloc, g, opens, state)?;
         let kernels = spread(alloc, g, &core)?;
         let mut row = Vec::new(alloc);
         let mut x = next_filled(g, &kernels, 0);
@@ -129,6 +129,8 @@ impl Automaton {
             row.push(Move { symbol: x, target })?;
             x = next_filled(g, &kernels, x + 1);
         }
+        core.shrink_to_fit();
+        row.shrink_to_fit();
         self.cores.push(Row::new(core))?;
         self.moves.push(Row::new(row))?;
         Ok(true)

@@ -1,9 +1,6 @@
-use Rattle.std.proofs.Common.{◌≡◌, ℕ, ◌⊎◌, sym, ◌∙◌, subst, arith, get_or}
+use Rattle.std.proofs.Common.{◌≡◌, sym, ◌∙◌, subst, arith, get_or}
 use Rattle.std.proofs.lemmas.List.{take_all, get_or_default}
-use Rattle.std.specs.Prelude.{◌↔◌}
-use Rattle.sg_sets.specs.Members.{Has}
 use Rattle.sg_lalr.specs.Items.{Item, item}
-use Rattle.sg_lalr.specs.Closure.{Opens}
 use Rattle.sg_lalr.proofs.CornerLemmas.{OpenedBy, opened-more, opened-same, opened-row}
 use Rattle.sg_lalr.proofs.closure.open_all.Goals as goal
 use Rattle.sg_lalr.proofs.closure.open_all.Goals.{in-Some, in_default}

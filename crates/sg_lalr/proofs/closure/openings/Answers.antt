@@ -1,11 +1,9 @@
-use Rattle.std.proofs.Common.{◌≡◌, ℕ, ◌<◌, length, get_or, sym, ap, ◌∙◌, subst, refl, arith, Some}
-use Rattle.std.specs.Prelude.{◌↔◌, slice_get, replicate}
+use Rattle.std.proofs.Common.{◌≡◌, ℕ, ◌<◌, length, get_or, ap, ◌∙◌, subst, refl, arith, Some}
+use Rattle.std.specs.Prelude.{◌↔◌, slice_get}
 use Rattle.std.proofs.lemmas.Option.{slice_get_read}
-use Rattle.std.proofs.lemmas.List.{length-replicate}
-use Rattle.sg_sets.specs.Rows.{Holds, Table}
+use Rattle.sg_sets.specs.Rows.{Holds}
 use Rattle.sg_lalr.specs.Closure.{Corner}
-use Rattle.sg_lalr.proofs.CornerLemmas.{Opening, opening-more, opening-all}
-use Rattle.sg_lalr.proofs.LinkLemmas.{rows-none}
+use Rattle.sg_lalr.proofs.CornerLemmas.{opening-more, opening-all}
 use Rattle.sg_lalr.proofs.closure.openings.Goals as goal
 
 pub loop-a-preserved : goal.loop-a-preserved

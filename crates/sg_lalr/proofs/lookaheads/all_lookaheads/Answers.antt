@@ -1,8 +1,8 @@
-use Rattle.std.proofs.Common.{◌≡◌, ℕ, suc, ◌<◌, inl, inr, false, Bool, List, sym, ap, ◌∙◌, subst, length, map, arith}
-use Rattle.std.specs.Prelude.{◌↔◌, All, slice_index, replicate}
+use Rattle.std.proofs.Common.{◌≡◌, suc, ◌<◌, inl, inr, false, List, sym, ap, ◌∙◌, subst, length, map, arith}
+use Rattle.std.specs.Prelude.{All, slice_index, replicate}
 use Rattle.std.proofs.lemmas.List.{length-replicate, get_or_default}
 use Rattle.sg_sets.specs.Paths.{Linked}
-use Rattle.sg_sets.specs.Rows.{Holds, Table, AreRows, row_of}
+use Rattle.sg_sets.specs.Rows.{Holds, Table, AreRows}
 use Rattle.sg_lalr.specs.declared.lookaheads.Node.{Node}
 use Rattle.sg_lalr.specs.Items.{Item}
 use Rattle.sg_lalr.specs.Lookaheads.{node_at, IsStart, IsLaid, Gives, FlowsTo, AreLookaheads}
@@ -20,7 +20,7 @@ loop-a-init c =
     let made = c.in_ok-new.ensures in
     let long = length-replicate slots.count (replicate c.terminals.result false) in
     let rows : length c.in_ok-new.field-0.rows ≡ length (replicate slots.count (replicate c.terminals.result false)) = ap (λ (t : Table). length t.rows) made in
-    let none = c.new-2.ensures.items in
+    let none = c.in_ok-with_capacity.ensures.items in
     let old = c.in_ok-new.field-0.rows in
     let new = c.seed_starts.new.rows.rows in
     let gains1 = subst (λ (ns : List Node). Gained old new c.deref-4.result.now (λ d u. IsStart g (node_at ns d) × (u ≡ 0))) c.deref-3.ensures.value c.seed_starts.ensures.gains in
@@ -99,16 +99,16 @@ returns-clause-exact c =
     let exact = rows-exact g kernels c.args.automaton.now.cores.items moves c.args.automaton.now.origins.items c.requires.whole nodes c.in_ok-layout.layout.firsts.items (subst (λ cs. IsLaid cs nodes c.in_ok-layout.layout.firsts.items) c.deref.ensures.value c.in_ok-layout.ensures) c.sound.ensures c.requires.productive c.requires.entry
     slots.of.items c.loop-a.flow.rows.rows c.flow.new.self.rows c.deref-5.result.now slots.count c.in_ok-slots.ensures.slots c.loop-a.a (omega (arith, count)) (omega (arith, count))
     (subst (λ ls. LinkedTo ls slots.of.items c.loop-a.a (FlowsTo g moves nodes)) (sym links) c.loop-a.invariant.links) c.loop-a.invariant.seeds c.flow.ensures.flows in
-    subst (λ (t : Table). AreLookaheads g moves nodes t.rows) (sym c.new-3.ensures) exact
+    subst (λ (t : Table). AreLookaheads g moves nodes t.rows) (sym c.new-2.ensures) exact
 
-pub new-requires-3 : goal.new-requires-3
-new-requires-3 c =
+pub new-requires-2 : goal.new-requires-2
+new-requires-2 c =
     let slots = c.in_ok-slots.slots in
     let are = c.in_ok-slots.ensures.slots in
     let long = are.long in
     let shape = c.flow.ensures.shape.count in
     let rows = c.loop-a.invariant.count in
     λ k d l.
-        let w = are.within k (omega (arith, l, long)) in
-        let e = get_or_default slots.of.items k d 0 l in
-        omega (arith, w, e, shape, rows)
+    let w = are.within k (omega (arith, l, long)) in
+    let e = get_or_default slots.of.items k d 0 l in
+    omega (arith, w, e, shape, rows)

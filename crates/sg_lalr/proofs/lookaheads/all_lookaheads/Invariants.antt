@@ -1,4 +1,4 @@
-use Rattle.std.proofs.Common.{◌≡◌, ℕ, length}
+use Rattle.std.proofs.Common.{◌≡◌, length}
 use Rattle.sg_lalr.specs.Lookaheads.{node_at, IsStart, Gives, FlowsTo}
 use Rattle.sg_lalr.proofs.LinkLemmas.{LinkedTo, SeededTo}
 use Rattle.sg_lalr.proofs.lookaheads.all_lookaheads.Given as goal

@@ -1,6 +1,5 @@
-use Rattle.std.proofs.Common.{◌≡◌, ℕ, ◌<◌, List, length, get_or, map, sym, ap, ◌∙◌, subst, arith, Some, None}
+use Rattle.std.proofs.Common.{◌≡◌, ℕ, ◌<◌, length, get_or, map, sym, ◌∙◌, subst, arith, Some, None}
 use Rattle.std.specs.Prelude.{slice_get}
-use Rattle.sg_lalr.specs.Items.{item}
 use Rattle.sg_lalr.specs.Lookaheads.{node_at}
 use Rattle.sg_lalr.proofs.BegunLemmas.{row-left, begun-found, first-in, none-in}
 use Rattle.sg_lalr.proofs.lookaheads.begun_slot.Goals as goal

@@ -1,4 +1,4 @@
-use Rattle.std.proofs.Common.{◌≡◌, ℕ, suc, ◌+◌, ◌<◌, ◌≤◌, ◌⊎◌, List, refl, sym, ap, ◌∙◌, subst, length, get_or, arith}
+use Rattle.std.proofs.Common.{◌≡◌, ℕ, suc, ◌+◌, ◌<◌, ◌≤◌, List, refl, sym, ap, ◌∙◌, subst, length, get_or, arith}
 use Rattle.std.specs.Prelude.{◌↔◌, slice_index}
 use Rattle.std.proofs.lemmas.Bool.{both_ways}
 use Rattle.std.proofs.lemmas.List.{get_or_read}
@@ -148,9 +148,9 @@ begun_slot-requires-clause-begun c =
     let next : c.index-node.result.now.state + 1 ≡ suc s = omega (arith, state) in
     let to : c.index-to.result.now ≡ slice_index firsts (suc s) = get_or_read firsts (c.index-node.result.now.state + 1) c.index-to.result.now (omega (arith, low, count, next)) c.index-to.ensures 0 ∙ ap (slice_index firsts) next in
     λ q left.
-        let b = c.requires.begun q left in
-        let r = in-range c.requires.laid.0 nodes firsts laid s b.0 low b.1 (ap (λ (n : Node). n.state) b.2) in
-        (b.0, subst (λ z. z ≤ b.0) (sym from) r.0, subst (λ z. b.0 < z) (sym to) r.1, ap (λ ns. (node_at ns b.0).item) c.deref.ensures.value ∙ ap (λ (n : Node). n.item) b.2)
+    let b = c.requires.begun q left in
+    let r = in-range c.requires.laid.0 nodes firsts laid s b.0 low b.1 (ap (λ (n : Node). n.state) b.2) in
+    (b.0, subst (λ z. z ≤ b.0) (sym from) r.0, subst (λ z. b.0 < z) (sym to) r.1, ap (λ ns. (node_at ns b.0).item) c.deref.ensures.value ∙ ap (λ (n : Node). n.item) b.2)
 
 pub begun_slot-requires-clause-order : goal.begun_slot-requires-clause-order
 begun_slot-requires-clause-order c =

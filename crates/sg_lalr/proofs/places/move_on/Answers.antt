@@ -12,9 +12,9 @@ returns-else-at-row-clause-none c =
     let row = c.args.row.now in
     let at = c.place_of_move-at.result in
     λ k l is.
-        let e : k ≡ at = c.place_of_move-at.ensures k l is in
-        let same = ap (λ j. (move_at row j).symbol) e in
-        elim c.else-at-row.branch [
-          | else-at-row-via-then-at-row+else-row-at w ↦ (let f = w.if-row-at.false in omega (arith, same, is, f))
-          | else-at-row-via-else-at-row w ↦ (let f = w.if-at-row.false in omega (arith, l, e, f))
-        ]
+    let e : k ≡ at = c.place_of_move-at.ensures k l is in
+    let same = ap (λ j. (move_at row j).symbol) e in
+    elim c.else-at-row.branch [
+      | else-at-row-via-then-at-row+else-row-at w ↦ (let f = w.if-row-at.false in omega (arith, same, is, f))
+      | else-at-row-via-else-at-row w ↦ (let f = w.if-at-row.false in omega (arith, l, e, f))
+    ]

@@ -1,10 +1,8 @@
-use Rattle.std.proofs.Common.{◌≡◌, ℕ, suc, ◌+◌, ◌<◌, ◌≤◌, ◌++◌, ◌∷◌, [], List, length, sym, ap, ◌∙◌, subst, arith}
+use Rattle.std.proofs.Common.{◌≡◌, ℕ, suc, ◌+◌, ◌++◌, ◌∷◌, [], List, length, ap, ◌∙◌, subst, arith}
 use Rattle.std.specs.Prelude.{◌↔◌, slice_index}
 use Rattle.std.proofs.lemmas.List.{get_or_read, length_push}
 use Rattle.sg_lalr.specs.declared.lookaheads.Node.{Node}
-use Rattle.sg_lalr.specs.Closure.{InRange}
-use Rattle.sg_lalr.specs.Lookaheads.{node_at}
-use Rattle.sg_lalr.specs.Reductions.{Reduction, ReducesBy, DoesReduce, reductions_at}
+use Rattle.sg_lalr.specs.Reductions.{Reduction, ReducesBy, DoesReduce}
 use Rattle.sg_lalr.proofs.ReductionLemmas.{states-more}
 use Rattle.sg_lalr.proofs.reductions.all_reductions.Goals as goal
 

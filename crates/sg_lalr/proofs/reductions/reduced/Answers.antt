@@ -1,4 +1,4 @@
-use Rattle.std.proofs.Common.{length, arith}
+use Rattle.std.proofs.Common.{arith}
 use Rattle.std.proofs.lemmas.Bool.{both_ways}
 use Rattle.sg_lalr.proofs.ReductionLemmas.{none-more, none-all}
 use Rattle.sg_lalr.proofs.reductions.reduced.Goals as goal

@@ -1,4 +1,4 @@
-use Rattle.std.proofs.Common.{◌≡◌, ℕ, ◌+◌, List, refl, sym, ◌∙◌, subst, arith, None}
+use Rattle.std.proofs.Common.{◌≡◌, refl, sym, ◌∙◌, subst, arith, None}
 use Rattle.sg_lalr.specs.Items.{symbol_of}
 use Rattle.sg_lalr.specs.Lookaheads.{node_at}
 use Rattle.sg_lalr.specs.Reductions.{Reduction}

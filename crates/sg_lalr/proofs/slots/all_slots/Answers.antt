@@ -1,4 +1,4 @@
-use Rattle.std.proofs.Common.{◌≡◌, ℕ, suc, ◌+◌, ◌<◌, ◌≤◌, [], List, length, refl, sym, ap, ◌∙◌, subst, arith}
+use Rattle.std.proofs.Common.{◌≡◌, ℕ, suc, ◌+◌, List, length, sym, ap, ◌∙◌, subst, arith}
 use Rattle.std.specs.Prelude.{slice_index}
 use Rattle.std.proofs.lemmas.List.{get_or_read}
 use Rattle.sg_lalr.specs.declared.lookaheads.Node.{Node}
@@ -89,5 +89,5 @@ add_state-requires-clause-here c =
     let next : s + 1 ≡ suc s = omega arith in
     let to : c.index-to.result.now ≡ slice_index firsts (suc s) = get_or_read firsts (s + 1) c.index-to.result.now (omega (arith, low, count)) c.index-to.ensures 0 ∙ ap (slice_index firsts) next in
     λ b d l h k j. ap (λ ns. (node_at ns b).state) c.deref.ensures.value
-        ∙ laid.here s b low (omega (arith, l, from)) (omega (arith, h, to)) ∙ sym (laid.here s d low (omega (arith, k, from)) (omega (arith, j, to)))
-        ∙ sym (ap (λ ns. (node_at ns d).state) c.deref.ensures.value)
+    ∙ laid.here s b low (omega (arith, l, from)) (omega (arith, h, to)) ∙ sym (laid.here s d low (omega (arith, k, from)) (omega (arith, j, to)))
+    ∙ sym (ap (λ ns. (node_at ns d).state) c.deref.ensures.value)
