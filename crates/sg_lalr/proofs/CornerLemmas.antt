@@ -1,5 +1,5 @@
 -- Lemmas on left corners, and on what a kernel opens.
-use Rattle.std.proofs.Common.{◌≡◌, ℕ, zero, suc, ◌+◌, ◌<◌, ◌⊎◌, inl, inr, Bool, List, [], ◌∷◌, ◌++◌, length, get_or, take, refl, sym, ap, ◌∙◌, subst, arith, Some, None}
+use Rattle.std.proofs.Common.{◌≡◌, ℕ, zero, suc, ◌+◌, ◌<◌, ◌≤◌, ◌⊎◌, inl, inr, Bool, List, [], ◌∷◌, ◌++◌, length, get_or, take, refl, sym, ap, ◌∙◌, subst, arith, Some, None}
 use Rattle.std.specs.Prelude.{◌↔◌, slice_get, Contains}
 use Rattle.std.proofs.lemmas.Bool.{cases_lt}
 use Rattle.std.proofs.lemmas.List.{take_more}
@@ -8,7 +8,7 @@ use Rattle.std.proofs.lemmas.Option.{slice_get_within, same_Some, none-some}
 use Rattle.sg_grammar.specs.declared.grammar.Production.{Production}
 use Rattle.sg_grammar.specs.Grammar.{Grammar}
 use Rattle.sg_sets.specs.Members.{Has}
-use Rattle.sg_sets.specs.Rows.{Holds}
+use Rattle.sg_sets.specs.Rows.{Holds, row_of}
 use Rattle.sg_sets.specs.Paths.{Leads, Path, IsTransitive}
 use Rattle.sg_lalr.specs.Items.{Item, symbol_of}
 use Rattle.sg_lalr.specs.Closure.{HasLeft, LeadsTo, Corner, same, further, Opens, OpensAt}
@@ -172,3 +172,36 @@ opened-same g old now kernel n i low is reads o q =
         ]
       ],
     )
+
+-- each symbol's row has what the first n productions of it open
+abbrev pub Opening : List Production → List (List Bool) → ℕ → Type 0
+Opening rules rows n = (x q : ℕ) → Holds rows x q ↔ ((a : ℕ) × (a < n) × HasLeft rules x a × Corner rules a q)
+
+pub opening-more : (rules : List Production) (corners old now : List (List Bool)) (n : ℕ) (r : Production) (set : List Bool) → slice_get rules n ≡ Some r → set ≡ row_of corners n → ((x y : ℕ) → Holds corners x y ↔ Corner rules x y)
+    → ((x y : ℕ) → Holds now x y ↔ (Holds old x y ⊎ ((x ≡ r.left) × Has set y))) → Opening rules old n → Opening rules now (n + 1)
+opening-more rules corners old now n r set is row exact gains o x q = (
+  λ h. elim ((gains x q).0 h) [
+    | inl was ↦ (let p = (o x q).0 was in let k = p.1 in (p.0, omega (arith, k), p.2, p.3))
+    | inr new ↦ (n, omega arith, (r, is, new.0), (exact n q).0 (subst (λ s. Has s q) row new.1))
+  ],
+  λ h. elim (cases_lt h.0 n) [
+    | inl low ↦ (gains x q).1 (inl ((o x q).1 (h.0, low, h.2, h.3)))
+    | inr high ↦
+        let k = h.1 in
+        let e : h.0 ≡ n = omega (arith, k, high) in
+        (gains x q).1 (inr (HasLeft-at rules x n r is (subst (HasLeft rules x) e h.2), subst (λ s. Has s q) (sym row) ((exact n q).1 (subst (λ a. Corner rules a q) e h.3))))
+  ],
+)
+
+pub opening-all : (rules : List Production) (rows : List (List Bool)) (n : ℕ) → length rules ≤ n → Opening rules rows n → (x q : ℕ) → Holds rows x q ↔ Opens rules x q
+opening-all rules rows n all o x q = (
+  λ h. (let p = (o x q).0 h in (p.0, p.2, p.3)),
+  λ h. (o x q).1 (h.0, (let l = HasLeft-within rules x h.0 h.1 in omega (arith, l, all)), h.1, h.2),
+)
+
+-- a set that gains the row of a symbol gains what it opens
+pub opened-row : (rules : List Production) (rows : List (List Bool)) (old now row : List Bool) (X : ℕ) → row ≡ row_of rows X → ((x q : ℕ) → Holds rows x q ↔ Opens rules x q) → ((q : ℕ) → Has now q ↔ (Has old q ⊎ Has row q)) → (q : ℕ) → Has now q ↔ (Has old q ⊎ Opens rules X q)
+opened-row rules rows old now row X is exact joins q = (
+  λ h. elim ((joins q).0 h) [ inl was ↦ inl was | inr new ↦ inr ((exact X q).0 (subst (λ s. Has s q) is new)) ],
+  λ h. elim h [ inl was ↦ (joins q).1 (inl was) | inr new ↦ (joins q).1 (inr (subst (λ s. Has s q) (sym is) ((exact X q).1 new))) ],
+)

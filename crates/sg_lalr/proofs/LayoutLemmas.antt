@@ -13,6 +13,7 @@ use Rattle.sg_lalr.proofs.PartLemmas.{row_at-front, row_at-last}
 pub laid-none : IsLaid [] [] (0 ∷ [])
 laid-none = record {
   count = refl;
+  start = refl;
   end = refl;
   within = λ s l. let e : s ≡ 0 = omega (arith, l) in subst (λ k. slice_index (0 ∷ []) k ≤ 0) (sym e) (omega arith);
   rising = λ s l. absurd (omega (arith, l));
@@ -62,6 +63,7 @@ module _ (cores : List (List Item)) (core : List Item) (nodes : List Node) (firs
 
   pub laid-more : IsLaid (cores ++ core ∷ []) (more-nodes cores core nodes) (more-firsts cores core nodes firsts)
   laid-more = record {
+    start = old-first 0 (omega arith) ∙ laid.start;
     count = let c = laid.count in omega (arith, c, length_push firsts (length (more-nodes cores core nodes)), grown);
     end = ap (slice_index (more-firsts cores core nodes firsts)) (let e : length (cores ++ core ∷ []) ≡ suc (length cores) = omega (arith, grown) in e) ∙ new-first;
     within = λ t l. elim (cases_lt t (suc (length cores))) [

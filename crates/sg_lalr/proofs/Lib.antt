@@ -13,12 +13,14 @@ pub mod CoreLemmas
 pub mod StateLemmas
 pub mod FirstLemmas
 pub mod LayoutLemmas
+pub mod SlotLemmas
 pub mod LinkLemmas
 pub mod BegunLemmas
 pub mod LookLemmas
 pub mod PlaceLemmas
 pub mod ClashLemmas
 pub mod ConflictLemmas
+pub mod ReductionLemmas
 pub mod TableLemmas
 pub mod Searching
 pub mod TableLaws

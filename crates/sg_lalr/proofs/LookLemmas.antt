@@ -1,12 +1,12 @@
 -- Lemmas on the lookaheads of nodes.
-use Rattle.std.proofs.Common.{◌≡◌, ℕ, suc, ◌-◌, ◌<◌, ◌≤◌, ◌⊎◌, inl, inr, Bool, List, [], ◌∷◌, length, take, drop, refl, sym, ap, ◌∙◌, subst, arith, Some, None}
+use Rattle.std.proofs.Common.{◌≡◌, ℕ, suc, ◌-◌, ◌<◌, ◌≤◌, ◌⊎◌, inl, inr, Bool, List, [], ◌∷◌, ◌++◌, length, map, take, drop, refl, sym, ap, ◌∙◌, subst, arith, Some, None}
 use Rattle.std.specs.Prelude.{◌↔◌, Contains, All, slice_index}
-use Rattle.std.proofs.lemmas.List.{append-nil}
+use Rattle.std.proofs.lemmas.List.{append-nil, get_or-map}
 use Rattle.std.proofs.lemmas.List.Elements.{All-drop, All-contains}
 use Rattle.std.proofs.lemmas.Option.{same_Some, none-some, slice_get_within, get_or_from_slice_get}
 use Rattle.sg_sets.specs.Members.{Has}
 use Rattle.sg_sets.specs.Paths.{Leads, Reaches, Linked}
-use Rattle.sg_sets.specs.Rows.{Holds}
+use Rattle.sg_sets.specs.Rows.{Holds, row_of}
 use Rattle.sg_sets.proofs.PathsLemmas.{Reaches-step}
 use Rattle.sg_grammar.specs.declared.grammar.Production.{Production}
 use Rattle.sg_grammar.specs.Grammar.{Grammar, right_of}
@@ -18,13 +18,15 @@ use Rattle.sg_lalr.specs.declared.lookaheads.Node.{Node}
 use Rattle.sg_lalr.specs.Least.{Grown}
 use Rattle.sg_lalr.specs.ValidItems.{Begins, behind, Valid, start, close, step, Viable}
 use Rattle.sg_lalr.specs.Items.{Item, item, HasNext, symbol_of, moved}
-use Rattle.sg_lalr.specs.Closure.{InRange, HasLeft}
+use Rattle.sg_lalr.specs.Closure.{InRange, HasLeft, opened}
 use Rattle.sg_lalr.specs.Automaton.{row_at, goto, IsWhole, state_of}
 use Rattle.sg_lalr.specs.Firsts.{First, Firsts, StandsBehind, IsNullable}
-use Rattle.sg_lalr.specs.Lookaheads.{Triple, starts, closes, steps, node, node_at, IsLaid, rest_of, BeginsWith, MovesTo, OpensTo, FlowsTo, Gives, IsStart}
+use Rattle.sg_lalr.specs.Lookaheads.{Triple, starts, closes, steps, node, node_at, IsLaid, rest_of, BeginsWith, MovesTo, OpensTo, FlowsTo, Gives, IsStart, AreLookaheads}
+use Rattle.sg_lalr.specs.Slots.{Shares, AreSlots, OfSome, Joined, Gained}
+use Rattle.sg_lalr.proofs.CornerLemmas.{HasLeft-at, HasLeft-within}
 use Rattle.sg_lalr.proofs.MoveLemmas.{right_of-fits}
 use Rattle.sg_lalr.proofs.FirstLemmas.{null-front, front-null, firsts-begins, begins-firsts, null-begins}
-use Rattle.sg_lalr.proofs.LinkLemmas.{RangedTo}
+use Rattle.sg_lalr.proofs.LinkLemmas.{joined-row, joined-none, joined-as, joined-both, gained-row, gained-none, LinkedTo, SeededTo}
 use Rattle.sg_lalr.proofs.StateLemmas.{found-some, found-state, found-viable, core-of-state, state-of-viable}
 
 -- the nodes of a state are those between its places
@@ -39,6 +41,13 @@ range-below cores nodes firsts laid s m l h = let w = laid.within (suc s) (omega
 
 pub rest-fits : (g : Grammar) (i : Item) → IsWellFormed g → All (λ X. X < g.symbols) (rest_of g i)
 rest-fits g i w = All-drop (λ X. X < g.symbols) (suc i.dot) (right_of g i.production) (right_of-fits g i.production w).1
+
+-- the row of the nodes that begin productions of a symbol, between places that are written otherwise
+pub begun-as : (slots : List ℕ) (nodes nodes' : List Node) (g : Grammar) (x from from' to to' s : ℕ) → nodes' ≡ nodes → from ≡ from' → to ≡ to' → ((y : ℕ) → OfSome slots (λ c. (from ≤ c) × (c < to) × BeginsWith g (node_at nodes' c).item x) y ↔ (y ≡ s)) → (y : ℕ) → OfSome slots (λ c. (from' ≤ c) × (c < to') × BeginsWith g (node_at nodes c).item x) y ↔ (y ≡ s)
+begun-as slots nodes nodes' g x from from' to to' s n f t found =
+    subst (λ a. (y : ℕ) → OfSome slots (λ c. (a ≤ c) × (c < to') × BeginsWith g (node_at nodes c).item x) y ↔ (y ≡ s)) f
+    (subst (λ b. (y : ℕ) → OfSome slots (λ c. (from ≤ c) × (c < b) × BeginsWith g (node_at nodes c).item x) y ↔ (y ≡ s)) t
+    (subst (λ ns. (y : ℕ) → OfSome slots (λ c. (from ≤ c) × (c < to) × BeginsWith g (node_at ns c).item x) y ↔ (y ≡ s)) n found))
 
 -- a node with its symbol, and the nodes that begin productions of it
 module _ (g : Grammar) (cores : List (List Item)) (nodes : List Node) (firsts : List ℕ) (laid : IsLaid cores nodes firsts) (a x : ℕ) (there : a < length nodes) (symbol : symbol_of g (node_at nodes a).item ≡ Some x) where
@@ -57,39 +66,41 @@ module _ (g : Grammar) (cores : List (List Item)) (nodes : List Node) (firsts : 
       let r = in-range cores nodes firsts laid (node_at nodes a).state c known l h.2 in
       (r.0, r.1, subst (BeginsWith g (node_at nodes c).item) (same_Some h.0 x (sym h.1 ∙ symbol)) h.3)
 
-  pub seeded : (old now : List (List Bool)) (first : List Bool) (set : List Bool) (rows : List (List Bool)) → IsNullable g set → ((X u : ℕ) → Holds rows X u ↔ ((X < g.symbols) × First g X u)) → ((u : ℕ) → Has first u ↔ ((Y : ℕ) × StandsBehind set (rest_of g (node_at nodes a).item) Y × Holds rows Y u)) → IsWellFormed g
-      → ((y u : ℕ) → Holds now y u ↔ (Holds old y u ⊎ ((slice_index firsts (node_at nodes a).state ≤ y) × (y < slice_index firsts (suc (node_at nodes a).state)) × BeginsWith g (node_at nodes y).item x × Has first u)))
-      → (c u : ℕ) → Holds now c u ↔ (Holds old c u ⊎ ((c < length nodes) × Gives g nodes a c u))
-  seeded old now first set rows nullable exact begun formed gains c u = (
-    λ h. elim ((gains c u).0 h) [
-      | inl older ↦ inl older
-      | inr new ↦
-          let o = opens-range c (new.0, new.1, new.2) in
-          let f = (begun u).0 new.3 in
-          inr (o.0, (o.1, (f.1.0, f.0, null-front g set nullable (take f.1.0 rest) f.1.1, f.1.2, ((exact f.0 u).0 f.2).1)))
-    ],
-    λ h. elim h [
-      | inl older ↦ (gains c u).1 (inl older)
-      | inr new ↦
-          let r = range-opens c new.0 new.1.0 in
-          let f = new.1.1 in
+  abbrev pub Begun : ℕ → Type 0
+  Begun c = (slice_index firsts (node_at nodes a).state ≤ c) × (c < slice_index firsts (suc (node_at nodes a).state)) × BeginsWith g (node_at nodes c).item x
+
+  module _ (slots : List ℕ) (count : length slots ≡ length nodes) where
+    pub seeded : (old now : List (List Bool)) (first : List Bool) (set : List Bool) (rows : List (List Bool)) → IsNullable g set → ((X u : ℕ) → Holds rows X u ↔ ((X < g.symbols) × First g X u)) → ((u : ℕ) → Has first u ↔ ((Y : ℕ) × StandsBehind set (rest_of g (node_at nodes a).item) Y × Holds rows Y u)) → IsWellFormed g
+        → (s : ℕ) → ((y : ℕ) → OfSome slots Begun y ↔ (y ≡ s)) → ((y u : ℕ) → Holds now y u ↔ (Holds old y u ⊎ ((y ≡ s) × Has first u))) → Gained old now slots (Gives g nodes a)
+    seeded old now first set rows nullable exact begun formed s is gains = gained-row old now slots s first Begun (Gives g nodes a) is gains (λ c u l. (
+      λ h.
+          let o = opens-range c h.0 in
+          let f = (begun u).0 h.1 in
+          (o.1, (f.1.0, f.0, null-front g set nullable (take f.1.0 rest) f.1.1, f.1.2, ((exact f.0 u).0 f.2).1)),
+      λ h.
+          let f = h.1 in
           let low : f.1 < g.symbols = subst (λ Y. Y < g.symbols) (get_or_from_slice_get rest f.0 f.1 0 f.3) (rest-fits g (node_at nodes a).item formed f.0 0 (slice_get_within rest f.0 f.1 f.3)) in
-          (gains c u).1 (inr (r.0, r.1, r.2, (begun u).1 (f.1, (f.0, front-null g set nullable (take f.0 rest) f.2, f.3), (exact f.1 u).1 (low, f.4))))
-    ],
-  )
-    where
-      rest : List ℕ
-      rest = rest_of g (node_at nodes a).item
+          (range-opens c (subst (λ n. c < n) count l) h.0, (begun u).1 (f.1, (f.0, front-null g set nullable (take f.0 rest) f.2, f.3), (exact f.1 u).1 (low, f.4))),
+    ))
+      where
+        rest : List ℕ
+        rest = rest_of g (node_at nodes a).item
 
-  pub opened-links : (old now : List (ℕ × ℕ)) → Grown g.rules 0 (rest_of g (node_at nodes a).item) → RangedTo old now a (slice_index firsts (node_at nodes a).state) (slice_index firsts (suc (node_at nodes a).state)) (λ y. BeginsWith g (node_at nodes y).item x)
-      → (b c : ℕ) → Linked now b c ↔ (Linked old b c ⊎ ((b ≡ a) × (c < length nodes) × (OpensTo g nodes a c × Grown g.rules 0 (rest_of g (node_at nodes a).item))))
-  opened-links old now null ranged b c = (
-    λ h. elim ((ranged b c).0 h) [ inl older ↦ inl older | inr new ↦ (let o = opens-range c (new.1, new.2, new.3) in inr (new.0, o.0, (o.1, null))) ],
-    λ h. elim h [ inl older ↦ (ranged b c).1 (inl older) | inr new ↦ (let r = range-opens c new.1 new.2.0 in (ranged b c).1 (inr (new.0, r.0, r.1, r.2))) ],
-  )
+    abbrev pub Opened : ℕ → Type 0
+    Opened c = OpensTo g nodes a c × Grown g.rules 0 (rest_of g (node_at nodes a).item)
 
-  pub shut-links : (old : List (ℕ × ℕ)) → (Grown g.rules 0 (rest_of g (node_at nodes a).item) → ⊥) → (b c : ℕ) → Linked old b c ↔ (Linked old b c ⊎ ((b ≡ a) × (c < length nodes) × (OpensTo g nodes a c × Grown g.rules 0 (rest_of g (node_at nodes a).item))))
-  shut-links old none b c = (λ h. inl h, λ h. elim h [ inl older ↦ older | inr new ↦ absurd (none new.2.1) ])
+    pub opened-links : (old : List (ℕ × ℕ)) (s : ℕ) → Grown g.rules 0 (rest_of g (node_at nodes a).item) → ((y : ℕ) → OfSome slots Begun y ↔ (y ≡ s)) → Joined old (old ++ (slice_index slots a, s) ∷ []) slots a Opened
+    opened-links old s null is = joined-as old (old ++ (slice_index slots a, s) ∷ []) slots a Begun Opened (λ c l. (λ h. ((opens-range c h).1, null), λ h. range-opens c (subst (λ n. c < n) count l) h.0)) (joined-row old slots a s Begun is)
+
+    pub shut-links : (old : List (ℕ × ℕ)) → (Grown g.rules 0 (rest_of g (node_at nodes a).item) → ⊥) → Joined old old slots a Opened
+    shut-links old none = joined-none old slots a Opened (λ c l h. none h.1)
+
+    -- a symbol without productions opens nothing
+    pub bare-links : (old : List (ℕ × ℕ)) → ((c : ℕ) → BeginsWith g (node_at nodes c).item x → ⊥) → Joined old old slots a Opened
+    bare-links old none = joined-none old slots a Opened (λ c l h. none c (range-opens c (subst (λ n. c < n) count l) h.0).2)
+
+    pub bare-gives : (old : List (List Bool)) → ((c : ℕ) → BeginsWith g (node_at nodes c).item x → ⊥) → Gained old old slots (Gives g nodes a)
+    bare-gives old none = gained-none old slots (Gives g nodes a) (λ c u l h. none c (range-opens c (subst (λ n. c < n) count l) h.0).2)
 
 -- along states as along prefixes
 pub triple-complete : (g : Grammar) (moves : List (List Move)) (w : List ℕ) (p d t : ℕ) → Valid g w p d t → Triple g moves (state_of moves w) p d t
@@ -117,22 +128,13 @@ module _ (g : Grammar) (moves : List (List Move)) (cores : List (List Item)) (no
       let r = in-range cores nodes firsts laid (goto moves (node_at nodes a).state x) c target l (ap (λ (n : Node). n.state) m.2 ∙ ap (goto moves (node_at nodes a).state) same) in
       (r.0, r.1, ap (λ (n : Node). n.item) m.2)
 
-  pub flows-open : (old mid new : List (ℕ × ℕ)) → RangedTo old mid a (slice_index firsts (goto moves (node_at nodes a).state x)) (slice_index firsts (suc (goto moves (node_at nodes a).state x))) (λ y. (node_at nodes y).item ≡ moved (node_at nodes a).item)
-      → ((b c : ℕ) → Linked new b c ↔ (Linked mid b c ⊎ ((b ≡ a) × (c < length nodes) × (OpensTo g nodes a c × Grown g.rules 0 (rest_of g (node_at nodes a).item)))))
-      → (b c : ℕ) → Linked new b c ↔ (Linked old b c ⊎ ((b ≡ a) × (c < length nodes) × FlowsTo g moves nodes a c))
-  flows-open old mid new ranged opened b c = (
-    λ h. elim ((opened b c).0 h) [
-      | inl was ↦ elim ((ranged b c).0 was) [ inl older ↦ inl older | inr to ↦ (let m = moves-to c (to.1, to.2, to.3) in inr (to.0, m.0, inl m.1)) ]
-      | inr o ↦ inr (o.0, o.1, inr o.2)
-    ],
-    λ h. elim h [
-      | inl older ↦ (opened b c).1 (inl ((ranged b c).1 (inl older)))
-      | inr f ↦ elim (f.2) [
-        | inl m ↦ (let r = to-moves c f.1 m in (opened b c).1 (inl ((ranged b c).1 (inr (f.0, r.0, r.1, r.2)))))
-        | inr o ↦ (opened b c).1 (inr (f.0, f.1, o))
-      ]
-    ],
-  )
+  abbrev pub Moved : ℕ → Type 0
+  Moved c = (slice_index firsts (goto moves (node_at nodes a).state x) ≤ c) × (c < slice_index firsts (suc (goto moves (node_at nodes a).state x))) × ((node_at nodes c).item ≡ moved (node_at nodes a).item)
+
+  pub flows-open : (slots : List ℕ) → length slots ≡ length nodes → (old mid new : List (ℕ × ℕ)) → Joined old mid slots a Moved → Joined mid new slots a (λ c. OpensTo g nodes a c × Grown g.rules 0 (rest_of g (node_at nodes a).item)) → Joined old new slots a (FlowsTo g moves nodes a)
+  flows-open slots count old mid new joined opens =
+      joined-both old mid new slots a (MovesTo g moves nodes a) (λ c. OpensTo g nodes a c × Grown g.rules 0 (rest_of g (node_at nodes a).item))
+      (joined-as old mid slots a Moved (MovesTo g moves nodes a) (λ c l. (λ h. (moves-to c h).1, λ h. to-moves c (subst (λ n. c < n) count l) h)) joined) opens
 
   -- a terminal begins no production
   opens-none : IsWellFormed g → x < g.terminals → (c : ℕ) → OpensTo g nodes a c → ⊥
@@ -144,28 +146,21 @@ module _ (g : Grammar) (moves : List (List Move)) (cores : List (List Item)) (no
       let t : g.terminals ≤ left.0.left = subst (λ (s : Production). g.terminals ≤ s.left) (get_or_from_slice_get g.rules q left.0 left.0 left.1) r.0 in
       omega (arith, t, same, low)
 
-  pub flows-shut : (old new : List (ℕ × ℕ)) → IsWellFormed g → x < g.terminals → RangedTo old new a (slice_index firsts (goto moves (node_at nodes a).state x)) (slice_index firsts (suc (goto moves (node_at nodes a).state x))) (λ y. (node_at nodes y).item ≡ moved (node_at nodes a).item)
-      → (b c : ℕ) → Linked new b c ↔ (Linked old b c ⊎ ((b ≡ a) × (c < length nodes) × FlowsTo g moves nodes a c))
-  flows-shut old new formed low ranged b c = (
-    λ h. elim ((ranged b c).0 h) [ inl older ↦ inl older | inr to ↦ (let m = moves-to c (to.1, to.2, to.3) in inr (to.0, m.0, inl m.1)) ],
-    λ h. elim h [
-      | inl older ↦ (ranged b c).1 (inl older)
-      | inr f ↦ elim (f.2) [
-        | inl m ↦ (let r = to-moves c f.1 m in (ranged b c).1 (inr (f.0, r.0, r.1, r.2)))
-        | inr o ↦ absurd (opens-none formed low c o.0)
-      ]
-    ],
-  )
+  pub flows-shut : (slots : List ℕ) → length slots ≡ length nodes → (old new : List (ℕ × ℕ)) → IsWellFormed g → x < g.terminals → Joined old new slots a Moved → Joined old new slots a (FlowsTo g moves nodes a)
+  flows-shut slots count old new formed low joined = joined-as old new slots a Moved (FlowsTo g moves nodes a) (λ c l. (
+    λ h. inl (moves-to c h).1,
+    λ h. elim h [ inl m ↦ to-moves c (subst (λ n. c < n) count l) m | inr o ↦ absurd (opens-none formed low c o.0) ],
+  )) joined
 
-  pub gives-shut : (old : List (List Bool)) → IsWellFormed g → x < g.terminals → (c u : ℕ) → Holds old c u ↔ (Holds old c u ⊎ ((c < length nodes) × Gives g nodes a c u))
-  gives-shut old formed low c u = (λ h. inl h, λ h. elim h [ inl older ↦ older | inr f ↦ absurd (opens-none formed low c f.1.0) ])
+  pub gives-shut : (slots : List ℕ) (old : List (List Bool)) → IsWellFormed g → x < g.terminals → Gained old old slots (Gives g nodes a)
+  gives-shut slots old formed low = gained-none old slots (Gives g nodes a) (λ c u l h. opens-none formed low c h.0)
 
 -- an item with its dot at the end has no symbol to move or to begin with
-pub ends-links : (g : Grammar) (moves : List (List Move)) (nodes : List Node) (a : ℕ) → symbol_of g (node_at nodes a).item ≡ None → (old : List (ℕ × ℕ)) (b c : ℕ) → Linked old b c ↔ (Linked old b c ⊎ ((b ≡ a) × (c < length nodes) × FlowsTo g moves nodes a c))
-ends-links g moves nodes a none old b c = (λ h. inl h, λ h. elim h [ inl older ↦ older | inr f ↦ elim (f.2) [ inl m ↦ absurd (none-some m.0 (sym none ∙ m.1)) | inr o ↦ absurd (none-some o.0.0 (sym none ∙ o.0.1)) ] ])
+pub ends-links : (g : Grammar) (moves : List (List Move)) (nodes : List Node) (a : ℕ) → symbol_of g (node_at nodes a).item ≡ None → (slots : List ℕ) (old : List (ℕ × ℕ)) → Joined old old slots a (FlowsTo g moves nodes a)
+ends-links g moves nodes a none slots old = joined-none old slots a (FlowsTo g moves nodes a) (λ c l f. elim f [ inl m ↦ none-some m.0 (sym none ∙ m.1) | inr o ↦ none-some o.0.0 (sym none ∙ o.0.1) ])
 
-pub ends-gives : (g : Grammar) (nodes : List Node) (a : ℕ) → symbol_of g (node_at nodes a).item ≡ None → (old : List (List Bool)) (c u : ℕ) → Holds old c u ↔ (Holds old c u ⊎ ((c < length nodes) × Gives g nodes a c u))
-ends-gives g nodes a none old c u = (λ h. inl h, λ h. elim h [ inl older ↦ older | inr f ↦ absurd (none-some f.1.0.0 (sym none ∙ f.1.0.1)) ])
+pub ends-gives : (g : Grammar) (nodes : List Node) (a : ℕ) → symbol_of g (node_at nodes a).item ≡ None → (slots : List ℕ) (old : List (List Bool)) → Gained old old slots (Gives g nodes a)
+ends-gives g nodes a none slots old = gained-none old slots (Gives g nodes a) (λ c u l h. none-some h.0.0 (sym none ∙ h.0.1))
 
 -- the nodes of a whole automaton
 module _ (g : Grammar) (kernels cores : List (List Item)) (moves : List (List Move)) (origins : List Origin) (whole : IsWhole g kernels cores moves origins) (nodes : List Node) (firsts : List ℕ) (laid : IsLaid cores nodes firsts) where
@@ -184,6 +179,16 @@ module _ (g : Grammar) (kernels cores : List (List Item)) (moves : List (List Mo
       let m = whole.moved in
       let b = (whole.part.leads (node_at nodes a).state x (omega (arith, k, c, m)) (node-next a x l symbol)).0 in
       omega (arith, b, c)
+
+  -- the productions of a node's symbol begin in its state
+  pub node-begun : (a x : ℕ) → a < length nodes → symbol_of g (node_at nodes a).item ≡ Some x → (q : ℕ) → HasLeft g.rules x q → (c : ℕ) × (c < length nodes) × (node_at nodes c ≡ node (node_at nodes a).state (item q 0))
+  node-begun a x l symbol q left =
+      let s = (node_at nodes a).state in
+      let i = (node_at nodes a).item in
+      let low = laid.known a l in
+      let closed = whole.part.closed s low in
+      let kept = (closed.exact i.production i.dot).0 (laid.contained a l) in
+      laid.has s (item q 0) low ((closed.exact q 0).1 (opened i.production i.dot x q left.0 kept symbol left.1 left.2))
 
   module _ (formed : IsWellFormed g) (productive : AllProductive g) (entry : 0 < length g.entries) where
     abbrev TripleAt : ℕ → ℕ → Type 0
@@ -210,58 +215,94 @@ module _ (g : Grammar) (kernels cores : List (List Item)) (moves : List (List Mo
         let c = whole.cored in
         (subst (λ u. u < length cores) w.1 (omega (arith, low, c)), subst (λ u. Contains (row_at cores u) (item p d)) w.1 ((core p d).1 (t, w.2)))
 
-    module _ (start rows : List (List Bool)) (links : List (ℕ × ℕ)) (n : ℕ) (all : length nodes ≤ n)
-        (linked : (b c : ℕ) → Linked links b c ↔ ((b < n) × (c < length nodes) × FlowsTo g moves nodes b c))
-        (seeds : (c u : ℕ) → Holds start c u ↔ (((c < length nodes) × IsStart g (node_at nodes c) × (u ≡ 0)) ⊎ ((b : ℕ) × (b < n) × (c < length nodes) × Gives g nodes b c u)))
-        (few : n ≤ length nodes) (flows : (x y : ℕ) → Holds rows x y ↔ ((s : ℕ) × Holds start s y × Reaches (Linked links) s x)) where
+    -- nodes that may share a row have the same lookaheads
+    shared-begun : (s p d u X q : ℕ) → Triple g moves s p d u → d ≡ 0 → HasLeft g.rules X p → HasLeft g.rules X q → Triple g moves s q 0 u
+    shared-begun _ _ _ _ X q (starts k p l e) zero-dot left other = absurd (let w = HasLeft-within g.rules X p left in omega (arith, w, e))
+    shared-begun _ _ _ _ X q (closes s p d t Y n u r h symbol at is begins) zero-dot left other =
+        closes s p d t Y q u other.0 h symbol other.1 (is ∙ sym (HasLeft-at g.rules X n r at left) ∙ other.2) begins
+    shared-begun _ _ _ _ X q (steps s v p d t Y h symbol e) zero-dot left other = absurd (omega (arith, zero-dot))
+
+    share-triple : (b c u : ℕ) → Shares g nodes b c → TripleAt b u → TripleAt c u
+    share-triple b c u (inl e) h = subst (λ z. TripleAt z u) e h
+    share-triple b c u (inr s) h =
+        let i = (node_at nodes b).item in
+        let j = (node_at nodes c).item in
+        subst (λ z. Triple g moves z j.production j.dot u) s.1 (subst (λ z. Triple g moves (node_at nodes b).state j.production z u) (sym s.3.0)
+        (shared-begun (node_at nodes b).state i.production i.dot u s.0 j.production h s.2.0 s.2.1 s.3.1))
+
+    module _ (slots : List ℕ) (start rows : List (List Bool)) (links : List (ℕ × ℕ)) (count : ℕ) (are : AreSlots g nodes (length nodes) slots count)
+        (n : ℕ) (all : length nodes ≤ n) (few : n ≤ length nodes)
+        (linked : LinkedTo links slots n (FlowsTo g moves nodes))
+        (seeds : SeededTo start slots n (λ c u. IsStart g (node_at nodes c) × (u ≡ 0)) (Gives g nodes))
+        (flows : (x y : ℕ) → Holds rows x y ↔ ((s : ℕ) × Holds start s y × Reaches (Linked links) s x)) where
+      -- all nodes of a row have a lookahead
+      abbrev RowTriple : ℕ → ℕ → Type 0
+      RowTriple y u = (c : ℕ) → c < length nodes → y ≡ slice_index slots c → TripleAt c u
+
+      in-nodes : (c : ℕ) → c < length slots → c < length nodes
+      in-nodes c l = let e = are.long in omega (arith, l, e)
+
+      row-of-one : (y c u : ℕ) → c < length slots → y ≡ slice_index slots c → TripleAt c u → RowTriple y u
+      row-of-one y c u l is h d k e = share-triple c d u (are.apart c d (in-nodes c l) k (sym is ∙ e)) h
+
       opened-triple : (b c t u : ℕ) → TripleAt b t → OpensTo g nodes b c → Begins g (rest_of g (node_at nodes b).item) t u → TripleAt c u
       opened-triple b c t u h o begins =
           let made = closes (node_at nodes b).state (node_at nodes b).item.production (node_at nodes b).item.dot t o.0 (node_at nodes c).item.production u o.3.1.0 h o.1 o.3.1.1 o.3.1.2 begins in
           subst (λ s. Triple g moves s (node_at nodes c).item.production (node_at nodes c).item.dot u) (sym o.2) (subst (λ d. Triple g moves (node_at nodes b).state (node_at nodes c).item.production d u) (sym o.3.0) made)
 
-      seed-triple : (c u : ℕ) → Holds start c u → TripleAt c u
-      seed-triple c u h = elim ((seeds c u).0 h) [
+      seed-triple : (y u : ℕ) → Holds start y u → RowTriple y u
+      seed-triple y u h = elim ((seeds y u).0 h) [
         | inl s ↦
-            let i = s.1 in
-            let range = node-range c s.0 in
+            let c = s.0 in
+            let i = s.2.0 in
+            let range = node-range c (in-nodes c s.1) in
             let p = (node_at nodes c).item.production in
             let low = i.2 in
             let made : Triple g moves 0 p 0 0 = starts (p - length g.rules) p (omega (arith, range, low)) (omega (arith, low)) in
-            subst (λ z. Triple g moves z p (node_at nodes c).item.dot u) (sym i.0) (subst (λ z. Triple g moves 0 p z u) (sym i.1) (subst (λ z. Triple g moves 0 p 0 z) (sym s.2) made))
+            row-of-one y c u s.1 s.3 (subst (λ z. Triple g moves z p (node_at nodes c).item.dot u) (sym i.0) (subst (λ z. Triple g moves 0 p z u) (sym i.1) (subst (λ z. Triple g moves 0 p 0 z) (sym s.2.1) made)))
         | inr v ↦
+            let o = v.2 in
             let t = has-triple v.0 (let l = v.1 in omega (arith, l, few)) in
-            opened-triple v.0 c t.0 u t.1 v.3.0 (firsts-begins g (rest_of g (node_at nodes v.0).item) t.0 u v.3.1)
+            row-of-one y o.0 u o.1 o.3 (opened-triple v.0 o.0 t.0 u t.1 o.2.0 (firsts-begins g (rest_of g (node_at nodes v.0).item) t.0 u o.2.1))
       ]
 
-      link-triple : (b c u : ℕ) → Linked links b c → TripleAt b u → TripleAt c u
-      link-triple b c u l h =
-          let k = (linked b c).0 l in
-          elim (k.2) [
-            | inl m ↦
-                let n' = node_at nodes b in
-                subst (λ (z : Node). Triple g moves z.state z.item.production z.item.dot u) (sym m.2) (steps n'.state (goto moves n'.state m.0) n'.item.production n'.item.dot u m.0 h m.1 refl)
-            | inr o ↦ opened-triple b c u u h o.0 (subst (λ r. Begins g r u u) (append-nil (rest_of g (node_at nodes b).item)) (null-begins g (rest_of g (node_at nodes b).item) [] u u o.1 (behind u)))
-          ]
+      flow-triple : (b c u : ℕ) → FlowsTo g moves nodes b c → TripleAt b u → TripleAt c u
+      flow-triple b c u (inl m) h =
+          let n' = node_at nodes b in
+          subst (λ (z : Node). Triple g moves z.state z.item.production z.item.dot u) (sym m.2) (steps n'.state (goto moves n'.state m.0) n'.item.production n'.item.dot u m.0 h m.1 refl)
+      flow-triple b c u (inr o) h = opened-triple b c u u h o.0 (subst (λ r. Begins g r u u) (append-nil (rest_of g (node_at nodes b).item)) (null-begins g (rest_of g (node_at nodes b).item) [] u u o.1 (behind u)))
 
-      path-triple : (b c u : ℕ) (via : List ℕ) → Leads (Linked links) b via c → TripleAt b u → TripleAt c u
-      path-triple b c u [] l h = link-triple b c u l h
-      path-triple b c u (v ∷ via) l h = path-triple v c u via l.1 (link-triple b v u l.0 h)
+      link-triple : (x y u : ℕ) → Linked links x y → RowTriple x u → RowTriple y u
+      link-triple x y u l h =
+          let k = (linked x y).0 l in
+          let o = k.3 in
+          row-of-one y o.0 u o.1 o.3 (flow-triple k.0 o.0 u o.2 (h k.0 (let b = k.1 in omega (arith, b, few)) k.2))
 
-      row-triple : (c u : ℕ) → Holds rows c u → TripleAt c u
-      row-triple c u h =
-          let f = (flows c u).0 h in
+      path-triple : (x y u : ℕ) (via : List ℕ) → Leads (Linked links) x via y → RowTriple x u → RowTriple y u
+      path-triple x y u [] l h = link-triple x y u l h
+      path-triple x y u (v ∷ via) l h = path-triple v y u via l.1 (link-triple x v u l.0 h)
+
+      row-triple : (y u : ℕ) → Holds rows y u → RowTriple y u
+      row-triple y u h =
+          let f = (flows y u).0 h in
           let s = seed-triple f.0 u f.1 in
-          elim f.2 [ inl same ↦ subst (λ z. TripleAt z u) same s | inr path ↦ path-triple f.0 c u path.0 path.1 s ]
+          elim f.2 [ inl same ↦ subst (λ z. RowTriple z u) same s | inr path ↦ path-triple f.0 y u path.0 path.1 s ]
 
-      holds-start : (c u : ℕ) → Holds start c u → Holds rows c u
-      holds-start c u h = (flows c u).1 (c, h, inl refl)
+      holds-start : (y u : ℕ) → Holds start y u → Holds rows y u
+      holds-start y u h = (flows y u).1 (y, h, inl refl)
 
-      holds-link : (b c u : ℕ) → Linked links b c → Holds rows b u → Holds rows c u
-      holds-link b c u l h = let f = (flows b u).0 h in (flows c u).1 (f.0, f.1, Reaches-step (Linked links) f.0 b c f.2 l)
+      holds-link : (x y u : ℕ) → Linked links x y → Holds rows x u → Holds rows y u
+      holds-link x y u l h = let f = (flows x u).0 h in (flows y u).1 (f.0, f.1, Reaches-step (Linked links) f.0 x y f.2 l)
 
-      triple-row : (s p d t : ℕ) → Triple g moves s p d t → (m : ℕ) → m < length nodes → node_at nodes m ≡ node s (item p d) → Holds rows m t
+      in-slots : (m : ℕ) → m < length nodes → m < length slots
+      in-slots m l = let e = are.long in omega (arith, l, e)
+
+      holds-flow : (b c u : ℕ) → b < length nodes → c < length nodes → FlowsTo g moves nodes b c → Holds rows (slice_index slots b) u → Holds rows (slice_index slots c) u
+      holds-flow b c u l k f h = holds-link (slice_index slots b) (slice_index slots c) u ((linked (slice_index slots b) (slice_index slots c)).1 (b, omega (arith, l, all), refl, (c, in-slots c k, f, refl))) h
+
+      triple-row : (s p d t : ℕ) → Triple g moves s p d t → (m : ℕ) → m < length nodes → node_at nodes m ≡ node s (item p d) → Holds rows (slice_index slots m) t
       triple-row _ _ _ _ (starts k p l e) m low is =
-          holds-start m 0 ((seeds m 0).1 (inl (low, (ap (λ (z : Node). z.state) is, ap (λ (z : Node). z.item.dot) is, (let q = ap (λ (z : Node). z.item.production) is in omega (arith, q, e))), refl)))
+          holds-start (slice_index slots m) 0 ((seeds (slice_index slots m) 0).1 (inl (m, in-slots m low, ((ap (λ (z : Node). z.state) is, ap (λ (z : Node). z.item.dot) is, (let q = ap (λ (z : Node). z.item.production) is in omega (arith, q, e))), refl), refl)))
       triple-row _ _ _ _ (closes s p d t X q u r h symbol at left begins) m low is =
           let c = triple-contained s p d t h in
           let a = laid.has s (item p d) c.0 c.1 in
@@ -271,8 +312,8 @@ module _ (g : Grammar) (kernels cores : List (List Item)) (moves : List (List Mo
           let o : OpensTo g nodes a.0 m = (X, symbol', ap (λ (z : Node). z.state) is ∙ sym (ap (λ (z : Node). z.state) a.2), (ap (λ (z : Node). z.item.dot) is, subst (HasLeft g.rules X) (sym (ap (λ (z : Node). z.item.production) is)) (r, at, left))) in
           let rest : rest_of g (node_at nodes a.0).item ≡ drop (suc d) (right_of g p) = ap (λ (z : Node). rest_of g z.item) a.2 in
           elim (begins-firsts g (drop (suc d) (right_of g p)) t u begins) [
-            | inl f ↦ holds-start m u ((seeds m u).1 (inr (a.0, below, low, (o, subst (λ l. Firsts g l u) (sym rest) f))))
-            | inr null ↦ subst (Holds rows m) (sym null.1) (holds-link a.0 m t ((linked a.0 m).1 (below, low, inr (o, subst (Grown g.rules 0) (sym rest) null.0))) (triple-row s p d t h a.0 there a.2))
+            | inl f ↦ holds-start (slice_index slots m) u ((seeds (slice_index slots m) u).1 (inr (a.0, below, (m, in-slots m low, (o, subst (λ l. Firsts g l u) (sym rest) f), refl))))
+            | inr null ↦ subst (Holds rows (slice_index slots m)) (sym null.1) (holds-flow a.0 m t there low (inr (o, subst (Grown g.rules 0) (sym rest) null.0)) (triple-row s p d t h a.0 there a.2))
           ]
       triple-row _ _ _ _ (steps s v p d t X h symbol e) m low is =
           let c = triple-contained s p d t h in
@@ -280,10 +321,11 @@ module _ (g : Grammar) (kernels cores : List (List Item)) (moves : List (List Mo
           let there = a.1 in
           let symbol' : symbol_of g (node_at nodes a.0).item ≡ Some X = ap (λ (z : Node). symbol_of g z.item) a.2 ∙ symbol in
           let to : node_at nodes m ≡ node (goto moves (node_at nodes a.0).state X) (moved (node_at nodes a.0).item) = is ∙ (λ i. node ((e ∙ ap (λ (z : Node). goto moves z.state X) (sym a.2)) i) (moved (sym a.2 i).item)) in
-          holds-link a.0 m t ((linked a.0 m).1 (omega (arith, there, all), low, inl (X, symbol', to))) (triple-row s p d t h a.0 there a.2)
+          holds-flow a.0 m t there low (inl (X, symbol', to)) (triple-row s p d t h a.0 there a.2)
 
-      pub rows-exact : (m t : ℕ) → m < length nodes → Holds rows m t ↔ TripleAt m t
-      rows-exact m t l = (
-        row-triple m t,
-        λ h. triple-row (node_at nodes m).state (node_at nodes m).item.production (node_at nodes m).item.dot t h m l refl,
-      )
+      pub rows-exact : AreLookaheads g moves nodes (map (row_of rows) slots)
+      rows-exact m t l =
+          let is : row_of (map (row_of rows) slots) m ≡ row_of rows (slice_index slots m) = get_or-map (row_of rows) slots m 0 [] (in-slots m l) in (
+            λ h. row-triple (slice_index slots m) t (subst (λ r. Has r t) is h) m l refl,
+            λ h. subst (λ r. Has r t) (sym is) (triple-row (node_at nodes m).state (node_at nodes m).item.production (node_at nodes m).item.dot t h m l refl),
+          )

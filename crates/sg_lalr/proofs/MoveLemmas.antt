@@ -1,8 +1,7 @@
 -- Lemmas on the symbols behind the dots of items.
-use Rattle.std.proofs.Common.{◌≡◌, ℕ, zero, suc, ◌+◌, ◌^◌, ◌<◌, ◌≤◌, ◌⊎◌, inl, inr, Bool, true, false, cond, List, [], ◌∷◌, ◌++◌, length, get_or, take, map, refl, sym, ap, ◌∙◌, subst, arith, Option, Some, None}
+use Rattle.std.proofs.Common.{◌≡◌, ℕ, zero, suc, ◌^◌, ◌<◌, ◌≤◌, Bool, true, false, cond, List, [], ◌∷◌, ◌++◌, length, get_or, map, refl, ap, ◌∙◌, subst, arith, Option, Some, None}
 use Rattle.std.specs.Prelude.{All, slice_get, option_map, unwrap_or, filter, IfSome}
-use Rattle.std.proofs.lemmas.List.{take_more}
-use Rattle.std.proofs.lemmas.List.Elements.{All-append, Contains-push_cases, Contains-append_left, Contains-push}
+use Rattle.std.proofs.lemmas.List.Elements.{All-append}
 use Rattle.std.proofs.lemmas.Option.{slice_get_within, slice_get-get_or, same_Some, none-some}
 use Rattle.sg_grammar.specs.declared.grammar.Production.{Production}
 use Rattle.sg_grammar.specs.Grammar.{Grammar, right_of, symbol_at}
@@ -48,30 +47,6 @@ dot-within g w p d X is = let f = (right_of-fits g p w).0 in let l = slice_get_w
 pub if_some : {A : Type 0} (o : Option A) (P : A → Type 0) → ((x : A) → o ≡ Some x → P x) → IfSome o P
 if_some None P h = tt
 if_some (Some x) P h = h x refl
-
--- the least symbol so far from a bound on, or none
-pub record IsLeast (g : Grammar) (items : List Item) (bound best : ℕ) : Type 0 where
-  pub least : (X : ℕ) → bound ≤ X → HasNext g items X → best ≤ X
-  pub next : best < g.symbols → HasNext g items best
-  pub above : best < g.symbols → bound ≤ best
-  pub within : best ≤ g.symbols
-
-has-later : (g : Grammar) (items : List Item) (i : Item) (X : ℕ) → HasNext g items X → HasNext g (items ++ i ∷ []) X
-has-later g items i X h = (h.0, Contains-append_left items (i ∷ []) h.0 h.1, h.2)
-
-has-cases : (g : Grammar) (items : List Item) (i : Item) (X : ℕ) → HasNext g (items ++ i ∷ []) X → (symbol_of g i ≡ Some X) ⊎ HasNext g items X
-has-cases g items i X h = elim (Contains-push_cases items i h.0 h.1) [ inl old ↦ inr (h.0, old, h.2) | inr e ↦ inl (ap (symbol_of g) e ∙ h.2) ]
-
-pub least-more : (g : Grammar) (items : List Item) (i : Item) (bound best next : ℕ) → ((X : ℕ) → symbol_of g i ≡ Some X → bound ≤ X → next ≤ X) → next ≤ best → (next ≡ best) ⊎ ((symbol_of g i ≡ Some next) × (bound ≤ next)) → IsLeast g items bound best → IsLeast g (items ++ i ∷ []) bound next
-least-more g items i bound best next low below either l = record {
-  least = λ Y b h. elim (has-cases g items i Y h) [ inl e ↦ low Y e b | inr old ↦ (let k = l.least Y b old in omega (arith, k, below)) ];
-  next = λ b. elim either [ inl e ↦ subst (HasNext g (items ++ i ∷ [])) (sym e) (has-later g items i best (l.next (omega (arith, b, e)))) | inr new ↦ (i, Contains-push items i, new.0) ];
-  above = λ b. elim either [ inl e ↦ (let k = l.above (omega (arith, b, e)) in omega (arith, k, e)) | inr new ↦ new.1 ];
-  within = let k = l.within in omega (arith, k, below);
-}
-
-pub take-next : (items : List Item) (n : ℕ) (d : Item) → n < length items → take (n + 1) items ≡ take n items ++ get_or items n d ∷ []
-take-next items n d low = take_more items n d low
 
 -- one item more
 filter-by : (p : Item → Bool) (x : Item) (xs ys rest : List Item) → rest ≡ filter p xs ++ ys → (b : Bool) → cond b (x ∷ rest) rest ≡ cond b (x ∷ filter p xs) (filter p xs) ++ ys

@@ -10,7 +10,7 @@ use Rattle.sg_lalr.specs.declared.states.Move.{Move}
 use Rattle.sg_lalr.specs.declared.states.Origin.{Origin}
 use Rattle.sg_lalr.specs.Items.{Item, item, HasNext, advance, Before, IsRising}
 use Rattle.sg_lalr.specs.Closure.{InRange, IsKernel, IsClosure}
-use Rattle.sg_lalr.specs.Automaton.{row_at, leads_to, goto, starts_from, start_items, origin, Earlier, NotLater, IsBehind, origin_at, IsSorted, ComesFrom, IsPart, Entered, Overflows}
+use Rattle.sg_lalr.specs.Automaton.{row_at, moves_at, leads_to, goto, starts_from, start_items, origin, Earlier, NotLater, IsBehind, origin_at, IsSorted, ComesFrom, IsPart, Entered, Overflows}
 use Rattle.sg_lalr.proofs.RisingLemmas.{advance-from, advance-rising, All-contained, pairs-nil, pairs-cons, Contains-nil}
 use Rattle.sg_lalr.proofs.StartLemmas.{starts-from}
 
@@ -66,6 +66,7 @@ module _ (g : Grammar) where
           subst (IsClosure g (row_at kernels s)) (sym (row_at-last cores core s is)) (subst (λ t. IsClosure g (row_at kernels t) core) is c)
     ];
     expanded = let e = p.expanded in omega (arith, e, length_push cores core);
+    only = λ s l. subst (λ row. All (λ (m : Move). HasNext g row m.symbol) (moves_at moves s)) (sym (old s l)) (p.only s l);
     leads = λ s X l h. subst (λ row. IsBehind g kernels row X (goto moves s X)) (sym (old s l)) (p.leads s X l (subst (λ row. HasNext g row X) (old s l) h));
     comes = λ k l. let c = p.comes k l in record {
       earlier = c.earlier;
@@ -93,6 +94,7 @@ module _ (g : Grammar) where
     closed = λ t l. subst (λ k. IsClosure g k (row_at cores t)) (sym (row_at-front kernels kernel t (let f = p.few in omega (arith, f, l)))) (p.closed t l);
     expanded = p.expanded;
     sorted = p.sorted;
+    only = p.only;
     leads = λ t Y l h. behind-more g kernels kernel (row_at cores t) Y (goto moves t Y) (p.leads t Y l h);
     count = let c = p.count in omega (arith, c, long, length_push origins (origin s X));
     comes = λ k l. elim (cases_lt k (length origins)) [
@@ -130,6 +132,7 @@ module _ (g : Grammar) where
     pub earliest : (X k : ℕ) → X < b → HasNext g (row_at cores s) X → leads_to row X ≡ suc k → NotLater (origin_at origins k) (origin s X)
     pub before : All (λ o. Earlier o (origin s b)) origins
     pub symbols : All (λ (m : Move). m.symbol < b) row
+    pub only : All (λ (m : Move). HasNext g (row_at cores s) m.symbol) row
     pub sorted : IsSorted row
 
   earlier-next : (o : Origin) (s b c : ℕ) → b < c → Earlier o (origin s b) → Earlier o (origin s c)
@@ -143,15 +146,16 @@ module _ (g : Grammar) where
     earliest = λ X k l h. absurd (let k = none X h in omega (arith, k, l));
     before = λ k d l. inl (before k d l);
     symbols = λ k d l. absurd (omega (arith, l));
+    only = λ k d l. absurd (omega (arith, l));
     sorted = pairs-nil (λ (i j : Move). i.symbol < j.symbol);
   }
 
   -- the row with one move more, where the kernels have that behind it
   row-more : (kernels cores : List (List Item)) (moves : List (List Move)) (origins : List Origin) (row : List Move) (s x y v : ℕ) → IsPart g kernels cores moves origins → s < length cores
       → ((X : ℕ) → X < x → HasNext g (row_at cores s) X → IsBehind g kernels (row_at cores s) X (leads_to row X)) → ((X k : ℕ) → X < x → HasNext g (row_at cores s) X → leads_to row X ≡ suc k → NotLater (origin_at origins k) (origin s X))
-      → All (λ o. Earlier o (origin s y)) origins → All (λ (m : Move). m.symbol < x) row → IsSorted row → x < y → ((X : ℕ) → suc x ≤ X → HasNext g (row_at cores s) X → y ≤ X)
+      → All (λ o. Earlier o (origin s y)) origins → All (λ (m : Move). m.symbol < x) row → All (λ (m : Move). HasNext g (row_at cores s) m.symbol) row → HasNext g (row_at cores s) x → IsSorted row → x < y → ((X : ℕ) → suc x ≤ X → HasNext g (row_at cores s) X → y ≤ X)
       → IsBehind g kernels (row_at cores s) x v → ((k : ℕ) → v ≡ suc k → NotLater (origin_at origins k) (origin s x)) → Expanding kernels cores moves origins (row ++ record { symbol = x; target = v } ∷ []) s y
-  row-more kernels cores moves origins row s x y v p low leads earliest before below sorted less least behind first = record {
+  row-more kernels cores moves origins row s x y v p low leads earliest before below only next sorted less least behind first = record {
     part = p;
     here = low;
     before = before;
@@ -168,6 +172,7 @@ module _ (g : Grammar) where
           subst (λ z. NotLater (origin_at origins k) (origin s z)) is (first k (sym (leads_to-last row m X is (subst (λ z. All (λ (n : Move). n.symbol < z) row) is below)) ∙ t))
     ];
     symbols = All-push (λ (n : Move). n.symbol < y) row m (λ k d l. let b = below k d l in omega (arith, b, less)) less;
+    only = All-push (λ (n : Move). HasNext g (row_at cores s) n.symbol) row m only next;
     sorted = all_pairs_push (λ (i j : Move). i.symbol < j.symbol) row m sorted (λ k d l. below k d l);
   }
     where
@@ -181,7 +186,7 @@ module _ (g : Grammar) where
       → Entered kernels more origins others (advance g x (row_at cores s)) (origin s x) v → Expanding more cores moves others (row ++ record { symbol = x; target = v } ∷ []) s y
   expanding-more kernels more cores moves origins others row s x y v e next less least (inl old) =
       subst (λ ks. Expanding ks cores moves others (row ++ record { symbol = x; target = v } ∷ []) s y) (sym old.0) (subst (λ os. Expanding kernels cores moves os (row ++ record { symbol = x; target = v } ∷ []) s y) (sym old.1)
-      (row-more kernels cores moves origins row s x y v e.part e.here e.leads e.earliest (λ k d l. earlier-next (get_or origins k d) s x y less (e.before k d l)) e.symbols e.sorted less least (old.2, old.3)
+      (row-more kernels cores moves origins row s x y v e.part e.here e.leads e.earliest (λ k d l. earlier-next (get_or origins k d) s x y less (e.before k d l)) e.symbols e.only next e.sorted less least (old.2, old.3)
       (λ k is. inl (subst (λ o. Earlier o (origin s x)) refl (e.before k (origin 0 0) (let l = old.2 in let n = e.part.count in omega (arith, l, n, is)))))))
   expanding-more kernels more cores moves origins others row s x y v e next less least (inr new) =
       subst (λ ks. Expanding ks cores moves others (row ++ record { symbol = x; target = v } ∷ []) s y) (sym new.0) (subst (λ os. Expanding (kernels ++ kernel ∷ []) cores moves os (row ++ record { symbol = x; target = v } ∷ []) s y) (sym new.1)
@@ -189,7 +194,7 @@ module _ (g : Grammar) where
       (λ X l h. behind-more g kernels kernel (row_at cores s) X (leads_to row X) (e.leads X l h))
       (λ X k l h is. subst (λ o. NotLater o (origin s X)) (sym (origin_at-front origins (origin s x) k (let b = (e.leads X l h).0 in let n = e.part.count in omega (arith, b, n, is)))) (e.earliest X k l h is))
       (All-push (λ o. Earlier o (origin s y)) origins (origin s x) (λ k d l. earlier-next (get_or origins k d) s x y less (e.before k d l)) (inr (refl, less)))
-      e.symbols e.sorted less least
+      e.symbols e.only next e.sorted less least
       (let n = new.2 in omega (arith, n, length_push kernels kernel), row_at-last kernels kernel v (sym new.2))
       (λ k is. inr (let o : origin_at (origins ++ origin s x ∷ []) k ≡ origin s x = origin_at-last origins (origin s x) k (let c = e.part.count in let n = new.2 in omega (arith, c, n, is)) in (ap (λ (p : Origin). p.state) o, ap (λ (p : Origin). p.symbol) o)))))
     where
@@ -212,6 +217,12 @@ module _ (g : Grammar) where
     sorted = λ s l. elim (cases_lt s (length moves)) [
       | inl old ↦ subst IsSorted (sym (get_or_append_left moves (row ∷ []) [] s old)) (p.sorted s old)
       | inr late ↦ subst IsSorted (sym (get_or_push moves row [] s (omega (arith, l, late, length_push moves row)))) e.sorted
+    ];
+    only = λ s l. elim (cases_lt s (length moves)) [
+      | inl old ↦ subst (All (λ (m : Move). HasNext g (row_at cores s) m.symbol)) (sym (get_or_append_left moves (row ∷ []) [] s old)) (p.only s old)
+      | inr late ↦
+          let is : length moves ≡ s = omega (arith, l, late, length_push moves row) in
+          subst (All (λ (m : Move). HasNext g (row_at cores s) m.symbol)) (sym (get_or_push moves row [] s is)) (subst (λ t. All (λ (m : Move). HasNext g (row_at cores t) m.symbol) row) is e.only)
     ];
     leads = λ s X l h. elim (cases_lt s (length moves)) [
       | inl old ↦ subst (IsBehind g kernels (row_at cores s) X) (sym (ap (λ r. leads_to r X) (get_or_append_left moves (row ∷ []) [] s old))) (p.leads s X old h)
@@ -304,4 +315,5 @@ part-none g = record {
   rising = pairs-nil Earlier;
   earliest = λ s X k l. absurd (omega (arith, l));
   sorted = λ s l. absurd (omega (arith, l));
+  only = λ s l. absurd (omega (arith, l));
 }

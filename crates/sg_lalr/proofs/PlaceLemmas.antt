@@ -1,8 +1,7 @@
 -- Lemmas on the place of an item among nodes in their order.
-use Rattle.std.proofs.Common.{◌≡◌, ℕ, zero, suc, ◌+◌, ◌<◌, ◌≤◌, inl, inr, cond, List, [], ◌∷◌, ◌++◌, length, get_or, refl, sym, ap, ◌∙◌, subst, arith}
-use Rattle.std.specs.Prelude.{Contains, slice_index}
+use Rattle.std.proofs.Common.{◌≡◌, ℕ, zero, suc, ◌+◌, ◌<◌, ◌≤◌, inl, inr, cond, List, [], ◌∷◌, length, get_or, refl, ap, ◌∙◌, subst, arith}
+use Rattle.std.specs.Prelude.{slice_index}
 use Rattle.std.proofs.lemmas.Bool.{cases_lt, eq-eqb, ne_eqb}
-use Rattle.std.proofs.lemmas.List.Elements.{Contains-push, Contains-push_cases, Contains-append_left}
 use Rattle.sg_grammar.specs.Grammar.{Grammar}
 use Rattle.sg_lalr.specs.declared.states.Move.{Move}
 use Rattle.sg_lalr.specs.declared.states.Origin.{Origin}
@@ -11,7 +10,6 @@ use Rattle.sg_lalr.specs.Items.{Item, item, Before}
 use Rattle.sg_lalr.specs.Automaton.{row_at, move_at, leads_to, IsSorted, IsWhole}
 use Rattle.sg_lalr.specs.Lookaheads.{node_at, IsLaid}
 use Rattle.sg_lalr.proofs.RisingLemmas.{Before-itself, pairs-tail}
-use Rattle.sg_lalr.proofs.LinkLemmas.{RangedTo}
 use Rattle.sg_lalr.proofs.LookLemmas.{range-below}
 
 before-then : (i j k : Item) → Before i j → Before j k → Before i k
@@ -126,23 +124,3 @@ pub target-none : (row : List Move) (X : ℕ) → ((k : ℕ) → k < length row 
 target-none [] X none = refl
 target-none (m ∷ row) X none =
     ap (λ b. cond b m.target (leads_to row X)) (ne_eqb m.symbol X (none 0 (omega arith))) ∙ target-none row X (λ k l is. none (suc k) (omega (arith, l)) is)
-
--- the only node that passes is linked
-pub ranged-one : (old : List (ℕ × ℕ)) (a from to b : ℕ) (P : ℕ → Type 0) → from ≤ b → b < to → P b → ((m : ℕ) → from ≤ m → m < to → P m → m ≡ b) → RangedTo old (old ++ (a, b) ∷ []) a from to P
-ranged-one old a from to b P low high here only x y = (
-  λ h. elim (Contains-push_cases old (a, b) (x, y) h) [
-    | inl was ↦ inl was
-    | inr e ↦
-        let is : b ≡ y = ap (λ (p : ℕ × ℕ). p.1) e in
-        inr (sym (ap (λ (p : ℕ × ℕ). p.0) e), omega (arith, is, low), omega (arith, is, high), subst P is here)
-  ],
-  λ h. elim h [
-    | inl older ↦ Contains-append_left old ((a, b) ∷ []) (x, y) older
-    | inr new ↦
-        let is : y ≡ b = only y new.1 new.2 new.3 in
-        subst (Contains (old ++ (a, b) ∷ [])) (λ i. (sym new.0 i, sym is i)) (Contains-push old (a, b))
-  ],
-)
-
-pub ranged-none : (old : List (ℕ × ℕ)) (a from to : ℕ) (P : ℕ → Type 0) → ((m : ℕ) → from ≤ m → m < to → P m → ⊥) → RangedTo old old a from to P
-ranged-none old a from to P none x y = (λ h. inl h, λ h. elim h [ inl older ↦ older | inr new ↦ absurd (none y new.1 new.2 new.3) ])

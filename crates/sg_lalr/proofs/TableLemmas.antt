@@ -1,6 +1,6 @@
 -- Tables are those of their grammar.
-use Rattle.std.proofs.Common.{◌≡◌, ◌≢◌, ℕ, zero, suc, ◌+◌, ◌<◌, ◌≤◌, inl, inr, Bool, List, [], ◌∷◌, length, refl, sym, ap, ◌∙◌, subst, arith, Some}
-use Rattle.std.specs.Prelude.{All, Contains, slice_index}
+use Rattle.std.proofs.Common.{◌≡◌, ◌≢◌, ℕ, zero, suc, ◌+◌, ◌<◌, ◌≤◌, inl, inr, Bool, List, [], ◌∷◌, length, refl, sym, ap, ◌∙◌, subst, arith, Option, Some, None}
+use Rattle.std.specs.Prelude.{All, Contains, slice_index, IfSome, IfNone}
 use Rattle.std.proofs.lemmas.Bool.{cases_lt}
 use Rattle.sg_grammar.specs.Grammar.{Grammar}
 use Rattle.sg_grammar.specs.WellFormed.{IsWellFormed}
@@ -12,16 +12,19 @@ use Rattle.sg_lalr.specs.declared.conflict.Deed.{Deed}
 use Rattle.sg_lalr.specs.declared.conflict.Deed.TheVariants.{Shifts, Reduces}
 use Rattle.sg_lalr.specs.declared.table.Action.TheVariants as action
 use Rattle.sg_lalr.specs.ValidItems.{Valid, start, close, step, Viable, SameCore}
-use Rattle.sg_lalr.specs.Items.{Item, HasNext, symbol_of}
-use Rattle.sg_lalr.specs.Automaton.{row_at, goto, IsWhole, state_of}
+use Rattle.sg_lalr.specs.Items.{Item, item, HasNext, symbol_of, advance}
+use Rattle.sg_lalr.specs.Automaton.{row_at, moves_at, move_at, leads_to, goto, starts_from, start_items, IsSorted, IsWhole, state_of}
 use Rattle.sg_lalr.specs.Prefixes.{TooMany}
 use Rattle.sg_lalr.specs.Lookaheads.{node_at}
 use Rattle.sg_lalr.specs.Conflict.{Acts, IsQuiet}
 use Rattle.sg_lalr.specs.Clashes.{Does}
-use Rattle.sg_lalr.specs.Tables.{viewed, IsCore, IsTables, Leads, ActsIn, IsAction, IsFull, IsMade}
+use Rattle.sg_lalr.specs.Tables.{viewed, IsCore, IsTables, Leads, ActsIn, IsAction, IsFull, IsMade, IsKept}
+use Rattle.sg_lalr.specs.Reductions.{Reduction, ReducesBy, reductions_at}
+use Rattle.sg_lalr.proofs.RisingLemmas.{advance-from}
+use Rattle.sg_lalr.proofs.PlaceLemmas.{target-none}
 use Rattle.sg_lalr.proofs.CoreLemmas.{CoreOf}
 use Rattle.sg_lalr.proofs.StateLemmas.{longer-viable, found-some, found-state, found-viable, core-of-state, state-of-viable, same-state}
-use Rattle.sg_lalr.proofs.LookLemmas.{range-below}
+use Rattle.sg_lalr.proofs.LookLemmas.{in-range, range-below}
 use Rattle.sg_lalr.proofs.ConflictLemmas.{acts-does, does-acts}
 
 valid-entry : (g : Grammar) (w : List ℕ) (p d t : ℕ) → Valid g w p d t → 0 < length g.entries
@@ -141,3 +144,80 @@ are-tables g formed kernels cores moves origins nodes firsts rows made = record 
 
 pub made-some : (g : Grammar) (kernels cores : List (List Item)) (moves : List (List Move)) (origins : List Origin) (nodes : List Node) (firsts : List ℕ) (rows : List (List Bool)) → IsMade g kernels cores moves origins nodes firsts rows → (s : ℕ) → s < length cores → 0 < length g.entries
 made-some g kernels cores moves origins nodes firsts rows made s l = elim (cases_lt 0 (length g.entries)) [ inl entry ↦ entry | inr none ↦ (let e = ap length (made.none (omega (arith, none))) in omega (arith, l, e)) ]
+
+first-item : (p n : ℕ) → 0 < n → Contains (starts_from p n) (item p 0)
+first-item p zero l = absurd (omega (arith, l))
+first-item p (suc n) l = (0, omega arith, refl)
+
+-- what the tables of a grammar keep
+module _ (g : Grammar) (formed : IsWellFormed g) (cores : List (List Item)) (moves : List (List Move)) (reductions : List (List Reduction)) (kept : IsKept g cores moves reductions) (s : ℕ) (low : s < length cores) where
+  entry : 0 < length g.entries
+  entry = made-some g kept.kernels cores moves kept.origins kept.nodes kept.firsts kept.rows kept.made s low
+
+  full : IsFull g kept.kernels cores moves kept.origins kept.nodes kept.firsts kept.rows
+  full = (kept.made).full entry
+
+  pub moves-there : s < length moves
+  moves-there = let w = full.whole in let m = w.moved in let c = w.cored in omega (arith, low, m, c)
+
+  pub kept-sorted : IsSorted (moves_at moves s)
+  kept-sorted = ((full.whole).part).sorted s moves-there
+
+  pub kept-next : (k X : ℕ) → k < length (moves_at moves s) → (move_at (moves_at moves s) k).symbol ≡ X → HasNext g (row_at cores s) X
+  kept-next k X l is = subst (HasNext g (row_at cores s)) is (((full.whole).part).only s moves-there k (record { symbol = 0; target = 0 }) l)
+
+  pub kept-leads : (X : ℕ) → HasNext g (row_at cores s) X → Leads (viewed g cores) s X (goto moves s X)
+  kept-leads X h = leads-to g formed (kept.made).productive entry kept.kernels cores moves kept.origins full.whole s X low h
+
+  -- what has an item before it has a move
+  pub kept-moves : (X : ℕ) → HasNext g (row_at cores s) X → ((k : ℕ) → k < length (moves_at moves s) → (move_at (moves_at moves s) k).symbol ≡ X → ⊥) → ⊥
+  kept-moves X h none =
+      let part = (full.whole).part in
+      let b = (part.leads s X moves-there h).1 in
+      let zeroth : goto moves s X ≡ 0 = target-none (moves_at moves s) X none in
+      let same : start_items g ≡ advance g X (row_at cores s) = sym part.first ∙ ap (row_at kept.kernels) (sym zeroth) ∙ b in
+      let f = advance-from g X (row_at cores s) (item (length g.rules) 0) (subst (λ l. Contains l (item (length g.rules) 0)) same (first-item (length g.rules) (length g.entries) entry)) in
+      let dots = ap (λ (i : Item). i.dot) f.3 in
+      omega (arith, dots)
+
+  pub kept-shift : (t : ℕ) → HasNext g (row_at cores s) t → IsAction (viewed g cores) s t (action.Shift (goto moves s t))
+  kept-shift t h =
+      let n = (full.laid).has s h.0 low h.1 in
+      let r = in-range cores kept.nodes kept.firsts full.laid s n.0 low n.1 (ap (λ (z : Node). z.state) n.2) in
+      shifts-to g formed (kept.made).productive entry kept.kernels cores moves kept.origins kept.nodes kept.firsts kept.rows full s t n.0 low r.0 r.1 (ap (λ (z : Node). symbol_of g z.item) n.2 ∙ h.2)
+
+  pub kept-acts : (p t : ℕ) → ReducesBy (reductions_at reductions s) p t → ActsIn (viewed g cores) s t (Reduces p)
+  kept-acts p t h =
+      let d = (kept.reduces s p t low).0 h in
+      acts-in-state g formed (kept.made).productive entry kept.kernels cores moves kept.origins kept.nodes kept.firsts kept.rows full s t d.0 (Reduces p) low d.1 d.2 d.3
+
+  kept-idle : (t : ℕ) → ((p : ℕ) → ReducesBy (reductions_at reductions s) p t → ⊥) → ((k : ℕ) → k < length (moves_at moves s) → (move_at (moves_at moves s) k).symbol ≡ t → ⊥) → (k : ℕ) (a : Deed) → slice_index kept.firsts s ≤ k → k < slice_index kept.firsts (suc s) → Does g kept.nodes kept.rows t k a → ⊥
+  kept-idle t quiet still k Shifts l h d =
+      let here = (full.laid).here s k low l h in
+      let c = (full.laid).contained k (range-below cores kept.nodes kept.firsts full.laid s k low h) in
+      kept-moves t ((node_at kept.nodes k).item, subst (λ z. Contains (row_at cores z) (node_at kept.nodes k).item) here c, d) still
+  kept-idle t quiet still k (Reduces p) l h d = quiet p ((kept.reduces s p t low).1 (k, l, h, d))
+
+  pub kept-stop : (t : ℕ) → ((p : ℕ) → ReducesBy (reductions_at reductions s) p t → ⊥) → ((k : ℕ) → k < length (moves_at moves s) → (move_at (moves_at moves s) k).symbol ≡ t → ⊥) → IsAction (viewed g cores) s t action.Stop
+  kept-stop t quiet still = stops g formed (kept.made).productive entry kept.kernels cores moves kept.origins kept.nodes kept.firsts kept.rows full s t low (kept-idle t quiet still)
+
+  -- what a search among the moves found
+  abbrev pub MovedOn : List Move → ℕ → ℕ → Type 0
+  MovedOn row X u = (k : ℕ) × (k < length row) × ((move_at row k).symbol ≡ X) × (u ≡ leads_to row X)
+
+  pub kept-after : (X : ℕ) (o : Option ℕ) (row : List Move) → row ≡ moves_at moves s → IfSome o (MovedOn row X) → IfSome o (λ u. HasNext g (row_at cores s) X × Leads (viewed g cores) s X u)
+  kept-after X (Some u) row is h =
+      let m = subst (λ r. MovedOn r X u) is h in
+      let has = kept-next m.0 X m.1 m.2 in
+      (has, subst (Leads (viewed g cores) s X) (sym m.3) (kept-leads X has))
+  kept-after X None row is h = h
+
+  pub kept-none : (X : ℕ) (o : Option ℕ) (row : List Move) → row ≡ moves_at moves s → IfNone o ((k : ℕ) → k < length row → (move_at row k).symbol ≡ X → ⊥) → IfNone o (HasNext g (row_at cores s) X → ⊥)
+  kept-none X (Some u) row is h = h
+  kept-none X None row is h = λ has. kept-moves X has (subst (λ r. (k : ℕ) → k < length r → (move_at r k).symbol ≡ X → ⊥) is h)
+
+  -- the state to which a search among the moves leads is shifted to
+  pub kept-shifts : (t u : ℕ) (row : List Move) → row ≡ moves_at moves s → MovedOn row t u → IsAction (viewed g cores) s t (action.Shift u)
+  kept-shifts t u row is h =
+      let m = subst (λ r. MovedOn r t u) is h in
+      subst (λ v. IsAction (viewed g cores) s t (action.Shift v)) (sym m.3) (kept-shift t (kept-next m.0 t m.1 m.2))

@@ -1,5 +1,5 @@
 -- The automaton, and how much of it was found so far.
-use Rattle.std.specs.Prelude.{◌≡◌, ◌≢◌, ℕ, zero, suc, ◌<◌, ◌≤◌, ◌⊎◌, if◌then◌else◌, nat_eq, List, [], ◌∷◌, ◌++◌, length, slice_index_or, AllPairs, Contains}
+use Rattle.std.specs.Prelude.{◌≡◌, ◌≢◌, ℕ, zero, suc, ◌<◌, ◌≤◌, ◌⊎◌, if◌then◌else◌, nat_eq, List, [], ◌∷◌, ◌++◌, length, slice_index_or, All, AllPairs, Contains}
 use Rattle.sg_grammar.specs.Grammar.{Grammar}
 use Rattle.sg_lalr.specs.declared.states.Move.{Move}
 use Rattle.sg_lalr.specs.declared.states.Origin.{Origin}
@@ -82,6 +82,7 @@ pub record IsPart (g : Grammar) (kernels cores : List (List Item)) (moves : List
   pub earliest : (s X k : ℕ) → s < length moves → HasNext g (row_at cores s) X → goto moves s X ≡ suc k
       → NotLater (origin_at origins k) (origin s X)
   pub sorted : (s : ℕ) → s < length moves → IsSorted (moves_at moves s)
+  pub only : (s : ℕ) → s < length moves → All (λ (m : Move). HasNext g (row_at cores s) m.symbol) (moves_at moves s)
 
 -- the kernels with one more
 abbrev pub Entered : List (List Item) → List (List Item) → List Origin → List Origin → List Item → Origin → ℕ → Type 0

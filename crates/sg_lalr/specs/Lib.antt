@@ -8,5 +8,7 @@ pub mod Least
 pub mod Lefts
 pub mod Lookaheads
 pub mod Prefixes
+pub mod Reductions
+pub mod Slots
 pub mod Tables
 pub mod ValidItems

@@ -37,6 +37,7 @@ IsPlaced cores nodes firsts m =
 -- the nodes are the items of all cores, those of state s between the s-th place and the next
 pub record IsLaid (cores : List (List Item)) (nodes : List Node) (firsts : List ℕ) : Type 0 where
   pub count : length firsts ≡ suc (length cores)
+  pub start : slice_index firsts 0 ≡ 0
   pub end : slice_index firsts (length cores) ≡ length nodes
   pub within : (s : ℕ) → s ≤ length cores → slice_index firsts s ≤ length nodes
   pub rising : (s : ℕ) → s < length cores → slice_index firsts s ≤ slice_index firsts (suc s)

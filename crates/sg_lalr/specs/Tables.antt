@@ -1,6 +1,6 @@
 -- The tables of a grammar as contracts see them: the grammar, and the cores of its viable prefixes. A state is a
 -- place among them.
-use Rattle.std.specs.Prelude.{◌≡◌, ◌≢◌, ◌↔◌, ⊤, ℕ, ◌<◌, ◌≤◌, Bool, List, [], ◌∷◌, length, reverse, Contains}
+use Rattle.std.specs.Prelude.{◌≡◌, ◌≢◌, ◌↔◌, ⊤, ℕ, ◌<◌, ◌≤◌, Bool, List, [], ◌∷◌, length, reverse, slice_index, suc, Contains}
 use Rattle.sg_grammar.specs.Grammar.{Grammar}
 use Rattle.sg_grammar.specs.WellFormed.{IsWellFormed}
 use Rattle.sg_grammar.specs.Derives.{AllProductive, IsFirstUnproductive}
@@ -19,6 +19,7 @@ use Rattle.sg_lalr.specs.Prefixes.{TooMany}
 use Rattle.sg_lalr.specs.Conflict.{Acts, LeastConflict, IsQuiet}
 use Rattle.sg_lalr.specs.Automaton.{row_at, IsWhole}
 use Rattle.sg_lalr.specs.Lookaheads.{IsLaid, AreLookaheads}
+use Rattle.sg_lalr.specs.Reductions.{Reduction, ReducesBy, DoesReduce, reductions_at}
 
 pub record View : Type 0 where
   pub grammar : Grammar
@@ -83,9 +84,22 @@ pub record IsFull (g : Grammar) (kernels cores : List (List Item)) (moves : List
   pub exact : AreLookaheads g moves nodes rows
   pub quiet : IsQuiet g
 
--- what tables keep
+-- what tables are made of
 pub record IsMade (g : Grammar) (kernels cores : List (List Item)) (moves : List (List Move)) (origins : List Origin)
     (nodes : List Node) (firsts : List ℕ) (rows : List (List Bool)) : Type 0 where
   pub productive : AllProductive g
   pub none : length g.entries ≡ 0 → cores ≡ []
   pub full : 0 < length g.entries → IsFull g kernels cores moves origins nodes firsts rows
+
+-- what tables keep: the moves and the reductions of states that were made
+pub record IsKept (g : Grammar) (cores : List (List Item)) (moves : List (List Move))
+    (reductions : List (List Reduction)) : Type 0 where
+  pub kernels : List (List Item)
+  pub origins : List Origin
+  pub nodes : List Node
+  pub firsts : List ℕ
+  pub rows : List (List Bool)
+  pub made : IsMade g kernels cores moves origins nodes firsts rows
+  pub count : length reductions ≡ length cores
+  pub reduces : (s p t : ℕ) → s < length cores → ReducesBy (reductions_at reductions s) p t
+      ↔ DoesReduce g nodes rows (slice_index firsts s) (slice_index firsts (suc s)) p t

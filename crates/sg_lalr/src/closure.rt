@@ -6,8 +6,9 @@ ghost use Rattle.sg_lalr.specs.Items.{Item, IsRising};
 ghost use Rattle.sg_lalr.specs.Closure.{HasLeft, LeadsTo, Corner, Opens, OpensAt, InRange, IsOpened, IsKernel, IsClosure};
 
 use crate::items::Item;
+use crate::moves::symbol_of;
 use sg_grammar::{Grammar, Production};
-use sg_sets::{BitSet, Relation};
+use sg_sets::{BitSet, Relation, Rows};
 use std::alloc::{AllocError, Global};
 
 /// Relates a production to those of a left side.
@@ -46,7 +47,7 @@ fn lead(relation: &mut Relation, rules: &[Production], a: usize)
 }
 
 /// The left corners of the productions.
-pub(crate) fn corners(alloc: Global, rules: &[Production]) -> Result<Relation, AllocError>
+fn corners(alloc: Global, rules: &[Production]) -> Result<Relation, AllocError>
     ensures size { IfOk result (λ r. length r ≡ length rules.now) }
     ensures exact { IfOk result (λ r. (x y : ℕ) → Holds r x y ↔ Corner rules.now x y) }
 {
@@ -58,34 +59,36 @@ pub(crate) fn corners(alloc: Global, rules: &[Production]) -> Result<Relation, A
     Ok(relation)
 }
 
-/// Puts the productions that begin because of a symbol behind a dot into the set.
-fn open(rules: &[Production], corners: &Relation, x: u32, set: &mut BitSet)
-    requires size { length corners.now ≡ length rules.now }
-    requires width { length set.old ≡ length rules.now }
-    requires exact { (x y : ℕ) → Holds corners.now x y ↔ Corner rules.now x y }
-    ensures width { length set.new ≡ length set.old }
-    ensures gains { (q : ℕ) → Has set.new q ↔ (Has set.old q ⊎ Opens rules.now x q) }
+/// For each symbol the productions that begin because of it behind a dot.
+pub(crate) fn openings(alloc: Global, g: &Grammar) -> Result<Rows, AllocError>
+    ensures count { IfOk result (λ r. length r.rows ≡ g.now.symbols) }
+    ensures width { IfOk result (λ r. r.width ≡ length g.now.rules) }
+    ensures exact { IfOk result (λ r. (x q : ℕ) → Holds r.rows x q ↔ Opens g.now.rules x q) }
 {
+    g.sound();
+    let rules = g.rules();
+    let corners = corners(alloc, rules)?;
+    let mut opens = Rows::new(alloc, g.symbols() as usize, rules.len())?;
     for (a, rule) in rules.iter().enumerate() {
-        if rule.left == x {
-            set.union(corners.successors(a));
-        }
+        opens.union_row(rule.left as usize, corners.successors(a));
     }
+    Ok(opens)
 }
 
 /// Puts the productions that begin because of the items of a kernel into the set.
-fn open_all(g: &Grammar, corners: &Relation, kernel: &[Item], set: &mut BitSet)
-    requires size { length corners.now ≡ length g.now.rules }
-    requires width { length set.old ≡ length g.now.rules }
-    requires exact { (x y : ℕ) → Holds corners.now x y ↔ Corner g.now.rules x y }
+fn open_all(g: &Grammar, opens: &Rows, kernel: &[Item], set: &mut BitSet)
+    requires count { length opens.now.rows ≡ g.now.symbols }
+    requires width { opens.now.width ≡ length g.now.rules }
+    requires set { length set.old ≡ length g.now.rules }
+    requires exact { (x q : ℕ) → Holds opens.now.rows x q ↔ Opens g.now.rules x q }
     requires within { All (InRange g.now) kernel.now }
     ensures width { length set.new ≡ length set.old }
     ensures gains { (q : ℕ) → Has set.new q ↔ (Has set.old q
         ⊎ ((i : Item) × Contains kernel.now i × OpensAt g.now i q)) }
 {
     for item in kernel {
-        if let Some(x) = g.symbol_at(item.production, item.dot) {
-            open(g.rules(), corners, x, set);
+        if let Some(x) = symbol_of(g, *item) {
+            set.union(opens.row(x as usize));
         }
     }
 }
@@ -125,17 +128,18 @@ fn merge(
 pub(crate) fn closure(
     alloc: Global,
     g: &Grammar,
-    corners: &Relation,
+    opens: &Rows,
     kernel: &[Item],
 ) -> Result<Vec<Item>, AllocError>
-    requires size { length corners.now ≡ length g.now.rules }
-    requires exact { (x y : ℕ) → Holds corners.now x y ↔ Corner g.now.rules x y }
+    requires count { length opens.now.rows ≡ g.now.symbols }
+    requires width { opens.now.width ≡ length g.now.rules }
+    requires exact { (x q : ℕ) → Holds opens.now.rows x q ↔ Opens g.now.rules x q }
     requires kernel { IsKernel g.now kernel.now }
     ensures { IfOk result (λ v. IsClosure g.now kernel.now v.items) }
 {
     g.sound();
     let mut opened = BitSet::new(alloc, g.rules().len())?;
-    open_all(g, corners, kernel, &mut opened);
+    open_all(g, opens, kernel, &mut opened);
     let items = merge(alloc, g.rules().len() as u32, &opened, kernel)?;
     Ok(items)
 }

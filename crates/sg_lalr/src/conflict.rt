@@ -9,8 +9,9 @@ ghost use Rattle.sg_lalr.specs.Clashes.{Does, Clashes, IsApart, ShiftsThere};
 use crate::items::Item;
 use crate::lookaheads::Node;
 use crate::moves::symbol_of;
+use crate::node_rows::NodeRows;
 use sg_grammar::Grammar;
-use sg_sets::{BitSet, Rows};
+use sg_sets::BitSet;
 
 /// What an item does on a terminal: it shifts it, or reduces by a production.
 #[derive(Clone, Copy, Debug, PartialEq, Eq)]
@@ -20,7 +21,7 @@ pub enum Deed {
 }
 
 /// What a node does on a terminal.
-fn deed_of(g: &Grammar, nodes: &[Node], rows: &Rows, m: usize, t: u32) -> Option<Deed>
+fn deed_of(g: &Grammar, nodes: &[Node], rows: &NodeRows, m: usize, t: u32) -> Option<Deed>
     requires there { m < length nodes.now }
     requires range { InRange g.now (node_at nodes.now m).item }
     ensures some { IfSome result (Does g.now nodes.now rows.now.rows t m) }
@@ -81,7 +82,7 @@ fn lesser(best: usize, found: Option<usize>) -> usize
 pub(crate) fn least_clash(
     g: &Grammar,
     nodes: &[Node],
-    rows: &Rows,
+    rows: &NodeRows,
     from: usize,
     to: usize,
     taken: &mut BitSet,
@@ -124,7 +125,7 @@ fn differs(deed: Deed, but: Option<Deed>) -> bool
 fn other_deed(
     g: &Grammar,
     nodes: &[Node],
-    rows: &Rows,
+    rows: &NodeRows,
     m: usize,
     t: u32,
     but: Option<Deed>,
@@ -145,7 +146,7 @@ fn other_deed(
 pub(crate) fn first_but(
     g: &Grammar,
     nodes: &[Node],
-    rows: &Rows,
+    rows: &NodeRows,
     from: usize,
     to: usize,
     t: u32,

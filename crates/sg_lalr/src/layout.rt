@@ -36,5 +36,6 @@ pub(crate) fn lay(alloc: Global, cores: &[Row<Item>]) -> Result<Layout, AllocErr
         push_core(&mut nodes, state as u32, core.as_slice())?;
         firsts.push(nodes.len())?;
     }
+    nodes.shrink_to_fit();
     Ok(Layout { nodes, firsts })
 }

@@ -1,16 +1,17 @@
 //! The lookaheads of the items of all states.
-ghost use Rattle.std.specs.Prelude.{◌≡◌, ℕ, suc, ◌+◌, ◌<◌, ◌≤◌, ◌↔◌, ◌⊎◌, List, Some, length, map, slice_index, All, IfOk, OnOk, IsTrue};
+ghost use Rattle.std.specs.Prelude.{◌≡◌, ℕ, suc, ◌+◌, ◌<◌, ◌≤◌, ◌↔◌, ◌⊎◌, List, Some, length, map, slice_index, All, IfOk, IfSome, IfNone, OnOk, IsTrue};
 ghost use Rattle.sg_sets.specs.Members.{Has};
 ghost use Rattle.sg_sets.specs.Paths.{Linked};
 ghost use Rattle.sg_sets.specs.Rows.{Holds, SameShape};
-ghost use Rattle.sg_lalr.specs.Closure.{InRange};
+ghost use Rattle.sg_lalr.specs.Closure.{InRange, HasLeft};
 ghost use Rattle.sg_lalr.specs.Items.{Item, item, Before, symbol_of};
 ghost use Rattle.sg_grammar.specs.Derives.{AllProductive};
 ghost use Rattle.sg_lalr.specs.Automaton.{moves_at, goto, IsSorted, IsWhole};
 ghost use Rattle.sg_lalr.specs.Least.{Grown};
 ghost use Rattle.sg_lalr.specs.Lefts.{AreLefts};
 ghost use Rattle.sg_lalr.specs.Firsts.{First, IsNullable};
-ghost use Rattle.sg_lalr.specs.Lookaheads.{node_at, rest_of, BeginsWith, IsStart, IsLaid, OpensTo, FlowsTo, Gives, AreLookaheads};
+ghost use Rattle.sg_lalr.specs.Lookaheads.{node, node_at, rest_of, BeginsWith, IsStart, IsLaid, OpensTo, FlowsTo, Gives, AreLookaheads};
+ghost use Rattle.sg_lalr.specs.Slots.{AreSlots, IsOneEach, OfSome, Joined, Gained};
 
 use crate::firsts::{first_of, firsts};
 use crate::items::Item;
@@ -18,7 +19,9 @@ use crate::layout::{Layout, lay};
 use crate::least_set::{has_all, least_set};
 use crate::lefts::{lefts, of_symbol};
 use crate::moves::symbol_of;
+use crate::node_rows::NodeRows;
 use crate::places::{leads_to, place_of};
+use crate::slots::all_slots;
 use crate::states::{Automaton, Move};
 use sg_grammar::Grammar;
 use sg_kinds::row::Row;
@@ -63,9 +66,10 @@ fn is_start(g: &Grammar, node: Node) -> bool
     node.state == 0 && node.item.dot == 0 && g.rules().len() <= node.item.production as usize
 }
 
-/// Links a node to that of an item between two places, where the items rise.
+/// Links the row of a node to that of the node of an item between two places, where the items rise.
 fn link_item(
     nodes: &[Node],
+    slots: &[usize],
     from: usize,
     to: usize,
     a: usize,
@@ -74,90 +78,48 @@ fn link_item(
 ) -> Result<(), AllocError>
     requires order { from ≤ to }
     requires to { to ≤ length nodes.now }
+    requires slots { length slots.now ≡ length nodes.now }
+    requires there { a < length nodes.now }
     requires rising { (m n : ℕ) → from ≤ m → m < n → n < to
         → Before (node_at nodes.now m).item (node_at nodes.now n).item }
-    ensures { OnOk result ((x y : ℕ) → Linked links.new.items x y
-        ↔ (Linked links.old.items x y ⊎ ((x ≡ a) × (from ≤ y) × (y < to) × ((node_at nodes.now y).item ≡ item)))) }
+    ensures { OnOk result (Joined links.old.items links.new.items slots.now a
+        (λ c. (from ≤ c) × (c < to) × ((node_at nodes.now c).item ≡ item))) }
 {
     let b = place_of(nodes, from, to, item);
     if b < to && nodes[b].item == item {
-        links.push((a, b))?;
+        links.push((slots[a], slots[b]))?;
     }
     Ok(())
 }
 
-/// Links a node to those between two places that begin a production of a symbol.
-fn link_begun(
+/// The row of the nodes between two places that begin productions of a symbol, where all its productions begin there.
+fn begun_slot(
     g: &Grammar,
     nodes: &[Node],
-    from: usize,
-    to: usize,
-    a: usize,
-    x: u32,
-    lefts: &[Vec<u32>],
-    links: &mut Vec<(usize, usize)>,
-) -> Result<(), AllocError>
-    requires order { from ≤ to }
-    requires to { to ≤ length nodes.now }
-    requires rising { (m n : ℕ) → from ≤ m → m < n → n < to
-        → Before (node_at nodes.now m).item (node_at nodes.now n).item }
-    requires lefts { AreLefts g.now.rules (map (λ k. k.items) lefts.now) }
-    ensures { OnOk result ((x' y : ℕ) → Linked links.new.items x' y
-        ↔ (Linked links.old.items x' y ⊎ ((x' ≡ a) × (from ≤ y) × (y < to)
-        × BeginsWith g.now (node_at nodes.now y).item x))) }
-{
-    let rules = of_symbol(lefts, x);
-    for &q in rules {
-        link_item(nodes, from, to, a, beginning(q), links)?;
-    }
-    Ok(())
-}
-
-/// Gives the node of an item between two places, where the items rise, these lookaheads.
-fn seed_item(nodes: &[Node], from: usize, to: usize, item: Item, first: &BitSet, rows: &mut Rows)
-    requires order { from ≤ to }
-    requires to { to ≤ length nodes.now }
-    requires rising { (m n : ℕ) → from ≤ m → m < n → n < to
-        → Before (node_at nodes.now m).item (node_at nodes.now n).item }
-    requires count { length nodes.now ≡ length rows.old.rows }
-    requires width { length first.now ≡ rows.old.width }
-    ensures shape { SameShape rows.old rows.new }
-    ensures gains { (y u : ℕ) → Holds rows.new.rows y u
-        ↔ (Holds rows.old.rows y u ⊎ ((from ≤ y) × (y < to) × ((node_at nodes.now y).item ≡ item) × Has first.now u)) }
-{
-    let b = place_of(nodes, from, to, item);
-    if b < to && nodes[b].item == item {
-        rows.union_row(b, first);
-    }
-}
-
-/// Gives the nodes between two places that begin a production of a symbol these lookaheads.
-fn seed_begun(
-    g: &Grammar,
-    nodes: &[Node],
+    slots: &[usize],
     from: usize,
     to: usize,
     x: u32,
     lefts: &[Vec<u32>],
-    first: &BitSet,
-    rows: &mut Rows,
-)
+) -> Option<usize>
     requires order { from ≤ to }
     requires to { to ≤ length nodes.now }
+    requires slots { length slots.now ≡ length nodes.now }
     requires rising { (m n : ℕ) → from ≤ m → m < n → n < to
         → Before (node_at nodes.now m).item (node_at nodes.now n).item }
     requires lefts { AreLefts g.now.rules (map (λ k. k.items) lefts.now) }
-    requires count { length nodes.now ≡ length rows.old.rows }
-    requires width { length first.now ≡ rows.old.width }
-    ensures shape { SameShape rows.old rows.new }
-    ensures gains { (y u : ℕ) → Holds rows.new.rows y u
-        ↔ (Holds rows.old.rows y u ⊎ ((from ≤ y) × (y < to) × BeginsWith g.now (node_at nodes.now y).item x
-        × Has first.now u)) }
+    requires begun { (q : ℕ) → HasLeft g.now.rules x q
+        → (c : ℕ) × (from ≤ c) × (c < to) × ((node_at nodes.now c).item ≡ item q 0) }
+    requires one { IsOneEach g.now nodes.now from to slots.now }
+    ensures some { IfSome result (λ s. (y : ℕ)
+        → OfSome slots.now (λ c. (from ≤ c) × (c < to) × BeginsWith g.now (node_at nodes.now c).item x) y ↔ (y ≡ s)) }
+    ensures none { IfNone result ((c : ℕ) → BeginsWith g.now (node_at nodes.now c).item x → ⊥) }
 {
-    let rules = of_symbol(lefts, x);
-    for &q in rules {
-        seed_item(nodes, from, to, beginning(q), first, rows);
-    }
+    let Some(q) = of_symbol(lefts, x).first() else {
+        return None;
+    };
+    let b = place_of(nodes, from, to, beginning(*q));
+    if b < to { Some(slots[b]) } else { None }
 }
 
 /// Which symbols derive no tokens, the terminals with which each symbol begins, and its productions.
@@ -168,7 +130,7 @@ struct Beginnings {
     lefts: Vec<Vec<u32>>,
 }
 
-/// The lookaheads of the items so far, and the links along which they flow.
+/// The lookaheads of the rows so far, and the links along which they flow.
 #[derive(Drop)]
 struct Flow {
     rows: Rows,
@@ -179,7 +141,7 @@ struct Flow {
 #[derive(Drop)]
 pub(crate) struct Lookaheads {
     pub(crate) layout: Layout,
-    pub(crate) rows: Rows,
+    pub(crate) rows: NodeRows,
 }
 
 /// Gives the beginnings of the productions of a node's symbol their lookaheads.
@@ -188,6 +150,7 @@ fn open_node(
     g: &Grammar,
     begins: &Beginnings,
     layout: &Layout,
+    slots: &[usize],
     a: usize,
     x: u32,
     flow: &mut Flow,
@@ -200,53 +163,41 @@ fn open_node(
     requires count { length begins.now.firsts.rows ≡ g.now.symbols }
     requires width { begins.now.firsts.width ≡ flow.old.rows.width }
     requires firsts { (X u : ℕ) → Holds begins.now.firsts.rows X u ↔ ((X < g.now.symbols) × First g.now X u) }
-    requires rows { length flow.old.rows.rows ≡ length layout.now.nodes.items }
+    requires slots { AreSlots g.now layout.now.nodes.items (length layout.now.nodes.items) slots.now (length flow.old.rows.rows) }
+    requires one { IsOneEach g.now layout.now.nodes.items
+        (slice_index layout.now.firsts.items (node_at layout.now.nodes.items a).state)
+        (slice_index layout.now.firsts.items (suc (node_at layout.now.nodes.items a).state)) slots.now }
+    requires begun { (q : ℕ) → HasLeft g.now.rules x q → (c : ℕ) × (c < length layout.now.nodes.items)
+        × (node_at layout.now.nodes.items c ≡ node (node_at layout.now.nodes.items a).state (item q 0)) }
     requires lefts { AreLefts g.now.rules (map (λ k. k.items) begins.now.lefts.items) }
     requires rising { (s m n : ℕ) → suc s < length layout.now.firsts.items → slice_index layout.now.firsts.items s ≤ m
         → m < n → n < slice_index layout.now.firsts.items (suc s)
         → Before (node_at layout.now.nodes.items m).item (node_at layout.now.nodes.items n).item }
     ensures shape { OnOk result (SameShape flow.old.rows flow.new.rows) }
-    ensures links { OnOk result ((b c : ℕ) → Linked flow.new.links.items b c
-        ↔ (Linked flow.old.links.items b c ⊎ ((b ≡ a) × (c < length layout.now.nodes.items)
-        × (OpensTo g.now layout.now.nodes.items a c × Grown g.now.rules 0
-        (rest_of g.now (node_at layout.now.nodes.items a).item))))) }
-    ensures seeds { OnOk result ((c u : ℕ) → Holds flow.new.rows.rows c u
-        ↔ (Holds flow.old.rows.rows c u ⊎ ((c < length layout.now.nodes.items)
-        × Gives g.now layout.now.nodes.items a c u))) }
+    ensures links { OnOk result (Joined flow.old.links.items flow.new.links.items slots.now a
+        (λ c. OpensTo g.now layout.now.nodes.items a c
+        × Grown g.now.rules 0 (rest_of g.now (node_at layout.now.nodes.items a).item))) }
+    ensures seeds { OnOk result (Gained flow.old.rows.rows flow.new.rows.rows slots.now
+        (Gives g.now layout.now.nodes.items a)) }
 {
     g.sound();
     let node = layout.nodes[a];
     let rest = rest_of(g, node.item);
-    let first = first_of(alloc, &begins.nullable, &begins.firsts, rest)?;
     let from = layout.firsts[node.state as usize];
     let to = layout.firsts[node.state as usize + 1];
-    seed_begun(
-        g,
-        &layout.nodes,
-        from,
-        to,
-        x,
-        &begins.lefts,
-        &first,
-        &mut flow.rows,
-    );
+    let Some(slot) = begun_slot(g, &layout.nodes, slots, from, to, x, &begins.lefts) else {
+        return Ok(());
+    };
+    let first = first_of(alloc, &begins.nullable, &begins.firsts, rest)?;
+    flow.rows.union_row(slot, &first);
     if has_all(&begins.nullable, rest) {
-        link_begun(
-            g,
-            &layout.nodes,
-            from,
-            to,
-            a,
-            x,
-            &begins.lefts,
-            &mut flow.links,
-        )?;
+        flow.links.push((slots[a], slot))?;
     }
     Ok(())
 }
 
 /// Where the moves of a state lead on a symbol.
-pub(crate) fn goto_of(moves: &[Row<Move>], state: u32, x: u32) -> u32
+fn goto_of(moves: &[Row<Move>], state: u32, x: u32) -> u32
     requires there { state < length moves.now }
     requires sorted { IsSorted (moves_at moves.now state) }
     ensures { result ≡ goto moves.now state x }
@@ -261,6 +212,7 @@ fn link_node(
     begins: &Beginnings,
     automaton: &Automaton,
     layout: &Layout,
+    slots: &[usize],
     a: usize,
     flow: &mut Flow,
 ) -> Result<(), AllocError>
@@ -272,15 +224,15 @@ fn link_node(
     requires count { length begins.now.firsts.rows ≡ g.now.symbols }
     requires width { begins.now.firsts.width ≡ flow.old.rows.width }
     requires firsts { (X u : ℕ) → Holds begins.now.firsts.rows X u ↔ ((X < g.now.symbols) × First g.now X u) }
-    requires rows { length flow.old.rows.rows ≡ length layout.now.nodes.items }
+    requires slots { AreSlots g.now layout.now.nodes.items (length layout.now.nodes.items) slots.now (length flow.old.rows.rows) }
+    requires one { (t : ℕ) → t < length automaton.now.cores.items → IsOneEach g.now layout.now.nodes.items
+        (slice_index layout.now.firsts.items t) (slice_index layout.now.firsts.items (suc t)) slots.now }
     requires lefts { AreLefts g.now.rules (map (λ k. k.items) begins.now.lefts.items) }
     ensures shape { OnOk result (SameShape flow.old.rows flow.new.rows) }
-    ensures links { OnOk result ((b c : ℕ) → Linked flow.new.links.items b c
-        ↔ (Linked flow.old.links.items b c ⊎ ((b ≡ a) × (c < length layout.now.nodes.items)
-        × FlowsTo g.now automaton.now.moves.items layout.now.nodes.items a c))) }
-    ensures seeds { OnOk result ((c u : ℕ) → Holds flow.new.rows.rows c u
-        ↔ (Holds flow.old.rows.rows c u ⊎ ((c < length layout.now.nodes.items)
-        × Gives g.now layout.now.nodes.items a c u))) }
+    ensures links { OnOk result (Joined flow.old.links.items flow.new.links.items slots.now a
+        (FlowsTo g.now automaton.now.moves.items layout.now.nodes.items a)) }
+    ensures seeds { OnOk result (Gained flow.old.rows.rows flow.new.rows.rows slots.now
+        (Gives g.now layout.now.nodes.items a)) }
 {
     g.sound();
     let node = layout.nodes[a];
@@ -294,6 +246,7 @@ fn link_node(
     };
     link_item(
         &layout.nodes,
+        slots,
         layout.firsts[to],
         layout.firsts[to + 1],
         a,
@@ -301,22 +254,22 @@ fn link_node(
         &mut flow.links,
     )?;
     if x >= g.terminals() {
-        open_node(alloc, g, begins, layout, a, x, flow)?;
+        open_node(alloc, g, begins, layout, slots, a, x, flow)?;
     }
     Ok(())
 }
 
 /// Gives the beginnings of the entries the end as lookahead.
-fn seed_starts(g: &Grammar, nodes: &[Node], rows: &mut Rows)
-    requires count { length nodes.now ≡ length rows.old.rows }
+fn seed_starts(g: &Grammar, nodes: &[Node], slots: &[usize], rows: &mut Rows)
+    requires slots { AreSlots g.now nodes.now (length nodes.now) slots.now (length rows.old.rows) }
     requires width { 0 < rows.old.width }
     ensures shape { SameShape rows.old rows.new }
-    ensures gains { (c u : ℕ) → Holds rows.new.rows c u
-        ↔ (Holds rows.old.rows c u ⊎ ((c < length nodes.now) × IsStart g.now (node_at nodes.now c) × (u ≡ 0))) }
+    ensures gains { Gained rows.old.rows rows.new.rows slots.now
+        (λ c u. IsStart g.now (node_at nodes.now c) × (u ≡ 0)) }
 {
     for (a, node) in nodes.iter().enumerate() {
         if is_start(g, *node) {
-            rows.insert(a, 0);
+            rows.insert(slots[a], 0);
         }
     }
 }
@@ -346,16 +299,22 @@ pub(crate) fn all_lookaheads(
         lefts,
     };
     let layout = lay(alloc, &automaton.cores)?;
+    let slots = all_slots(alloc, g, &automaton.cores, &layout)?;
     let count = layout.nodes.len();
     let mut flow = Flow {
-        rows: Rows::new(alloc, count, g.terminals() as usize)?,
-        links: Vec::new(alloc),
+        rows: Rows::new(alloc, slots.count, g.terminals() as usize)?,
+        links: Vec::with_capacity(alloc, count)?,
     };
-    seed_starts(g, &layout.nodes, &mut flow.rows);
+    seed_starts(g, &layout.nodes, &slots.of, &mut flow.rows);
     for a in 0..count {
-        link_node(alloc, g, &begins, automaton, &layout, a, &mut flow)?;
+        link_node(
+            alloc, g, &begins, automaton, &layout, &slots.of, a, &mut flow,
+        )?;
     }
     let Flow { mut rows, links } = flow;
     rows.flow(&links);
-    Ok(Lookaheads { layout, rows })
+    Ok(Lookaheads {
+        layout,
+        rows: NodeRows::new(slots.of, rows),
+    })
 }

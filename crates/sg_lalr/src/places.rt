@@ -1,5 +1,5 @@
 //! Places of items among nodes, and of symbols among moves, in their order.
-ghost use Rattle.std.specs.Prelude.{◌≡◌, ℕ, ◌<◌, ◌≤◌, ◌↔◌, length, IsTrue};
+ghost use Rattle.std.specs.Prelude.{◌≡◌, ℕ, ◌<◌, ◌≤◌, ◌↔◌, length, IfSome, IfNone, IsTrue};
 ghost use Rattle.sg_lalr.specs.Items.{Before};
 ghost use Rattle.sg_lalr.specs.Automaton.{move_at, leads_to, IsSorted};
 ghost use Rattle.sg_lalr.specs.Lookaheads.{node_at};
@@ -65,5 +65,20 @@ pub(crate) fn leads_to(row: &[Move], x: u32) -> u32
         row[at].target
     } else {
         0
+    }
+}
+
+/// Where a move on the symbol leads, or None where there is none.
+pub(crate) fn move_on(row: &[Move], x: u32) -> Option<u32>
+    requires { IsSorted row.now }
+    ensures some { IfSome result (λ u. (k : ℕ) × (k < length row.now) × ((move_at row.now k).symbol ≡ x)
+        × (u ≡ leads_to row.now x)) }
+    ensures none { IfNone result ((k : ℕ) → k < length row.now → (move_at row.now k).symbol ≡ x → ⊥) }
+{
+    let at = place_of_move(row, x);
+    if at < row.len() && row[at].symbol == x {
+        Some(row[at].target)
+    } else {
+        None
     }
 }

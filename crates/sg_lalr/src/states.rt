@@ -2,16 +2,16 @@
 ghost use Rattle.std.specs.Prelude.{◌≡◌, ℕ, ◌<◌, ◌≤◌, ◌++◌, ◌∷◌, [], suc, ◌↔◌, length, map, Contains, IfOk, OnOk, IfSome, IfNone};
 ghost use Rattle.std.specs.Bool.{OnTrue, OnFalse};
 ghost use Rattle.sg_sets.specs.Rows.{Holds};
-ghost use Rattle.sg_lalr.specs.Closure.{Corner, IsClosure};
+ghost use Rattle.sg_lalr.specs.Closure.{Opens, IsClosure};
 ghost use Rattle.sg_lalr.specs.Automaton.{row_at, start_items, Entered, IsPart, IsWhole, Overflows};
 
-use crate::closure::{closure, corners};
+use crate::closure::{closure, openings};
 use crate::items::Item;
 use crate::spread::{next_filled, spread};
 use indexmap::IndexSet;
 use sg_grammar::Grammar;
 use sg_kinds::row::Row;
-use sg_sets::Relation;
+use sg_sets::Rows;
 use std::alloc::{AllocError, Global};
 
 /// The most states.
@@ -90,14 +90,15 @@ fn enter(
 
 impl Automaton {
     /// Finds the core and the moves of the next state, or answers false where there are too many states.
-    fn expand(&mut self, alloc: Global, g: &Grammar, corners: &Relation) -> Result<bool, AllocError>
+    fn expand(&mut self, alloc: Global, g: &Grammar, opens: &Rows) -> Result<bool, AllocError>
         requires part { IsPart g.now
             (map (λ k. k.items) self.old.kernels.keys) self.old.cores.items self.old.moves.items self.old.origins.items }
         requires moves { length self.old.moves.items ≡ length self.old.cores.items }
         requires next { length self.old.cores.items < length self.old.kernels.keys }
         requires few { length self.old.kernels.keys ≤ MOST_STATES }
-        requires size { length corners.now ≡ length g.now.rules }
-        requires exact { (x y : ℕ) → Holds corners.now x y ↔ Corner g.now.rules x y }
+        requires count { length opens.now.rows ≡ g.now.symbols }
+        requires width { opens.now.width ≡ length g.now.rules }
+        requires exact { (x q : ℕ) → Holds opens.now.rows x q ↔ Opens g.now.rules x q }
         requires entries { 0 < length g.now.entries }
         ensures part { IfOk result (λ whole. OnTrue whole
             (IsPart g.now (map
@@ -111,7 +112,7 @@ impl Automaton {
     {
         g.sound();
         let state = self.cores.len();
-        let core = self.core_of(alloc, g, corners, state)?;
+        let mut core = self.core_of(alloc, g, opens, state)?;
         let kernels = spread(alloc, g, &core)?;
         let mut row = Vec::new(alloc);
         let mut x = next_filled(g, &kernels, 0);
@@ -128,6 +129,8 @@ impl Automaton {
             row.push(Move { symbol: x, target })?;
             x = next_filled(g, &kernels, x + 1);
         }
+        core.shrink_to_fit();
+        row.shrink_to_fit();
         self.cores.push(Row::new(core))?;
         self.moves.push(Row::new(row))?;
         Ok(true)
@@ -138,19 +141,20 @@ impl Automaton {
         &self,
         alloc: Global,
         g: &Grammar,
-        corners: &Relation,
+        opens: &Rows,
         state: usize,
     ) -> Result<Vec<Item>, AllocError>
         requires part { IsPart g.now
             (map (λ k. k.items) self.now.kernels.keys) self.now.cores.items self.now.moves.items self.now.origins.items }
         requires there { state < length self.now.kernels.keys }
-        requires size { length corners.now ≡ length g.now.rules }
-        requires exact { (x y : ℕ) → Holds corners.now x y ↔ Corner g.now.rules x y }
+        requires count { length opens.now.rows ≡ g.now.symbols }
+        requires width { opens.now.width ≡ length g.now.rules }
+        requires exact { (x q : ℕ) → Holds opens.now.rows x q ↔ Opens g.now.rules x q }
         ensures { IfOk result (λ core. IsClosure g.now
             (row_at (map (λ k. k.items) self.now.kernels.keys) state) core.items) }
     {
         let kernel = self.kernels.get_index(state).unwrap();
-        let core = closure(alloc, g, corners, kernel.as_slice())?;
+        let core = closure(alloc, g, opens, kernel.as_slice())?;
         Ok(core)
     }
 }
@@ -178,7 +182,7 @@ pub(crate) fn all_states(alloc: Global, g: &Grammar) -> Result<Option<Automaton>
         (λ a. IsWhole g.now (map (λ k. k.items) a.kernels.keys) a.cores.items a.moves.items a.origins.items)) }
     ensures none { IfOk result (λ found. IfNone found (Overflows g.now)) }
 {
-    let corners = corners(alloc, g.rules())?;
+    let opens = openings(alloc, g)?;
     let mut automaton = Automaton {
         kernels: IndexSet::new(alloc),
         cores: Vec::new(alloc),
@@ -187,7 +191,7 @@ pub(crate) fn all_states(alloc: Global, g: &Grammar) -> Result<Option<Automaton>
     };
     add(&mut automaton.kernels, starts(alloc, g)?)?;
     'states: while automaton.cores.len() < automaton.kernels.len() {
-        if !automaton.expand(alloc, g, &corners)? {
+        if !automaton.expand(alloc, g, &opens)? {
             return Ok(None);
         }
     }

@@ -1,25 +1,22 @@
 //! `Tables`, what each state of a grammar does on each symbol.
-ghost use Rattle.std.specs.Prelude.{◌≡◌, ◌≢◌, ℕ, ◌<◌, ◌≤◌, length, map, reverse, slice_get, slice_index, suc, Some, IfOk, IfErr, IfSome, IfNone};
+ghost use Rattle.std.specs.Prelude.{◌≡◌, ◌≢◌, ℕ, ◌<◌, ◌≤◌, length, map, reverse, slice_get, Some, IfOk, IfErr, IfSome, IfNone};
 ghost use Rattle.sg_grammar.specs.Derives.{AllProductive};
 ghost use Rattle.sg_lalr.specs.Items.{HasNext};
 ghost use Rattle.sg_lalr.specs.Automaton.{row_at, IsWhole};
 ghost use Rattle.sg_lalr.specs.Lookaheads.{IsLaid, AreLookaheads};
 ghost use Rattle.sg_lalr.specs.Prefixes.{TooMany};
-ghost use Rattle.sg_lalr.specs.Tables.{viewed, Decided, IsTables, Leads, IsAction, IsTableFault, IsFull, IsMade};
+ghost use Rattle.sg_lalr.specs.Tables.{Decided, IsTables, Leads, IsAction, IsTableFault};
 ghost use Rattle.sg_lalr.specs.declared.table.TableFault.TheVariants as fault;
 
-use crate::conflict::{Deed, first_but};
 use crate::items::Item;
-use crate::layout::Layout;
-use crate::lookaheads::{Lookaheads, all_lookaheads, goto_of};
-use crate::moves::next_symbol;
+use crate::lookaheads::all_lookaheads;
+use crate::places::move_on;
+use crate::reductions::{Reduction, all_reductions, reduced};
 use crate::search::least_conflict;
-use crate::states::{Automaton, all_states};
-use indexmap::IndexSet;
+use crate::states::{Automaton, Move, all_states};
 use sg_grammar::{Grammar, Production};
 use sg_kinds::memory::NoMemory;
 use sg_kinds::row::Row;
-use sg_sets::Rows;
 use std::alloc::{AllocError, Global};
 use std::marker::Model;
 
@@ -56,82 +53,19 @@ pub enum Action {
 #[derive(Drop)]
 pub struct Tables {
     grammar: Grammar,
-    automaton: Automaton,
-    looks: Lookaheads,
+    cores: Vec<Row<Item>>,
+    moves: Vec<Row<Move>>,
+    reductions: Vec<Row<Reduction>>,
 }
 
 impl Model for Tables {
-    ghost use Rattle.std.specs.Prelude.{map};
-    ghost use Rattle.sg_lalr.specs.Tables.{View, viewed, IsMade};
+    ghost use Rattle.sg_lalr.specs.Tables.{View, viewed, IsKept};
 
     ghost Value = { View };
 
-    ghost view = { λ t. viewed t.grammar t.automaton.cores.items };
+    ghost view = { λ t. viewed t.grammar t.cores.items };
 
-    ghost invariant = { λ t. IsMade t.grammar
-        (map (λ k. k.items) t.automaton.kernels.keys) t.automaton.cores.items t.automaton.moves.items t.automaton.origins.items t.looks.layout.nodes.items t.looks.layout.firsts.items t.looks.rows.rows };
-}
-
-/// What a state does on a terminal, by its nodes.
-fn action_of(
-    g: &Grammar,
-    automaton: &Automaton,
-    looks: &Lookaheads,
-    state: u32,
-    terminal: u32,
-) -> Action
-    requires made { IsMade g.now
-        (map (λ k. k.items) automaton.now.kernels.keys) automaton.now.cores.items automaton.now.moves.items automaton.now.origins.items looks.now.layout.nodes.items looks.now.layout.firsts.items looks.now.rows.rows }
-    requires state { state < length automaton.now.cores.items }
-    ensures { IsAction (viewed g.now automaton.now.cores.items) state terminal result }
-{
-    g.sound();
-    let from = looks.layout.firsts[state as usize];
-    let to = looks.layout.firsts[state as usize + 1];
-    match first_but(
-        g,
-        looks.layout.nodes.as_slice(),
-        &looks.rows,
-        from,
-        to,
-        terminal,
-        None,
-    ) {
-        Some((_, Deed::Shifts)) => Action::Shift(goto_of(&automaton.moves, state, terminal)),
-        Some((_, Deed::Reduces(p))) => {
-            if (p as usize) < g.rules().len() {
-                Action::Reduce(p)
-            } else {
-                Action::Accept
-            }
-        }
-        None => Action::Stop,
-    }
-}
-
-/// The state behind a symbol in a state, or None where no item has its dot before it.
-fn after_of(
-    g: &Grammar,
-    automaton: &Automaton,
-    looks: &Lookaheads,
-    state: u32,
-    x: u32,
-) -> Option<u32>
-    requires made { IsMade g.now
-        (map (λ k. k.items) automaton.now.kernels.keys) automaton.now.cores.items automaton.now.moves.items automaton.now.origins.items looks.now.layout.nodes.items looks.now.layout.firsts.items looks.now.rows.rows }
-    requires state { state < length automaton.now.cores.items }
-    requires symbol { x < g.now.symbols }
-    ensures some { IfSome result (λ u. HasNext g.now (row_at automaton.now.cores.items state) x
-        × Leads (viewed g.now automaton.now.cores.items) state x u) }
-    ensures none { IfNone result (HasNext g.now (row_at automaton.now.cores.items state) x → ⊥) }
-{
-    g.sound();
-    let core = automaton.cores[state as usize].as_slice();
-    if next_symbol(g, core, x) == x {
-        Some(goto_of(&automaton.moves, state, x))
-    } else {
-        None
-    }
+    ghost invariant = { λ t. IsKept t.grammar t.cores.items t.moves.items t.reductions.items };
 }
 
 impl Tables {
@@ -139,7 +73,7 @@ impl Tables {
     pub fn sound(&self)
         ensures { IsTables self.now }
     {
-        let _ = &self.looks;
+        let _ = &self.reductions;
         self.grammar.sound();
     }
 
@@ -147,7 +81,7 @@ impl Tables {
     pub fn decided(&self)
         ensures { Decided self.now }
     {
-        let _ = &self.looks;
+        let _ = &self.reductions;
         self.grammar.sound();
     }
 
@@ -162,7 +96,7 @@ impl Tables {
     pub fn states(&self) -> usize
         ensures { result ≡ length self.now.cores }
     {
-        self.automaton.cores.len()
+        self.cores.len()
     }
 
     /// What a state does on a terminal.
@@ -171,7 +105,15 @@ impl Tables {
         requires terminal { terminal < self.now.grammar.terminals }
         ensures { IsAction self.now state terminal result }
     {
-        action_of(&self.grammar, &self.automaton, &self.looks, state, terminal)
+        self.grammar.sound();
+        match reduced(self.reductions[state as usize].as_slice(), terminal) {
+            Some(p) if (p as usize) < self.grammar.rules().len() => Action::Reduce(p),
+            Some(_) => Action::Accept,
+            None => match move_on(self.moves[state as usize].as_slice(), terminal) {
+                Some(u) => Action::Shift(u),
+                None => Action::Stop,
+            },
+        }
     }
 
     /// The state behind a nonterminal in a state, or None exactly where no item has its dot before it.
@@ -182,13 +124,8 @@ impl Tables {
             × Leads self.now state nonterminal u) }
         ensures none { IfNone result (HasNext self.now.grammar (row_at self.now.cores state) nonterminal → ⊥) }
     {
-        after_of(
-            &self.grammar,
-            &self.automaton,
-            &self.looks,
-            state,
-            nonterminal,
-        )
+        self.grammar.sound();
+        move_on(self.moves[state as usize].as_slice(), nonterminal)
     }
 
     /// A production by its number.
@@ -209,21 +146,11 @@ pub(crate) fn without_entry(alloc: Global, g: &Grammar) -> Result<Tables, TableF
     ensures fault { IfErr result (λ e. e ≡ fault.NoMemory) }
 {
     let grammar = g.copy(alloc)?;
-    let automaton = Automaton {
-        kernels: IndexSet::new(alloc),
-        cores: Vec::new(alloc),
-        moves: Vec::new(alloc),
-        origins: Vec::new(alloc),
-    };
-    let layout = Layout {
-        nodes: Vec::new(alloc),
-        firsts: Vec::new(alloc),
-    };
-    let rows = Rows::new(alloc, 0, 0)?;
     Ok(Tables {
         grammar,
-        automaton,
-        looks: Lookaheads { layout, rows },
+        cores: Vec::new(alloc),
+        moves: Vec::new(alloc),
+        reductions: Vec::new(alloc),
     })
 }
 
@@ -243,10 +170,13 @@ pub(crate) fn with_entry(alloc: Global, g: &Grammar) -> Result<Tables, TableFaul
     if let Some(found) = least_conflict(alloc, g, &automaton, &looks)? {
         return Err(TableFault::Conflict(found.prefix, found.terminal, found.first, found.second));
     }
+    let reductions = all_reductions(alloc, g, &automaton.cores, &looks)?;
     let grammar = g.copy(alloc)?;
+    let Automaton { cores, moves, .. } = automaton;
     Ok(Tables {
         grammar,
-        automaton,
-        looks,
+        cores,
+        moves,
+        reductions,
     })
 }

@@ -1,4 +1,4 @@
-use Rattle.std.proofs.Common.{◌≡◌, ℕ, suc, ◌+◌, ◌<◌, List, Some, sym, ap, ◌∙◌, subst, length, map, arith}
+use Rattle.std.proofs.Common.{◌≡◌, ℕ, suc, ◌+◌, ◌<◌, ◌≤◌, List, Some, sym, ap, ◌∙◌, subst, length, map, arith}
 use Rattle.std.specs.Prelude.{slice_index}
 use Rattle.std.proofs.lemmas.List.{get_or_read}
 use Rattle.sg_lalr.specs.declared.lookaheads.Node.{Node}
@@ -7,9 +7,10 @@ use Rattle.sg_lalr.specs.Items.{Item, item, Before, symbol_of, moved}
 use Rattle.sg_lalr.specs.Closure.{InRange}
 use Rattle.sg_lalr.specs.Automaton.{goto}
 use Rattle.sg_lalr.specs.Lookaheads.{node, node_at}
-use Rattle.sg_lalr.proofs.LinkLemmas.{RangedTo, ranged-as}
+use Rattle.sg_lalr.specs.Slots.{Joined}
+use Rattle.sg_lalr.proofs.LinkLemmas.{joined-as}
 use Rattle.sg_lalr.proofs.PlaceLemmas.{nodes-rise}
-use Rattle.sg_lalr.proofs.LookLemmas.{node-range, node-target, flows-open, flows-shut, gives-shut}
+use Rattle.sg_lalr.proofs.LookLemmas.{node-range, node-target, node-begun, flows-open, flows-shut, gives-shut}
 use Rattle.sg_lalr.proofs.lookaheads.link_node.Goals as goal
 
 pub symbol_of-requires : goal.symbol_of-requires
@@ -198,10 +199,16 @@ returns-in_ok-open_node-clause-links c =
     let mid = c.link_item.new.links.items in
     let it : c.index-node.result.now.item.dot + 1 ≡ suc (node_at nodes a).item.dot = (let e = ap (λ (n : Node). n.item.dot) is in omega (arith, e)) in
     let target : item c.index-node.result.now.item.production (c.index-node.result.now.item.dot + 1) ≡ moved (node_at nodes a).item = (λ i. item (is i).item.production (it i)) in
-    let ranged : RangedTo old mid a (slice_index firsts v) (slice_index firsts (suc v)) (λ y. (node_at nodes y).item ≡ moved (node_at nodes a).item) =
-    ranged-as old mid a c.index.result.now c.index-2.result.now (slice_index firsts v) (slice_index firsts (suc v)) (λ y. (node_at c.deref-2.result.now y).item ≡ item c.index-node.result.now.item.production (c.index-node.result.now.item.dot + 1)) (λ y. (node_at nodes y).item ≡ moved (node_at nodes a).item) from to
-    (λ y h. sym (ap (λ ns. (node_at ns y).item) c.deref-2.ensures.value) ∙ h ∙ target) (λ y h. ap (λ ns. (node_at ns y).item) c.deref-2.ensures.value ∙ h ∙ sym target) c.in_ok-link_item.ensures in
-    flows-open g moves cores nodes firsts laid a x there symbol low old mid c.open_node.new.flow.links.items ranged c.in_ok-open_node.ensures.links
+    let slots = c.args.slots.now in
+    let at = c.deref-2.ensures.value in
+    let joined : Joined old mid slots a (λ y. (slice_index firsts v ≤ y) × (y < slice_index firsts (suc v)) × ((node_at nodes y).item ≡ moved (node_at nodes a).item)) =
+    joined-as old mid slots a (λ y. (c.index.result.now ≤ y) × (y < c.index-2.result.now) × ((node_at c.deref-2.result.now y).item ≡ item c.index-node.result.now.item.production (c.index-node.result.now.item.dot + 1)))
+    (λ y. (slice_index firsts v ≤ y) × (y < slice_index firsts (suc v)) × ((node_at nodes y).item ≡ moved (node_at nodes a).item))
+    (λ y l. (
+      λ h. (subst (λ z. z ≤ y) from h.0, subst (λ z. y < z) to h.1, sym (ap (λ ns. (node_at ns y).item) at) ∙ h.2 ∙ target),
+      λ h. (subst (λ z. z ≤ y) (sym from) h.0, subst (λ z. y < z) (sym to) h.1, ap (λ ns. (node_at ns y).item) at ∙ h.2 ∙ sym target),
+    )) c.in_ok-link_item.ensures in
+    flows-open g moves cores nodes firsts laid a x there symbol low slots (c.requires.slots).long old mid c.open_node.new.flow.links.items joined c.in_ok-open_node.ensures.links
 
 pub returns-else-x-terminals-clause-links : goal.returns-else-x-terminals-clause-links
 returns-else-x-terminals-clause-links c =
@@ -231,10 +238,16 @@ returns-else-x-terminals-clause-links c =
     let mid = c.link_item.new.links.items in
     let it : c.index-node.result.now.item.dot + 1 ≡ suc (node_at nodes a).item.dot = (let e = ap (λ (n : Node). n.item.dot) is in omega (arith, e)) in
     let target : item c.index-node.result.now.item.production (c.index-node.result.now.item.dot + 1) ≡ moved (node_at nodes a).item = (λ i. item (is i).item.production (it i)) in
-    let ranged : RangedTo old mid a (slice_index firsts v) (slice_index firsts (suc v)) (λ y. (node_at nodes y).item ≡ moved (node_at nodes a).item) =
-    ranged-as old mid a c.index.result.now c.index-2.result.now (slice_index firsts v) (slice_index firsts (suc v)) (λ y. (node_at c.deref-2.result.now y).item ≡ item c.index-node.result.now.item.production (c.index-node.result.now.item.dot + 1)) (λ y. (node_at nodes y).item ≡ moved (node_at nodes a).item) from to
-    (λ y h. sym (ap (λ ns. (node_at ns y).item) c.deref-2.ensures.value) ∙ h ∙ target) (λ y h. ap (λ ns. (node_at ns y).item) c.deref-2.ensures.value ∙ h ∙ sym target) c.in_ok-link_item.ensures in
-    flows-shut g moves cores nodes firsts laid a x there symbol low old mid c.sound.ensures (let t = c.terminals.ensures in let f = c.if-x-terminals.false in omega (arith, t, f)) ranged
+    let slots = c.args.slots.now in
+    let at = c.deref-2.ensures.value in
+    let joined : Joined old mid slots a (λ y. (slice_index firsts v ≤ y) × (y < slice_index firsts (suc v)) × ((node_at nodes y).item ≡ moved (node_at nodes a).item)) =
+    joined-as old mid slots a (λ y. (c.index.result.now ≤ y) × (y < c.index-2.result.now) × ((node_at c.deref-2.result.now y).item ≡ item c.index-node.result.now.item.production (c.index-node.result.now.item.dot + 1)))
+    (λ y. (slice_index firsts v ≤ y) × (y < slice_index firsts (suc v)) × ((node_at nodes y).item ≡ moved (node_at nodes a).item))
+    (λ y l. (
+      λ h. (subst (λ z. z ≤ y) from h.0, subst (λ z. y < z) to h.1, sym (ap (λ ns. (node_at ns y).item) at) ∙ h.2 ∙ target),
+      λ h. (subst (λ z. z ≤ y) (sym from) h.0, subst (λ z. y < z) (sym to) h.1, ap (λ ns. (node_at ns y).item) at ∙ h.2 ∙ sym target),
+    )) c.in_ok-link_item.ensures in
+    flows-shut g moves cores nodes firsts laid a x there symbol low slots (c.requires.slots).long old mid c.sound.ensures (let t = c.terminals.ensures in let f = c.if-x-terminals.false in omega (arith, t, f)) joined
 
 pub returns-else-x-terminals-clause-seeds : goal.returns-else-x-terminals-clause-seeds
 returns-else-x-terminals-clause-seeds c =
@@ -257,7 +270,7 @@ returns-else-x-terminals-clause-seeds c =
     let v-is : c.goto_of-to.result ≡ v = c.goto_of-to.ensures ∙ ap (λ ms. goto ms c.index-node.result.now.state x) c.deref.ensures.value ∙ ap (λ (n : Node). goto moves n.state x) is in
     let count = laid.count in
     let long = c.args.layout.now.firsts.ok.0 in
-    gives-shut g moves cores nodes firsts laid a x there symbol low c.args.flow.now.rows.rows c.sound.ensures (let t = c.terminals.ensures in let f = c.if-x-terminals.false in omega (arith, t, f))
+    gives-shut g moves cores nodes firsts laid a x there symbol low c.args.slots.now c.args.flow.now.rows.rows c.sound.ensures (let t = c.terminals.ensures in let f = c.if-x-terminals.false in omega (arith, t, f))
 
 pub open_node-requires-clause-rising : goal.open_node-requires-clause-rising
 open_node-requires-clause-rising c =
@@ -269,3 +282,23 @@ open_node-requires-clause-rising c =
     let laid = c.requires.laid in
     let count = laid.count in
     λ s m n low. nodes-rise c.args.g.now kernels cores moves c.args.automaton.now.origins.items c.requires.whole nodes firsts laid s m n (omega (arith, low, count))
+
+pub open_node-requires-clause-begun : goal.open_node-requires-clause-begun
+open_node-requires-clause-begun c =
+    let g = c.args.g.now in
+    let nodes : List Node = c.args.layout.now.nodes.items in
+    let kernels = map (λ k. k.items) c.args.automaton.now.kernels.keys in
+    let a = c.args.a in
+    let is : c.index-node.result.now ≡ node_at nodes a = get_or_read nodes a c.index-node.result.now c.requires.there c.index-node.ensures (node 0 (item 0 0)) in
+    let symbol : symbol_of g (node_at nodes a).item ≡ Some c.in-Some.x = ap (λ (n : Node). symbol_of g n.item) (sym is) ∙ (sym c.symbol_of.ensures.symbol ∙ c.in-Some.is) in
+    node-begun g kernels c.args.automaton.now.cores.items c.args.automaton.now.moves.items c.args.automaton.now.origins.items c.requires.whole nodes c.args.layout.now.firsts.items c.requires.laid a c.in-Some.x c.requires.there symbol
+
+pub open_node-requires-clause-one : goal.open_node-requires-clause-one
+open_node-requires-clause-one c =
+    c.requires.one (node_at c.args.layout.now.nodes.items c.args.a).state ((c.requires.laid).known c.args.a c.requires.there)
+
+pub link_item-requires-clause-slots : goal.link_item-requires-clause-slots
+link_item-requires-clause-slots c = (c.requires.slots).long ∙ sym (ap length c.deref-2.ensures.value)
+
+pub link_item-requires-clause-there : goal.link_item-requires-clause-there
+link_item-requires-clause-there c = subst (λ (ns : List Node). c.args.a < length ns) (sym c.deref-2.ensures.value) c.requires.there

@@ -82,8 +82,8 @@ returns-clause-part c =
     let g = c.args.g.now in
     let inv = c.symbols.invariant in
     let core = c.in_ok-core.core.items in
-    let cores : c.push-2.new.self.items ≡ c.symbols.self.cores.items ++ core ∷ [] = c.in_ok-push-2.ensures.items ∙ ap (λ r. c.symbols.self.cores.items ++ r ∷ []) c.new.ensures in
-    let moves : c.push-3.new.self.items ≡ c.symbols.self.moves.items ++ c.symbols.row.items ∷ [] = c.in_ok-push-3.ensures.items ∙ ap (λ r. c.symbols.self.moves.items ++ r ∷ []) c.new-2.ensures in
+    let cores : c.push-2.new.self.items ≡ c.symbols.self.cores.items ++ core ∷ [] = c.in_ok-push-2.ensures.items ∙ ap (λ r. c.symbols.self.cores.items ++ r ∷ []) (c.new.ensures ∙ c.shrink_to_fit.ensures.items) in
+    let moves : c.push-3.new.self.items ≡ c.symbols.self.moves.items ++ c.symbols.row.items ∷ [] = c.in_ok-push-3.ensures.items ∙ ap (λ r. c.symbols.self.moves.items ++ r ∷ []) (c.new-2.ensures ∙ c.shrink_to_fit-2.ensures.items) in
     rw (cores, moves)
     (end-row g c.symbols.self.cores.items core c.symbols.self.moves.items c.len-state.result inv.cores (map (λ k. k.items) c.symbols.self.kernels.keys) c.symbols.self.origins.items c.symbols.row.items c.symbols.x inv.expanding inv.moves
     (λ X h. let l = next-within g c.sound.ensures core X h in omega (arith, l)))

@@ -1,4 +1,4 @@
-use Rattle.std.proofs.Common.{subst, map}
+use Rattle.std.proofs.Common.{subst}
 use Rattle.sg_lalr.specs.Tables.{Decided}
 use Rattle.sg_lalr.proofs.Searching.{are-decided}
 use Rattle.sg_lalr.proofs.table.Tables.decided.Goals as goal
@@ -6,4 +6,5 @@ use Rattle.sg_lalr.proofs.table.Tables.decided.Goals as goal
 pub returns : goal.returns
 returns c =
     let t = c.self.inside in
-    subst Decided c.self.view_is (are-decided t.grammar c.sound.ensures (map (λ k. k.items) t.automaton.kernels.keys) t.automaton.cores.items t.automaton.moves.items t.automaton.origins.items t.looks.layout.nodes.items t.looks.layout.firsts.items t.looks.rows.rows c.self.invariant)
+    let k = c.self.invariant in
+    subst Decided c.self.view_is (are-decided t.grammar c.sound.ensures k.kernels t.cores.items t.moves.items k.origins k.nodes k.firsts k.rows k.made)
