@@ -18,3 +18,4 @@ pub mod Emitting
 pub mod Defaults
 pub mod Worked
 pub mod Barring
+pub mod Failing

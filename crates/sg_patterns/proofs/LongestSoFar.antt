@@ -20,7 +20,8 @@ use Rattle.sg_patterns.specs.Programs.{flag_at, AreLaidOut}
 use Rattle.sg_patterns.specs.Marks.{begin_in, HasBegins, final_in, HasFinalsTo, IsDead}
 use Rattle.sg_patterns.specs.LongestMatch.{IsLength, Pattern}
 use Rattle.sg_patterns.proofs.Matching.{matches-within}
-use Rattle.sg_patterns.proofs.Marking.{Rest, final-rest, rest-final, shifted-rest, rest-shifted}
+use Rattle.sg_patterns.specs.Spent.{Rest, IsSpent}
+use Rattle.sg_patterns.proofs.Marking.{final-rest, rest-final, shifted-rest, rest-shifted}
 
 leaf-empty : (l : Leaf) → empty_of (leaf_pattern l) ≡ false
 leaf-empty (Byte b) = refl
@@ -182,6 +183,21 @@ module _ (p : Program) (text : Bytes) (t : Tree) (st : AreLaidOut p.nodes.items 
         later k matched true is = m.most k (leb-true (at + k) place is) matched
         later k matched false is = absurd (dead-rest p text h dead t st (suc place) (at + k) (next-complete (at + k) (grind (arith, nat_tests)) matched))
 
+    -- no match goes on, so none goes on from here
+    pub step-dead-spent : IsDead p (length p.nodes.items) h → IsSpent text t place f
+    step-dead-spent dead e less r =
+        dead-rest p text h dead t st (suc place) e (rest-shifted text (flag_at f) (flag_at g) (flag_at h) place b here t e m.finals steps (omega arith) (inl r))
+
+    -- nor where no match ends behind the byte and none goes on from there
+    pub step-spent : flag_at h (root_of t) ≡ false → IsSpent text t (suc place) h → IsSpent text t place f
+    step-spent off spent e less r =
+        let on = rest-shifted text (flag_at f) (flag_at g) (flag_at h) place b here t e m.finals steps (omega arith) (inl r) in
+        let later : suc place ≤ e = omega arith in
+        elim (eq-or-lt_of_le later) [
+          | inl same ↦ let final = rest-final text (flag_at h) t (suc place) (stands-finals p b g h finals t st) (subst (λ j. Rest text (flag_at h) t (suc place) j) (sym same) on) in let both : false ≡ true = sym off ∙ final in absurd (cc)
+          | inr beyond ↦ spent e beyond on
+        ]
+
   -- at the end of the text
   pub matched-all : (f : List Bool) (at place longest : ℕ) → Matched text t f at place longest → length text ≤ place → IsLength (Pattern (pattern_of t)) text at longest
   matched-all f at place longest m done = record {
@@ -191,3 +207,22 @@ module _ (p : Program) (text : Bytes) (t : Tree) (st : AreLaidOut p.nodes.items 
       | inr within ↦ m.most k (omega arith) matched
     ];
   }
+
+  pub all-spent : (f : List Bool) (at place longest : ℕ) → Matched text t f at place longest → length text ≤ place → IsSpent text t place f
+  all-spent f at place longest m done e less r =
+      let from = m.sound e r in
+      elim (matches-within (pattern_of t) text at e from.1) [
+        | inl same ↦ omega (arith, from.0)
+        | inr within ↦ omega arith
+      ]
+
+  -- where no match ends behind the place
+  pub matched-spent : (f : List Bool) (at place longest : ℕ) → Matched text t f at place longest → at < place → IsSpent text t place f → IsLength (Pattern (pattern_of t)) text at longest
+  matched-spent f at place longest m on spent = record {
+    found = m.found;
+    most = λ k matched. later k matched (nat_le (at + k) place) refl;
+  }
+    where
+      later : (k : ℕ) → MatchesFrom (pattern_of t) text at (at + k) → (c : Bool) → nat_le (at + k) place ≡ c → k ≤ longest
+      later k matched true is = m.most k (leb-true (at + k) place is) matched
+      later k matched false is = let beyond : place < at + k = grind (arith, nat_tests) in absurd (spent (at + k) beyond (m.complete (at + k) on (omega arith) matched))

@@ -8,17 +8,8 @@ use Rattle.sg_patterns.specs.declared.program.Leaf.{Leaf}
 use Rattle.sg_patterns.specs.declared.program.Leaf.TheVariants.{Byte, Dot, Class}
 use Rattle.sg_patterns.specs.Leaves.{passes, leaf_pattern}
 use Rattle.sg_patterns.specs.Trees.{Tree, Nothing, OneByte, Then, Either, Many, Several, Maybe, root_of, pattern_of, empty_of, HasFinals, Steps}
+use Rattle.sg_patterns.specs.Spent.{Rest}
 use Rattle.sg_patterns.proofs.Matching.{matches-go, rounds-go, empty-matches, matches-empty, and-true, and-both, or-left, or-right, or-one}
-
--- from some mark after place j the pattern can end at e
-abbrev pub Rest : Bytes → (ℕ → Bool) → Tree → ℕ → ℕ → Type 0
-Rest text f (Nothing k) j e = ⊥
-Rest text f (OneByte k l) j e = (f k ≡ true) × (e ≡ j)
-Rest text f (Then k t u) j e = ((x : ℕ) × Rest text f t j x × MatchesFrom (pattern_of u) text x e) ⊎ Rest text f u j e
-Rest text f (Either k t u) j e = Rest text f t j e ⊎ Rest text f u j e
-Rest text f (Many k t) j e = (x : ℕ) × Rest text f t j x × Rounds (MatchesFrom (pattern_of t) text) x e
-Rest text f (Several k t) j e = (x : ℕ) × Rest text f t j x × Rounds (MatchesFrom (pattern_of t) text) x e
-Rest text f (Maybe k t) j e = Rest text f t j e
 
 module _ (text : Bytes) where
   steps-go : (t : Tree) (i j : ℕ) → Rounds (MatchesFrom (pattern_of t) text) i j → i ≤ j

@@ -10,3 +10,4 @@ pub mod Kinds
 pub mod Spelling
 pub mod Machine
 pub mod Readers
+pub mod Spent

@@ -1,6 +1,7 @@
 //! Patterns of lexemes: their reading, the longest match at a place of a text, and the scanning of a whole text.
 #![tactic(auto)]
 
+mod failures;
 mod kinds;
 pub mod laws;
 mod lexemes;

@@ -4,7 +4,9 @@ ghost use Rattle.sg_kinds.specs.Lexemes as plain;
 ghost use Rattle.sg_kinds.specs.Matches.{Matches};
 ghost use Rattle.sg_patterns.specs.LongestMatch.{Terminal, Pattern, IsAnswer, len_of};
 ghost use Rattle.sg_patterns.specs.Programs.{IsProgram, ArePrograms, AreOrdered, HaveRoom};
+ghost use Rattle.sg_patterns.specs.Spent.{HaveFailures};
 
+use crate::failures::{Failures, failures_of};
 use crate::marks::{longest_from, with_barred};
 use crate::program::Program;
 use sg_kinds::lexeme::Lexeme;
@@ -58,19 +60,22 @@ pub fn longest_among(
     at: usize,
     begins: &mut [bool],
     finals: &mut [bool],
+    failures: &mut [Failures],
     number: usize,
     before: Option<(usize, usize)>,
 ) -> Option<(usize, usize)>
     requires ordered { AreOrdered programs.now }
     requires begins_room { HaveRoom programs.now (length begins.old) }
     requires finals_room { HaveRoom programs.now (length finals.old) }
+    requires known { HaveFailures programs.now text.now failures.old }
     requires few { number + length programs.now < 2 ^ 64 }
-    ensures { (ts : List Terminal) (ps : List plain.Lexeme) → length ts ≡ number → ArePrograms programs.now ps
+    ensures known { HaveFailures programs.now text.now failures.new }
+    ensures longest { (ts : List Terminal) (ps : List plain.Lexeme) → length ts ≡ number → ArePrograms programs.now ps
         → IsAnswer ts text.now at before → IsAnswer (ts ++ map Pattern ps) text.now at result }
 {
     let mut best = before;
     for (k, program) in programs.iter().enumerate() {
-        let len = longest_from(program, text, at, begins, finals);
+        let len = longest_from(program, text, at, begins, finals, &mut failures[k]);
         if len > len_of(best) {
             best = Some((number + k, len));
         }
@@ -93,12 +98,14 @@ pub fn longest(
     let room = room_of(programs.as_slice());
     let mut begins = vec![in alloc; false; room]?;
     let mut finals = vec![in alloc; false; room]?;
+    let mut failures = failures_of(alloc, programs.as_slice(), 0)?;
     Ok(longest_among(
         programs.as_slice(),
         text,
         at,
         &mut begins,
         &mut finals,
+        &mut failures,
         0,
         None,
     ))

@@ -5,7 +5,9 @@ ghost use Rattle.sg_patterns.specs.LongestMatch.{IsLength, Pattern};
 ghost use Rattle.sg_patterns.specs.Marks.{begin_value, HasBegins, final_value, HasFinalsTo, is_leaf, IsDead};
 ghost use Rattle.std.specs.Bool.{OnTrue, OnFalse};
 ghost use Rattle.sg_patterns.specs.Programs.{flag_at, IsBarred, IsOrdered, IsProgram};
+ghost use Rattle.sg_patterns.specs.Spent.{AreFailures};
 
+use crate::failures::Failures;
 use crate::program::{Above, Node, Program, flag};
 use sg_kinds::memory::NoMemory;
 use std::alloc::Global;
@@ -129,18 +131,21 @@ fn is_barred(program: &Program, text: &[u8], at: usize) -> bool
 }
 
 /// The length of the longest match from a place on that has a byte, or 0 where there is none. The flags are room for
-/// those of the program's nodes.
+/// those of the program's nodes. The walk stops where it is known to fail, and what it learns is kept.
 pub fn longest_from(
     program: &Program,
     text: &[u8],
     at: usize,
     begins: &mut [bool],
     finals: &mut [bool],
+    failures: &mut Failures,
 ) -> usize
     requires ordered { IsOrdered program.now }
     requires begins_room { vec_len program.now.nodes ≤ length begins.old }
     requires finals_room { vec_len program.now.nodes ≤ length finals.old }
-    ensures { (p : plain.Lexeme) → IsProgram program.now p → IsLength (Pattern p) text.now at result }
+    requires known { AreFailures program.now text.now failures.old }
+    ensures longest { (p : plain.Lexeme) → IsProgram program.now p → IsLength (Pattern p) text.now at result }
+    ensures known { AreFailures program.now text.now failures.new }
 {
     if is_barred(program, text, at) {
         return 0;
@@ -154,6 +159,9 @@ pub fn longest_from(
         }
         if flag(finals, program.root) {
             longest = place + 1 - at;
+            failures.after = failures.after.max(place + 1);
+        } else if failures.meets(place + 1, finals) {
+            return longest;
         }
     }
     longest

@@ -4,6 +4,7 @@ ghost use Rattle.sg_kinds.specs.Lexemes as plain;
 ghost use Rattle.sg_kinds.specs.Matches.{Matches};
 ghost use Rattle.sg_patterns.specs.Programs.{ArePrograms, HaveRoom, IsOrdered, IsProgram};
 
+use crate::failures::Failures;
 use crate::longest_match::{programs_of, room_of};
 use crate::marks::longest_from;
 use crate::program::Program;
@@ -51,7 +52,13 @@ fn copies(alloc: Global, all: &[Lexeme]) -> Result<Vec<Lexeme>, NoMemory>
 }
 
 /// Whether the pattern of a program matches the whole text. The flags are room for those of the program's nodes.
-fn matches_whole(program: &Program, text: &[u8], begins: &mut [bool], finals: &mut [bool]) -> bool
+fn matches_whole(
+    alloc: Global,
+    program: &Program,
+    text: &[u8],
+    begins: &mut [bool],
+    finals: &mut [bool],
+) -> bool
     requires ordered { IsOrdered program.now }
     requires begins_room { vec_len program.now.nodes ≤ length begins.old }
     requires finals_room { vec_len program.now.nodes ≤ length finals.old }
@@ -60,11 +67,13 @@ fn matches_whole(program: &Program, text: &[u8], begins: &mut [bool], finals: &m
     if text.is_empty() {
         return program.matches_empty();
     }
-    longest_from(program, text, 0, begins, finals) == text.len()
+    let mut failures = Failures::none(alloc);
+    longest_from(program, text, 0, begins, finals, &mut failures) == text.len()
 }
 
 /// Whether the pattern at a place matches the whole text.
 fn matches_at(
+    alloc: Global,
     programs: &[Program],
     k: usize,
     text: &[u8],
@@ -78,7 +87,7 @@ fn matches_at(
     ensures { (ps : List plain.Lexeme) (p : plain.Lexeme) → ArePrograms programs.now ps → slice_get ps k ≡ Some p
         → IsTrue result ↔ Matches p text.now }
 {
-    matches_whole(&programs[k], text, begins, finals)
+    matches_whole(alloc, &programs[k], text, begins, finals)
 }
 
 impl Matcher {
@@ -112,7 +121,9 @@ impl Matcher {
         ensures matched { (p : plain.Lexeme) → slice_get self.old k ≡ Some p → IsTrue result ↔ Matches p text.now }
         ensures same { self.new ≡ self.old }
     {
+        let alloc = *self.begins.allocator();
         matches_at(
+            alloc,
             self.programs.as_slice(),
             k,
             text,

@@ -3,8 +3,10 @@ ghost use Rattle.std.specs.Prelude.{◌≡◌, ℕ, ◌<◌, Err, length, IfOk};
 ghost use Rattle.sg_patterns.specs.LongestMatch.{IsAnswer};
 ghost use Rattle.sg_patterns.specs.Programs.{ArePrograms, HaveRoom};
 ghost use Rattle.sg_patterns.specs.Scan.{terminals_of, Scanned, StopsAt};
+ghost use Rattle.sg_patterns.specs.Spent.{HaveFailures};
 ghost use Rattle.sg_patterns.specs.declared.scanning.ScanFault.TheVariants as fault;
 
+use crate::failures::{Failures, failures_of};
 use crate::lexemes::Lexemes;
 use crate::longest_match::{longest_among, room_of};
 use crate::program::Program;
@@ -59,12 +61,14 @@ pub fn scan(alloc: Global, all: &Lexemes, text: &[u8]) -> Result<Vec<InToken>, S
     let room = room_of(programs);
     let mut begins = vec![in alloc; false; room]?;
     let mut finals = vec![in alloc; false; room]?;
+    let mut failures = failures_of(alloc, programs, text.len())?;
     let begins = begins.as_mut_slice();
     let finals = finals.as_mut_slice();
+    let failures = failures.as_mut_slice();
     let mut tokens = Vec::new(alloc);
     let mut at = 0;
     while at < text.len() {
-        let found = longest_at(all, programs, text, at, begins, finals);
+        let found = longest_at(all, programs, text, at, begins, finals, failures);
         let Some((number, len)) = found else {
             return Err(ScanFault::BadAt(at));
         };
@@ -88,12 +92,15 @@ fn longest_at(
     at: usize,
     begins: &mut [bool],
     finals: &mut [bool],
+    failures: &mut [Failures],
 ) -> Option<(usize, usize)>
     requires some { at < length text.now }
     requires programs { ArePrograms programs.now all.now.patterns }
     requires begins_room { HaveRoom programs.now (length begins.old) }
     requires finals_room { HaveRoom programs.now (length finals.old) }
-    ensures { IsAnswer (terminals_of all.now) text.now at result }
+    requires known { HaveFailures programs.now text.now failures.old }
+    ensures known { HaveFailures programs.now text.now failures.new }
+    ensures longest { IsAnswer (terminals_of all.now) text.now at result }
 {
     let literal = all.literal_at(text, at);
     longest_among(
@@ -102,6 +109,7 @@ fn longest_at(
         at,
         begins,
         finals,
+        failures,
         all.literals.len(),
         literal,
     )

@@ -1,0 +1,6 @@
+use Rattle.std.proofs.Common.{◌≡◌, ℕ, ◌<◌}
+use Rattle.sg_patterns.specs.Programs.{flag_at}
+use Rattle.sg_patterns.proofs.failures.copy.Given as goal
+
+abbrev pub invariant-loop-k : goal.invariant-loop-k
+invariant-loop-k l = (j : ℕ) → j < l.k → flag_at l.flags j ≡ flag_at l.others j

@@ -1,0 +1,120 @@
+//! Places of a text from which a pattern is known to match no further, so that no later token walks on from there.
+//! A table of what failed makes the scanning linear (Reps, "Maximal-munch tokenization in linear time", 1998); here
+//! it has as many places as the text's length has bits.
+ghost use Rattle.std.specs.Prelude.{◌≡◌, ℕ, ◌+◌, ◌<◌, List, length, IfOk};
+ghost use Rattle.std.specs.Bool.{OnTrue};
+ghost use Rattle.sg_kinds.specs.Lexemes as plain;
+ghost use Rattle.sg_kinds.specs.Values.{Bytes};
+ghost use Rattle.sg_patterns.specs.Programs.{flag_at, IsProgram};
+ghost use Rattle.sg_patterns.specs.Spent.{AreFailures, AreSpentIf, HasSize, HaveFailures, IsSpent};
+ghost use Rattle.sg_patterns.specs.declared.program.Program as plain_program;
+
+use crate::program::{Program, flag};
+use sg_kinds::memory::NoMemory;
+use std::alloc::Global;
+
+/// How far checkpoints are apart at least.
+const APART: usize = 32;
+
+/// A place, and the flags of a program's nodes with which no match ends behind it.
+#[derive(Drop)]
+pub struct Checkpoint {
+    pub place: usize,
+    pub flags: Vec<bool>,
+}
+
+/// What one program is known not to match in one text: of the places with so many trailing zeros the one that was
+/// met last, where it is greater than `after`.
+#[derive(Drop)]
+pub struct Failures {
+    pub after: usize,
+    pub checkpoints: Vec<Checkpoint>,
+}
+
+/// Whether the flags are the first of the others.
+fn agree(flags: &[bool], others: &[bool]) -> bool
+    ensures { OnTrue result ((k : ℕ) → k < length flags.now → flag_at flags.now k ≡ flag_at others.now k) }
+{
+    for k in 0..flags.len() {
+        if flags[k] != flag(others, k) {
+            return false;
+        }
+    }
+    true
+}
+
+/// Writes the first of the others into the flags.
+fn copy(flags: &mut [bool], others: &[bool])
+    ensures { (k : ℕ) → k < length flags.old → flag_at flags.new k ≡ flag_at others.now k }
+{
+    for k in 0..flags.len() {
+        flags[k] = flag(others, k);
+    }
+}
+
+impl Failures {
+    /// Nothing is known, and nothing will be.
+    pub fn none(alloc: Global) -> Failures
+        ensures { (p : plain_program.Program) (text : Bytes) → AreFailures p text result }
+    {
+        Failures {
+            after: 0,
+            checkpoints: Vec::new(alloc),
+        }
+    }
+
+    /// Nothing is known yet of the program and a text of so many bytes.
+    pub fn new(alloc: Global, program: &Program, len: usize) -> Result<Failures, NoMemory>
+        ensures { IfOk result (λ x. (text : Bytes) → AreFailures program.now text x) }
+    {
+        let mut checkpoints = Vec::new(alloc);
+        let mut rest = len / APART;
+        while rest > 0 {
+            let flags = vec![in alloc; false; program.nodes.len()]?;
+            checkpoints.push(Checkpoint { place: 0, flags })?;
+            rest /= 2;
+        }
+        Ok(Failures {
+            after: 0,
+            checkpoints,
+        })
+    }
+
+    /// Whether it is known that no match ends behind a place with these flags; a place to be known keeps them.
+    pub fn meets(&mut self, place: usize, flags: &[bool]) -> bool
+        ensures sized { (n : ℕ) → HasSize n self.old → HasSize n self.new }
+        ensures met { (p : plain_program.Program) (q : plain.Lexeme) (h : IsProgram p q) (text : Bytes)
+            → HasSize (length p.nodes.items) self.old → AreSpentIf text h.tree place place flags.now self.old
+            → OnTrue result (IsSpent text h.tree place flags.now) }
+        ensures kept { (p : plain_program.Program) (q : plain.Lexeme) (h : IsProgram p q) (text : Bytes)
+            → HasSize (length p.nodes.items) self.old → AreSpentIf text h.tree place place flags.now self.old
+            → AreSpentIf text h.tree (place + 1) place flags.now self.new }
+    {
+        let level = (place / APART).trailing_zeros() as usize;
+        if place % APART != 0 || level >= self.checkpoints.len() {
+            return false;
+        }
+        let checkpoint = &mut self.checkpoints[level];
+        if self.after < place && checkpoint.place == place && agree(&checkpoint.flags, flags) {
+            return true;
+        }
+        checkpoint.place = place;
+        copy(&mut checkpoint.flags, flags);
+        false
+    }
+}
+
+/// Nothing is known yet of the programs and a text of so many bytes.
+pub fn failures_of(
+    alloc: Global,
+    programs: &[Program],
+    len: usize,
+) -> Result<Vec<Failures>, NoMemory>
+    ensures { IfOk result (λ all. (text : Bytes) → HaveFailures programs.now text all.items) }
+{
+    let mut all = Vec::with_capacity(alloc, programs.len())?;
+    for program in programs {
+        all.push(Failures::new(alloc, program, len)?)?;
+    }
+    Ok(all)
+}
