@@ -163,7 +163,8 @@ fn open_node(
     requires count { length begins.now.firsts.rows ≡ g.now.symbols }
     requires width { begins.now.firsts.width ≡ flow.old.rows.width }
     requires firsts { (X u : ℕ) → Holds begins.now.firsts.rows X u ↔ ((X < g.now.symbols) × First g.now X u) }
-    requires slots { AreSlots g.now layout.now.nodes.items (length layout.now.nodes.items) slots.now (length flow.old.rows.rows) }
+    requires slots { AreSlots g.now layout.now.nodes.items
+        (length layout.now.nodes.items) slots.now (length flow.old.rows.rows) }
     requires one { IsOneEach g.now layout.now.nodes.items
         (slice_index layout.now.firsts.items (node_at layout.now.nodes.items a).state)
         (slice_index layout.now.firsts.items (suc (node_at layout.now.nodes.items a).state)) slots.now }
@@ -224,7 +225,8 @@ fn link_node(
     requires count { length begins.now.firsts.rows ≡ g.now.symbols }
     requires width { begins.now.firsts.width ≡ flow.old.rows.width }
     requires firsts { (X u : ℕ) → Holds begins.now.firsts.rows X u ↔ ((X < g.now.symbols) × First g.now X u) }
-    requires slots { AreSlots g.now layout.now.nodes.items (length layout.now.nodes.items) slots.now (length flow.old.rows.rows) }
+    requires slots { AreSlots g.now layout.now.nodes.items
+        (length layout.now.nodes.items) slots.now (length flow.old.rows.rows) }
     requires one { (t : ℕ) → t < length automaton.now.cores.items → IsOneEach g.now layout.now.nodes.items
         (slice_index layout.now.firsts.items t) (slice_index layout.now.firsts.items (suc t)) slots.now }
     requires lefts { AreLefts g.now.rules (map (λ k. k.items) begins.now.lefts.items) }

@@ -34,7 +34,8 @@ fn reductions_of(
     requires order { from ≤ to }
     requires range { (m : ℕ) → m < length nodes.now → InRange g.now (node_at nodes.now m).item }
     requires count { length rows.now.rows ≡ length nodes.now }
-    ensures { IfOk result (λ v. (p t : ℕ) → ReducesBy v.items p t ↔ DoesReduce g.now nodes.now rows.now.rows from to p t) }
+    ensures { IfOk result (λ v. (p t : ℕ) → ReducesBy v.items p t
+        ↔ DoesReduce g.now nodes.now rows.now.rows from to p t) }
 {
     let mut found = Vec::new(alloc);
     for m in from..to {
