@@ -75,11 +75,11 @@ loop-place-preserved c =
             spent = λ p h. if-final text h.tree (l.place + 1) l.place (l.place + 1) l.finals fs l.failures c.if-flag.failures marked (omega (arith, after)) (omega (arith, after)) (l.invariant.spent p h);
           }
       | else-flag+else-meets w ↦ let off = sym c.flag.ensures ∙ w.if-flag.false in record {
-            sized = subst (HasSize (length prog.nodes.items)) (sym w.failures-is) (w.meets.ensures.sized (length prog.nodes.items) l.invariant.sized);
-            matched = λ p h. subst (λ n. Matched text h.tree fs c.args.at (l.place + 1) n) (sym w.longest-is) ((s p h).on off);
-            spent = λ p h. subst (AreSpentIf text h.tree (l.place + 1 + 1) (l.place + 1) fs) (sym w.failures-is)
-                (w.meets.ensures.kept prog p h text l.invariant.sized (if-on text h.tree (l.place + 1) l.place (l.place + 1) l.finals fs l.failures ((s p h).back off) (l.invariant.spent p h)));
-          }
+        sized = subst (HasSize (length prog.nodes.items)) (sym w.failures-is) (w.meets.ensures.sized (length prog.nodes.items) l.invariant.sized);
+        matched = λ p h. subst (λ n. Matched text h.tree fs c.args.at (l.place + 1) n) (sym w.longest-is) ((s p h).on off);
+        spent = λ p h. subst (AreSpentIf text h.tree (l.place + 1 + 1) (l.place + 1) fs) (sym w.failures-is)
+            (w.meets.ensures.kept prog p h text l.invariant.sized (if-on text h.tree (l.place + 1) l.place (l.place + 1) l.finals fs l.failures ((s p h).back off) (l.invariant.spent p h)));
+      }
     ]
 
 pub returns-clause-longest : goal.returns-clause-longest
