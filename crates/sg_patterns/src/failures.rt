@@ -1,6 +1,6 @@
 //! Places of a text from which a pattern is known to match no further, so that no later token walks on from there.
-//! A table of what failed makes the scanning linear (Reps, "Maximal-munch tokenization in linear time", 1998); here
-//! it has as many places as the text's length has bits.
+//! The idea is that of Reps, "Maximal-munch tokenization in linear time" (1998), whose table has each place; here a
+//! logarithmic number of them is kept.
 ghost use Rattle.std.specs.Prelude.{◌≡◌, ℕ, ◌+◌, ◌<◌, List, length, IfOk};
 ghost use Rattle.std.specs.Bool.{OnTrue};
 ghost use Rattle.sg_kinds.specs.Lexemes as plain;
@@ -9,22 +9,26 @@ ghost use Rattle.sg_patterns.specs.Programs.{flag_at, IsProgram};
 ghost use Rattle.sg_patterns.specs.Spent.{AreFailures, AreSpentIf, HasSize, HaveFailures, IsSpent};
 ghost use Rattle.sg_patterns.specs.declared.program.Program as plain_program;
 
-use crate::program::{Program, flag};
+use crate::program::{Above, Program, flag};
 use sg_kinds::memory::NoMemory;
 use std::alloc::Global;
 
-/// How far checkpoints are apart at least.
-const APART: usize = 32;
+/// Checkpoints stand at multiples of so many bytes.
+pub const APART: usize = 64;
 
-/// A place, and the flags of a program's nodes with which no match ends behind it.
+/// How many checkpoints there are for places with equally many trailing zeros: runs that began at different places may
+/// differ in their flags at one place.
+const WAYS: usize = 4;
+
+/// A place, and flags of a program's nodes with which no match ends behind it.
 #[derive(Drop)]
 pub struct Checkpoint {
     pub place: usize,
     pub flags: Vec<bool>,
 }
 
-/// What one program is known not to match in one text: of the places with so many trailing zeros the one that was
-/// met last, where it is greater than `after`.
+/// What one program is known not to match in one text. A checkpoint says something where its place is greater than
+/// `after`.
 #[derive(Drop)]
 pub struct Failures {
     pub after: usize,
@@ -63,16 +67,21 @@ impl Failures {
         }
     }
 
-    /// Nothing is known yet of the program and a text of so many bytes.
+    /// Nothing is known yet of the program and a text of so many bytes. A program that repeats nothing walks no further
+    /// than it has nodes, and needs no checkpoint.
     pub fn new(alloc: Global, program: &Program, len: usize) -> Result<Failures, NoMemory>
         ensures { IfOk result (λ x. (text : Bytes) → AreFailures program.now text x) }
     {
-        let mut checkpoints = Vec::new(alloc);
-        let mut rest = len / APART;
-        while rest > 0 {
+        let repeats = program
+            .above
+            .iter()
+            .any(|above| matches!(above, Above::Again(_)));
+        let farthest = if repeats { len / APART } else { 0 };
+        let levels = (usize::BITS - farthest.leading_zeros()) as usize;
+        let mut checkpoints = Vec::with_capacity(alloc, levels * WAYS)?;
+        for _ in 0..levels * WAYS {
             let flags = vec![in alloc; false; program.nodes.len()]?;
             checkpoints.push(Checkpoint { place: 0, flags })?;
-            rest /= 2;
         }
         Ok(Failures {
             after: 0,
@@ -80,7 +89,8 @@ impl Failures {
         })
     }
 
-    /// Whether it is known that no match ends behind a place with these flags; a place to be known keeps them.
+    /// Whether it is known that no match ends behind a place with these flags. If it is not, they are kept for later: the
+    /// last flags that were met at a place with so many trailing zeros, and with so low a first one.
     pub fn meets(&mut self, place: usize, flags: &[bool]) -> bool
         ensures sized { (n : ℕ) → HasSize n self.old → HasSize n self.new }
         ensures met { (p : plain_program.Program) (q : plain.Lexeme) (h : IsProgram p q) (text : Bytes)
@@ -91,10 +101,12 @@ impl Failures {
             → AreSpentIf text h.tree (place + 1) place flags.now self.new }
     {
         let level = (place / APART).trailing_zeros() as usize;
-        if place % APART != 0 || level >= self.checkpoints.len() {
+        let first = flags.iter().position(|flag| *flag).unwrap_or(0);
+        let slot = level * WAYS + first % WAYS;
+        if slot >= self.checkpoints.len() {
             return false;
         }
-        let checkpoint = &mut self.checkpoints[level];
+        let checkpoint = &mut self.checkpoints[slot];
         if self.after < place && checkpoint.place == place && agree(&checkpoint.flags, flags) {
             return true;
         }
