@@ -8,6 +8,7 @@ mod playing;
 mod running;
 mod scripts;
 mod words;
+mod workloads;
 
 pub use running::{Outcome, run};
 pub use sg_told::Status;
