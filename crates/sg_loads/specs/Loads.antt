@@ -54,7 +54,7 @@ abbrev pub window_height : ℕ
 window_height = 24
 
 -- all its commands from the first session on, how many equations they evaluate, and the line at their end
-abbrev pub worked : Spec → Readers → ℕ → Played
+unfoldable pub worked : Spec → Readers → ℕ → Played
 worked spec readers n = played spec window_height readers start (workload n)
 
 abbrev pub work : Spec → Readers → ℕ → ℕ

@@ -61,7 +61,7 @@ pub fn is_memory(fault: &SpecFault) -> bool
 }
 
 /// Ends the run by the line of a static fault.
-fn refuse<K: Sink>(alloc: Global, fault: &SpecFault, sink: &mut K) -> Status
+pub fn refuse<K: Sink>(alloc: Global, fault: &SpecFault, sink: &mut K) -> Status
     ensures { (shelf : ShelfState) (n : ℕ) → Ends (world shelf
         (sink_state (K.written sink.old) (K.faults sink.old) (K.puts sink.old)) n) (fault_told fault.now) [] result
         (world shelf (sink_state (K.written sink.new) (K.faults sink.new) (K.puts sink.new)) n) }
@@ -73,7 +73,7 @@ fn refuse<K: Sink>(alloc: Global, fault: &SpecFault, sink: &mut K) -> Status
 }
 
 /// Ends the run by what there is in place of a specification: want of memory, or a static fault.
-pub fn end_by<K: Sink>(alloc: Global, bytes: &[u8], fault: &SpecFault, sink: &mut K) -> Status
+fn end_by<K: Sink>(alloc: Global, bytes: &[u8], fault: &SpecFault, sink: &mut K) -> Status
     requires { fault.now ≢ SpecFault.NoMemory → IsTheVerdict bytes.now (Refused fault.now) }
     ensures known { IsKnown bytes.now result (sink_state (K.written sink.old) (K.faults sink.old) (K.puts sink.old))
         (sink_state (K.written sink.new) (K.faults sink.new) (K.puts sink.new)) }

@@ -219,36 +219,37 @@ pub fn run<S: Shelf, K: Sink>(
 ) -> Outcome
     requires room { counted journal.old < 2 ^ 60 }
 
-    // There is a reading of what was fetched: the verdict on the specification, of which there is no other, and how
-    // texts that are typed and files that are loaded are read; or memory was wanting before there was a verdict. For
-    // each right reading the rest follows.
+    // There is a reading of what was fetched, and for a workload of the built-in language: the verdict on the
+    // specification, of which there is no other, and how texts that are typed and files that are loaded are read; or
+    // memory was wanting before there was a verdict. For each right reading the rest follows.
     ensures known { IsRead (job (map string_bytes words.now))
         (world_of S.files S.faults S.calls shelf.old K.written K.faults K.puts sink.old (counted journal.old))
         result.replies.items result.status
         (world_of S.files S.faults S.calls shelf.new K.written K.faults K.puts sink.new (counted journal.new)) }
 
     // What was written and evaluated, at an end of its own and after it was cut short.
-    ensures output { (r : Reading) → IsRightFor (job (map string_bytes words.now)) result.replies.items r → IsEnd result.status
-        → K.written sink.new ≡ appended (K.written sink.old)
+    ensures output { (r : Reading) → IsRightFor (job (map string_bytes words.now)) result.replies.items r
+        → IsEnd result.status → K.written sink.new ≡ appended (K.written sink.old)
         (joined (told (map string_bytes words.now) r result.replies.items).blocks) }
-    ensures puts { (r : Reading) → IsRightFor (job (map string_bytes words.now)) result.replies.items r → IsEnd result.status
-        → K.puts sink.new ≡ tallied (length (told (map string_bytes words.now) r result.replies.items).blocks)
-        (K.puts sink.old) }
-    ensures finished { (r : Reading) → IsRightFor (job (map string_bytes words.now)) result.replies.items r → IsEnd result.status
+    ensures puts { (r : Reading) → IsRightFor (job (map string_bytes words.now)) result.replies.items r
+        → IsEnd result.status → K.puts sink.new
+        ≡ tallied (length (told (map string_bytes words.now) r result.replies.items).blocks) (K.puts sink.old) }
+    ensures finished { (r : Reading) → IsRightFor (job (map string_bytes words.now)) result.replies.items r
+        → IsEnd result.status
         → (told (map string_bytes words.now) r result.replies.items).status ≡ Some result.status }
-    ensures evaluated { (r : Reading) → IsRightFor (job (map string_bytes words.now)) result.replies.items r → IsEnd result.status
-        → counted journal.new ≡ counted journal.old + sum
+    ensures evaluated { (r : Reading) → IsRightFor (job (map string_bytes words.now)) result.replies.items r
+        → IsEnd result.status → counted journal.new ≡ counted journal.old + sum
         (told (map string_bytes words.now) r result.replies.items).evs }
-    ensures cut_short { (r : Reading) → IsRightFor (job (map string_bytes words.now)) result.replies.items r → IsCut result.status
-        → WroteCounted result.status
+    ensures cut_short { (r : Reading) → IsRightFor (job (map string_bytes words.now)) result.replies.items r
+        → IsCut result.status → WroteCounted result.status
         (world_of S.files S.faults S.calls shelf.old K.written K.faults K.puts sink.old (counted journal.old))
         (world_of S.files S.faults S.calls shelf.new K.written K.faults K.puts sink.new (counted journal.new))
         (told (map string_bytes words.now) r result.replies.items) }
-    ensures after_memory { (r : Reading) → IsRightFor (job (map string_bytes words.now)) result.replies.items r → result.status ≡ Status.Memory
-        → WholeBlocks (K.written sink.old) (K.written sink.new)
+    ensures after_memory { (r : Reading) → IsRightFor (job (map string_bytes words.now)) result.replies.items r
+        → result.status ≡ Status.Memory → WholeBlocks (K.written sink.old) (K.written sink.new)
         (told (map string_bytes words.now) r result.replies.items).blocks }
-    ensures after_sink_fault { (r : Reading) → IsRightFor (job (map string_bytes words.now)) result.replies.items r → result.status ≡ Status.SinkFault
-        → CutShort (K.written sink.old) (K.written sink.new)
+    ensures after_sink_fault { (r : Reading) → IsRightFor (job (map string_bytes words.now)) result.replies.items r
+        → result.status ≡ Status.SinkFault → CutShort (K.written sink.old) (K.written sink.new)
         (joined (told (map string_bytes words.now) r result.replies.items).blocks) }
 
     // The replies, and what they say of the shelf.

@@ -10,11 +10,10 @@ ghost use Rattle.sg_told.specs.World.{world, sink_state};
 
 use crate::Status;
 use crate::finishing::{end, finish};
-use crate::opening::{end_by, is_memory};
+use crate::opening::{is_memory, refuse};
 use sg_eval::Journal;
 use sg_loads::line;
 use sg_outside::Sink;
-use sg_workload::lines;
 use std::alloc::Global;
 
 /// The workload of so many statements, at most 400, of the built-in language, and its line by one put. An error says
@@ -39,6 +38,6 @@ pub fn work<K: Sink>(
     match line(alloc, count, journal) {
         Ok(line) => end(finish(sink, line.as_slice(), Status::Done)),
         Err(fault) if is_memory(&fault) => Err(Status::Memory),
-        Err(fault) => Err(end_by(alloc, lines(), &fault, sink)),
+        Err(fault) => Err(refuse(alloc, &fault, sink)),
     }
 }

@@ -1,5 +1,5 @@
 -- What follows the fetches of the specification and of the script
-use Rattle.std.proofs.Common.{◌≡◌, ◌≢◌, ℕ, List, [], ◌∷◌, ◌++◌, Option, Some, Result, Ok, Err, IfOk, IfErr, inl, inr, refl, sym, ap, ◌∙◌, subst, arith}
+use Rattle.std.proofs.Common.{◌≡◌, ◌≢◌, ℕ, List, [], ◌∷◌, ◌++◌, Option, Some, None, Result, Ok, Err, IfOk, IfErr, inl, inr, refl, sym, ap, ◌∙◌, subst, arith}
 use Rattle.sg_kinds.specs.declared.spec.Spec.{Spec}
 use Rattle.sg_kinds.specs.declared.fault.SpecFault.{SpecFault as Fault}
 use Rattle.sg_kinds.specs.declared.fault.SpecFault.TheVariants as fault
@@ -196,8 +196,8 @@ played_admitted name rb rm ra shelf shelf' sink sink' n spec follow new status n
     (passed_fetched name (opened (follow r.readers) r.verdict) rb rm shelf shelf' sink sink' n f same) in
     played_after (with_spec (follow r.readers) name r.verdict) (follow r.readers spec) rb rm ra (world shelf sink n) (world shelf' sink' n) new status passed (p r.readers (right.readers spec accepted))
 
--- the same of the specification of a job
-Fetches : Job → Type 0
+-- a job whose specification is fetched
+abbrev pub Fetches : Job → Type 0
 Fetches (Load n) = ⊥
 Fetches job = Unit {0}
 

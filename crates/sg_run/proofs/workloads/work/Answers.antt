@@ -1,14 +1,36 @@
-use Rattle.std.proofs.Common.{◌≡◌, inl, inr, refl, sym, ap, ◌∙◌, subst}
+use Rattle.std.proofs.Common.{◌≢◌, ◌∙◌}
+use Rattle.sg_kinds.specs.declared.fault.SpecFault.TheVariants.{NoMemory}
 use Rattle.sg_eval.specs.Journal.{counted}
-use Rattle.sg_told.proofs.Endings.{ends_as}
-use Rattle.sg_told.proofs.Works.{ends_once, ends_cut, lines_told, lines_read, the_lines}
+use Rattle.sg_told.proofs.Endings.{ends_with}
+use Rattle.sg_told.proofs.Works.{the_lines, lines_read, ends_told, ends_cut, ends_fault, known_cut, known_fault}
 use Rattle.sg_run.proofs.workloads.work.Goals as goal
 
 -- the line was told
-pub returns-in-Ok-clause-known : goal.returns-in-Ok-clause-known
-returns-in-Ok-clause-known g c = inl (the_lines c.in-Ok.ensures.accepted)
+pub returns-in-Ok : goal.returns-in-Ok
+returns-in-Ok g c =
+    let a = c.in-Ok.ensures.accepted in
+    record {
+      known = inl (the_lines a);
+      ended = λ r right shelf. ends_with _ _ _ _ _ _
+          (ends_told a shelf _ _ c.args.count (counted c.args.journal.now) _ _ c.as_slice.result.now r right c.finish.ensures
+          (c.as_slice.ensures.value ∙ c.in-Ok.ensures.line a.spec r.readers a.verdict.is (lines_read a r right))
+          (c.in-Ok.ensures.evaluated a.spec r.readers a.verdict.is (lines_read a r right)))
+          c.end.ensures;
+    }
 
 -- memory was wanting
-pub returns-in-Err-then-clause-ended : goal.returns-in-Err-then-clause-ended
-returns-in-Err-then-clause-ended g c = λ r right shelf.
-    ends_cut shelf _ c.args.count _ _ r right _ c.in-Err.ensures.known c.in-Err.ensures.cut
+pub returns-in-Err-then-is_memory : goal.returns-in-Err-then-is_memory
+returns-in-Err-then-is_memory g c = record {
+  known = known_cut _ _ _ c.in-Err.ensures.known;
+  ended = λ r right shelf. ends_cut shelf _ c.args.count _ _ r right c.in-Err.ensures.known c.in-Err.ensures.cut;
+}
+
+-- the built-in language has a fault
+pub returns-in-Err-2 : goal.returns-in-Err-2
+returns-in-Err-2 g c =
+    let some : c.in-Err-2.fault ≢ NoMemory = λ is. let yes = c.if-is_memory.ensures.1 is in let no = c.if-is_memory.false in cc in
+    let the = c.in-Err-2.ensures.fault some in
+    record {
+      known = known_fault _ _ _ _ _ _ the;
+      ended = λ r right shelf. ends_fault _ shelf _ _ c.args.count _ _ _ r the right (c.in-Err-2.ensures.quiet some) (c.refuse.ensures shelf _);
+    }
