@@ -33,9 +33,9 @@ use Rattle.sg_groves.specs.Unchanged.{OnlyStored}
 use Rattle.sg_groves.proofs.Frames.{only_more}
 use Rattle.sg_groves.proofs.Held.{held_fits, live_holds}
 use Rattle.sg_groves.proofs.InstancesOnce.{instance_has, instance_site}
+use Rattle.sg_dependencies.specs.Vertices.{IsVertex}
+use Rattle.sg_dependencies.proofs.SoundRules.{sound_range}
 use Rattle.sg_orders.specs.LiveSites.{IsLive}
-use Rattle.sg_orders.specs.Vertices.{IsVertex}
-use Rattle.sg_orders.proofs.SoundRules.{sound_range}
 use Rattle.sg_plans.specs.Planned.{IsPlanned}
 use Rattle.sg_plans.specs.Segments.{IsGivenBy, IsOfVisit, IsTaken, bearer}
 use Rattle.sg_plans.proofs.Bearers.{bearer_found}

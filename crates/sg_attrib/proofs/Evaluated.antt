@@ -33,9 +33,9 @@ use Rattle.sg_groves.specs.Unchanged.{OnlyStored}
 use Rattle.sg_groves.proofs.Frames.{only_climbed, only_more}
 use Rattle.sg_groves.proofs.Lists.{contains_first, contains_either, contains_later, contains_none, apart_none, apart_cons}
 use Rattle.sg_groves.proofs.Ways.{one_node}
+use Rattle.sg_dependencies.specs.Vertices.{IsVertex, AreInRange}
+use Rattle.sg_dependencies.proofs.SoundRules.{sound_range}
 use Rattle.sg_orders.specs.LiveSites.{IsLive}
-use Rattle.sg_orders.specs.Vertices.{IsVertex, AreInRange}
-use Rattle.sg_orders.proofs.SoundRules.{sound_range}
 use Rattle.sg_plans.specs.Planned.{IsPlanned}
 use Rattle.sg_plans.specs.Segments.{bearer}
 use Rattle.sg_plans.proofs.Bearers.{bearer_found, found_bears}

@@ -25,7 +25,7 @@ use Rattle.sg_groves.specs.Grove.{Grove, nodes, IsGrove}
 use Rattle.sg_groves.specs.Stored.{value_there}
 use Rattle.sg_groves.specs.Holds.{IsPlaced}
 use Rattle.sg_groves.specs.IsRight.{IsRightAt}
-use Rattle.sg_orders.specs.Vertices.{IsVertex, locals_there}
+use Rattle.sg_dependencies.specs.Vertices.{IsVertex, locals_there}
 use Rattle.sg_plans.specs.Planned.{IsPlanned}
 use Rattle.sg_plans.specs.Segments.{IsLeafSlot}
 use Rattle.sg_plans.proofs.Nodes.{leaf_fits, node_at}

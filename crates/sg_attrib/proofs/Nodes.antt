@@ -29,7 +29,7 @@ use Rattle.sg_groves.specs.Stored.{kept, value_there}
 use Rattle.sg_groves.specs.Holds.{term_of, terms_under, Holds, IsPlaced}
 use Rattle.sg_groves.proofs.Held.{held_fits, part_held, node_held}
 use Rattle.sg_groves.proofs.Ways.{one_node}
-use Rattle.sg_orders.specs.Vertices.{IsVertex, locals_there}
+use Rattle.sg_dependencies.specs.Vertices.{IsVertex, locals_there}
 use Rattle.sg_plans.specs.Planned.{IsPlanned}
 use Rattle.sg_plans.specs.Segments.{IsNodeAt, HasVisit}
 use Rattle.sg_plans.specs.Stepping.{steps_of}

@@ -15,10 +15,10 @@ use Rattle.sg_lalr.specs.declared.table.TableFault.TheVariants as table
 use Rattle.sg_lalr.specs.Prefixes.{TooMany}
 use Rattle.sg_lalr.specs.Tables.{View, IsTables}
 use Rattle.sg_lalr.proofs.FaultLaws.{one_fault as one_table_fault, no_fault as no_table_faults}
-use Rattle.sg_orders.specs.declared.fault.OrderFault.{OrderFault}
-use Rattle.sg_orders.specs.declared.fault.OrderFault.TheVariants as order
-use Rattle.sg_orders.specs.Faults.{IsFault}
-use Rattle.sg_orders.specs.Vertices.{AreInRange}
+use Rattle.sg_dependencies.specs.declared.fault.OrderFault.{OrderFault}
+use Rattle.sg_dependencies.specs.declared.fault.OrderFault.TheVariants as order
+use Rattle.sg_dependencies.specs.Faults.{IsFault}
+use Rattle.sg_dependencies.specs.Vertices.{AreInRange}
 use Rattle.sg_kinds.specs.Ordered.{IsOrdered}
 use Rattle.sg_orders.proofs.OneFault.{one_fault as one_order_fault}
 use Rattle.sg_orders.proofs.Refused.{refused}

@@ -18,9 +18,9 @@ use Rattle.sg_grammar.specs.Numbered.{grammar_of}
 use Rattle.sg_lalr.specs.Tables.{IsTableFault}
 use Rattle.sg_lalr.specs.declared.table.TableFault.{TableFault}
 use Rattle.sg_lalr.specs.declared.table.TableFault.TheVariants as table
-use Rattle.sg_orders.specs.declared.fault.OrderFault.{OrderFault}
-use Rattle.sg_orders.specs.declared.fault.OrderFault.TheVariants as order
-use Rattle.sg_orders.specs.Faults.{IsFault}
+use Rattle.sg_dependencies.specs.declared.fault.OrderFault.{OrderFault}
+use Rattle.sg_dependencies.specs.declared.fault.OrderFault.TheVariants as order
+use Rattle.sg_dependencies.specs.Faults.{IsFault}
 use Rattle.sg_reports.specs.Tables.{printed_table}
 use Rattle.sg_reports.specs.Orders.{printed_order}
 use Rattle.sg_load.specs.Patterns.{IsLexemeFault}

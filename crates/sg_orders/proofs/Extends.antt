@@ -11,17 +11,19 @@ use Rattle.sg_kinds.specs.Layers.{Extended, within, layered}
 use Rattle.sg_kinds.specs.Ordered as order
 use Rattle.sg_kinds.specs.Ordered.{Leads, IsAcyclic}
 use Rattle.sg_kinds.specs.Visits.{vertex}
-use Rattle.sg_orders.specs.Faults.{AreAcyclic}
-use Rattle.sg_orders.specs.Frames.{Spot, Frame, spot_of, spots_of, frames_of}
-use Rattle.sg_orders.specs.Induced.{relation_at, AreInduced}
-use Rattle.sg_orders.specs.Layerings.{layer_in, AreLayerings, AreLater}
-use Rattle.sg_orders.specs.Rounds.{IsSpread, AreExtended, AreFitting, frame_at, no_frame}
-use Rattle.sg_orders.specs.Vertices.{AreInRange, Numbered, AreRowsOf}
-use Rattle.sg_orders.specs.declared.dependencies.Dependencies.{Dependencies}
-use Rattle.sg_orders.proofs.Numbers.{frame_there, frames_count, spots_count, spot_there, attr_there, number_attr}
-use Rattle.sg_orders.proofs.Ranges.{phylum_in}
-use Rattle.sg_orders.proofs.Saturated.{AreSized, fitting_first}
-use Rattle.sg_orders.proofs.Sound.{contained_spot, attr_at}
+use Rattle.sg_dependencies.specs.Faults.{AreAcyclic}
+use Rattle.sg_dependencies.specs.Frames.{spot_of, spots_of, frames_of}
+use Rattle.sg_dependencies.specs.declared.frame.Spot.{Spot}
+use Rattle.sg_dependencies.specs.declared.frame.Frame.{Frame}
+use Rattle.sg_dependencies.specs.Induced.{relation_at, AreInduced}
+use Rattle.sg_dependencies.specs.Rounds.{IsSpread, AreFitting, frame_at, no_frame}
+use Rattle.sg_dependencies.specs.Vertices.{AreInRange, Numbered, AreRowsOf}
+use Rattle.sg_dependencies.specs.declared.dependencies.Dependencies.{Dependencies}
+use Rattle.sg_dependencies.proofs.Numbers.{frame_there, frames_count, spots_count, spot_there, attr_there, number_attr}
+use Rattle.sg_dependencies.proofs.Ranges.{phylum_in}
+use Rattle.sg_dependencies.proofs.Saturated.{AreSized, fitting_first}
+use Rattle.sg_dependencies.proofs.Sound.{contained_spot, attr_at}
+use Rattle.sg_orders.specs.Layerings.{layer_in, AreLayerings, AreLater, AreExtended}
 
 -- the relations of layers are on the attributes
 later_sized : (rules : Rules) (layers : List (List ℕ)) (later : List (List (List Bool))) → AreLayerings rules layers → AreLater layers later → AreSized rules later

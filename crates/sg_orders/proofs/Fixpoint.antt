@@ -22,10 +22,10 @@ use Rattle.sg_kinds.specs.Dependencies.{occurrence}
 use Rattle.sg_kinds.specs.FromScratch.{leaf_or, site_value, scratch, value_in}
 use Rattle.sg_kinds.specs.Outcome.{outcome}
 use Rattle.sg_kinds.specs.Keys.{key, IsLess}
+use Rattle.sg_dependencies.specs.Vertices.{IsVertex, AreInRange}
+use Rattle.sg_dependencies.proofs.Below.{length-below, get_or-below}
 use Rattle.sg_orders.specs.LiveSites.{IsLive}
 use Rattle.sg_orders.specs.Timed.{AreTimed}
-use Rattle.sg_orders.specs.Vertices.{IsVertex, AreInRange}
-use Rattle.sg_orders.proofs.Below.{length-below, get_or-below}
 use Rattle.sg_orders.proofs.KeysFall.{IsSiteAt, site_found, inherited_attr, argument_less}
 use Rattle.sg_orders.proofs.Rising.{count_lt}
 use Rattle.sg_orders.proofs.Seating.{filter_has}

@@ -21,9 +21,9 @@ use Rattle.sg_kinds.specs.Instances.{attr_count, Site, defines, rule_for, rule_u
 use Rattle.sg_kinds.specs.Dependencies.{phylum_there, IsAttr, occurrence}
 use Rattle.sg_kinds.specs.Keys.{operation, operator_in, key_up, key, IsLess}
 use Rattle.sg_kinds.specs.Visits.{position_in, belongs, seat}
+use Rattle.sg_dependencies.specs.Vertices.{IsVertex, AreInRange}
 use Rattle.sg_orders.specs.LiveSites.{IsLive}
 use Rattle.sg_orders.specs.Timed.{AreTimed}
-use Rattle.sg_orders.specs.Vertices.{IsVertex, AreInRange}
 use Rattle.sg_orders.proofs.PlanFacts.{named_before, belonging, belongs_rises, belongs_itself, inherited_by, inherited_before_seat, seat_before, seat_rises}
 
 -- lists with a common front

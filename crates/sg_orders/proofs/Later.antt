@@ -4,12 +4,12 @@ use Rattle.std.proofs.Common.{refl, sym, ◌∙◌, ap, subst, get_or, set, arit
 use Rattle.std.proofs.lemmas.Bool.{cases_lt, cases_eq}
 use Rattle.sg_sets.specs.Rows.{Holds}
 use Rattle.sg_kinds.specs.Visits.{row_at}
-use Rattle.sg_orders.specs.Frames.{Frame}
-use Rattle.sg_orders.specs.Induced.{relation_at}
-use Rattle.sg_orders.specs.Layerings.{IsLayered, AreLater}
-use Rattle.sg_orders.specs.Rounds.{IsSpread, AreAlike, AreExtended, frame_at}
+use Rattle.sg_dependencies.specs.declared.frame.Frame.{Frame}
+use Rattle.sg_dependencies.specs.Induced.{relation_at}
+use Rattle.sg_dependencies.specs.Rounds.{IsSpread, AreAlike, frame_at}
+use Rattle.sg_dependencies.proofs.Families.{at_same, at_other, alike_itself, alike_set}
+use Rattle.sg_orders.specs.Layerings.{IsLayered, AreLater, AreExtended}
 use Rattle.sg_orders.proofs.Pushed.{push_each, row_read}
-use Rattle.sg_orders.proofs.Families.{at_same, at_other, alike_itself, alike_set}
 
 -- the pairs before (a, b) are related
 pub record LaterTo (layers : List ℕ) (rows : List (List Bool)) (a b : ℕ) : Type 0 where

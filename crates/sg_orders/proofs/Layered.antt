@@ -10,13 +10,13 @@ use Rattle.sg_kinds.specs.Dependencies.{IsAttr, occurrence, InOperator, Chain, I
 use Rattle.sg_kinds.specs.Layers.{IsLayering, MayBeTaken}
 use Rattle.sg_kinds.specs.Ordered as order
 use Rattle.sg_kinds.specs.Ordered.{Leads, IsAcyclic}
-use Rattle.sg_orders.specs.Faults.{AreAcyclic}
-use Rattle.sg_orders.specs.Induced.{AreRowsOfPhylum}
+use Rattle.sg_dependencies.specs.Faults.{AreAcyclic}
+use Rattle.sg_dependencies.specs.Induced.{AreRowsOfPhylum}
+use Rattle.sg_dependencies.proofs.Directs.{op_there}
+use Rattle.sg_dependencies.proofs.Sound.{phylum_attrs, attr_vertex}
 use Rattle.sg_orders.specs.LeastLayers.{AreLeastLayers}
 use Rattle.sg_orders.specs.StrictOrders.{IsStrictOrder}
-use Rattle.sg_orders.proofs.Directs.{op_there}
 use Rattle.sg_orders.proofs.Rising.{rising, fewer}
-use Rattle.sg_orders.proofs.Sound.{phylum_attrs, attr_vertex}
 
 chain_leads : (rules : Rules) (p : ℕ) (u v : Occurrence) → Chain rules p u v → Leads (InOperator rules p) u v
 chain_leads rules _ _ _ (one p u v d) = order.one u v d

@@ -9,16 +9,16 @@ use Rattle.sg_kinds.specs.Specification.{attrs_of}
 use Rattle.sg_kinds.specs.Dependencies.{InOperator}
 use Rattle.sg_kinds.specs.Layers.{IsLayering}
 use Rattle.sg_kinds.specs.Visits.{row_at}
-use Rattle.sg_orders.specs.declared.dependencies.Dependencies.{Dependencies}
-use Rattle.sg_orders.specs.Faults.{AreAcyclic}
-use Rattle.sg_orders.specs.Induced.{relation_at, AreInduced}
+use Rattle.sg_dependencies.specs.declared.dependencies.Dependencies.{Dependencies}
+use Rattle.sg_dependencies.specs.Faults.{AreAcyclic}
+use Rattle.sg_dependencies.specs.Induced.{relation_at, AreInduced}
+use Rattle.sg_dependencies.specs.Vertices.{AreInRange}
+use Rattle.sg_dependencies.proofs.Ranges.{attrs_small}
 use Rattle.sg_orders.specs.Layerings.{AreLayerings}
 use Rattle.sg_orders.specs.LeastLayers.{AreLeastLayers}
 use Rattle.sg_orders.specs.StrictOrders.{IsStrictOrder}
-use Rattle.sg_orders.specs.Vertices.{AreInRange}
 use Rattle.sg_orders.proofs.Layered.{strict_order, layering_by}
 use Rattle.sg_orders.proofs.Pushed.{push_each, row_is}
-use Rattle.sg_orders.proofs.Ranges.{attrs_small}
 
 -- the layers of one phylum
 pub record IsOneLayering (rules : Rules) (X : ℕ) (layers : List ℕ) : Type 0 where

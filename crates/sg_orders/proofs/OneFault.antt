@@ -9,13 +9,13 @@ use Rattle.sg_kinds.specs.declared.spec.Occurrence.{Occurrence}
 use Rattle.sg_kinds.specs.Dependencies as depend
 use Rattle.sg_kinds.specs.Dependencies.{InOperator}
 use Rattle.sg_kinds.specs.Layers.{Extended}
-use Rattle.sg_orders.specs.Faults.{AreAcyclic, IsFirst, IsUnordered, IsFault}
-use Rattle.sg_orders.specs.Reported.{IsReported}
-use Rattle.sg_orders.specs.Vertices.{AreInRange, Numbered}
-use Rattle.sg_orders.specs.declared.fault.OrderFault.{OrderFault}
-use Rattle.sg_orders.specs.declared.fault.OrderFault.TheVariants.{Direct, Induced, Ordered, NoMemory}
+use Rattle.sg_dependencies.specs.Faults.{AreAcyclic, IsFirst, IsUnordered, IsFault}
+use Rattle.sg_dependencies.specs.Reported.{IsReported}
+use Rattle.sg_dependencies.specs.Vertices.{AreInRange, Numbered}
+use Rattle.sg_dependencies.specs.declared.fault.OrderFault.{OrderFault}
+use Rattle.sg_dependencies.specs.declared.fault.OrderFault.TheVariants.{Direct, Induced, Ordered, NoMemory}
+use Rattle.sg_dependencies.proofs.Sound.{AreVertices, direct_vertices, operator_vertices}
 use Rattle.sg_orders.proofs.Refused.{extended_vertices, no_cycle, same_extended}
-use Rattle.sg_orders.proofs.Sound.{AreVertices, direct_vertices, operator_vertices}
 
 -- of two sequences as long as each other that do not come after each other
 not_after : (c d : List ℕ) → length c ≡ length d → NotAfter c d → NotAfter d c → c ≡ d

@@ -12,11 +12,12 @@ use Rattle.sg_kinds.specs.declared.spec.Occurrence.{Occurrence}
 use Rattle.sg_kinds.specs.Instances.{below}
 use Rattle.sg_kinds.specs.Visits.{vertex}
 use Rattle.sg_kinds.specs.ValidPlans.{vertices, names, readers_of}
-use Rattle.sg_orders.specs.Frames.{Frame, frame_of, number_in}
+use Rattle.sg_dependencies.specs.Frames.{frame_of, number_in}
+use Rattle.sg_dependencies.specs.declared.frame.Frame.{Frame}
+use Rattle.sg_dependencies.specs.Vertices.{IsVertex, AreInRange}
+use Rattle.sg_dependencies.proofs.Below.{get_or-map-below, length-map-below}
+use Rattle.sg_dependencies.proofs.Numbers.{number_in-frame_of}
 use Rattle.sg_orders.specs.Owned.{is_own, own_of, has_number, only_where, AreOwned}
-use Rattle.sg_orders.specs.Vertices.{IsVertex, AreInRange}
-use Rattle.sg_orders.proofs.Below.{get_or-map-below, length-map-below}
-use Rattle.sg_orders.proofs.Numbers.{number_in-frame_of}
 
 -- whether something is found, one element on
 pub found_push : {X : Type 0} (p : X → Bool) (xs : List X) (x : X) → is_some (find p (xs ++ x ∷ [])) ≡ (is_some (find p xs) || p x)

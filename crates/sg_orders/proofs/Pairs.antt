@@ -7,8 +7,8 @@ use Rattle.std.proofs.lemmas.List.{take_more, length-map, get_or-map, map_push, 
 use Rattle.sg_kinds.specs.Instances.{below}
 use Rattle.sg_kinds.specs.ValidPlans.{pair_of}
 use Rattle.sg_kinds.specs.Visits.{greatest}
+use Rattle.sg_dependencies.proofs.Below.{get_or-map-below, length-map-below}
 use Rattle.sg_orders.specs.VisitRows.{pair_count}
-use Rattle.sg_orders.proofs.Below.{get_or-map-below, length-map-below}
 use Rattle.sg_orders.proofs.Least.{max_is}
 
 pub greatest_push : (ns : List ℕ) (n : ℕ) → greatest (ns ++ n ∷ []) ≡ max (greatest ns) n

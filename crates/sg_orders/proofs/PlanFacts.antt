@@ -11,12 +11,12 @@ use Rattle.sg_kinds.specs.Dependencies.{phylum_there, IsAttr, occurrence, direct
 use Rattle.sg_kinds.specs.Layers.{within, layered}
 use Rattle.sg_kinds.specs.Visits.{row_at, position_in, visit_count, given_in, gives_from, belongs, belongs_by, after_all, seat}
 use Rattle.sg_kinds.specs.ValidPlans.{AreVisits, ArePositions}
+use Rattle.sg_dependencies.specs.Vertices.{AreInRange}
+use Rattle.sg_dependencies.proofs.Ranges.{phylum_in}
+use Rattle.sg_dependencies.proofs.Sound.{attr_vertex}
 use Rattle.sg_orders.specs.Timed.{AreTimed}
-use Rattle.sg_orders.specs.Vertices.{AreInRange}
-use Rattle.sg_orders.proofs.Ranges.{phylum_in}
 use Rattle.sg_orders.proofs.Seating.{IsGivenAt, given_from, given_place, seat_cases, given_in_visit, visit_at, pair_low, pair_positive, visits_counted}
 use Rattle.sg_orders.proofs.Sought.{found_at, first_is, first_none}
-use Rattle.sg_orders.proofs.Sound.{attr_vertex}
 use Rattle.sg_orders.proofs.StepFacts.{position_low}
 
 -- what a search says

@@ -7,10 +7,11 @@ use Rattle.sg_kinds.specs.declared.plans.Plans.{Plans}
 use Rattle.sg_kinds.specs.declared.plans.PlanStep.{PlanStep}
 use Rattle.sg_kinds.specs.Instances.{below}
 use Rattle.sg_kinds.specs.ValidPlans.{vertices, readers_of, AreValid}
-use Rattle.sg_orders.specs.Frames.{Frame, frame_of, frames_of}
+use Rattle.sg_dependencies.specs.Frames.{frame_of, frames_of}
+use Rattle.sg_dependencies.specs.declared.frame.Frame.{Frame}
+use Rattle.sg_dependencies.proofs.Numbers.{frame_there, frames_count}
 use Rattle.sg_orders.specs.Owned.{own_of, AreOwned}
 use Rattle.sg_orders.specs.Timed.{Timing, timed, IsTiming, AreStepRows}
-use Rattle.sg_orders.proofs.Numbers.{frame_there, frames_count}
 use Rattle.sg_orders.proofs.Pushed.{push_each, row_is}
 
 -- the steps and readers of the first i operators

@@ -11,14 +11,14 @@ use Rattle.sg_kinds.specs.Layers.{IsLayering, Extended, within, layered}
 use Rattle.sg_kinds.specs.Ordered as order
 use Rattle.sg_kinds.specs.Ordered.{Leads, IsAcyclic, IsOrdered}
 use Rattle.sg_kinds.specs.Visits.{vertex}
-use Rattle.sg_orders.specs.Faults.{IsFault}
-use Rattle.sg_orders.specs.Vertices.{AreInRange, Numbered}
-use Rattle.sg_orders.specs.declared.fault.OrderFault.{OrderFault}
-use Rattle.sg_orders.specs.declared.fault.OrderFault.TheVariants.{Direct, Induced, Ordered, NoMemory}
+use Rattle.sg_dependencies.specs.Faults.{IsFault}
+use Rattle.sg_dependencies.specs.Vertices.{AreInRange, Numbered}
+use Rattle.sg_dependencies.specs.declared.fault.OrderFault.{OrderFault}
+use Rattle.sg_dependencies.specs.declared.fault.OrderFault.TheVariants.{Direct, Induced, Ordered, NoMemory}
+use Rattle.sg_dependencies.proofs.Numbers.{same_vertex}
+use Rattle.sg_dependencies.proofs.Ranges.{phylum_in}
+use Rattle.sg_dependencies.proofs.Sound.{AreVertices, direct_vertices, operator_vertices, attr_vertex}
 use Rattle.sg_orders.proofs.Extends.{acyclic_narrower}
-use Rattle.sg_orders.proofs.Numbers.{same_vertex}
-use Rattle.sg_orders.proofs.Ranges.{phylum_in}
-use Rattle.sg_orders.proofs.Sound.{AreVertices, direct_vertices, operator_vertices, attr_vertex}
 use Rattle.sg_orders.proofs.Unique.{same_layers}
 
 pub extended_vertices : (rules : Rules) → AreInRange rules → (layer : ℕ → ℕ → ℕ) (p : ℕ) (u v : Occurrence) → Extended rules layer p u v → AreVertices rules p u v

@@ -11,7 +11,7 @@ use Rattle.sg_kinds.specs.Dependencies.{IsAttr, occurrence}
 use Rattle.sg_kinds.specs.declared.plans.Plans.{Plans}
 use Rattle.sg_kinds.specs.Visits.{row_at, greatest, position_in, visit_count, given_in, least, after_all, seat, seat_by}
 use Rattle.sg_kinds.specs.ValidPlans.{pair_of, pairs, visit_of, AreVisits}
-use Rattle.sg_orders.proofs.Below.{get_or-map-below, length-map-below, length-below, get_or-below}
+use Rattle.sg_dependencies.proofs.Below.{get_or-map-below, length-map-below, length-below, get_or-below}
 use Rattle.sg_orders.proofs.Pairs.{greatest_high, greatest_one, greatest_least}
 use Rattle.sg_orders.proofs.Unique.{none_passed}
 

@@ -6,7 +6,7 @@ use Rattle.std.proofs.lemmas.List.{append-nil}
 use Rattle.std.proofs.lemmas.List.Elements.{filter-append}
 use Rattle.sg_kinds.specs.Instances.{below}
 use Rattle.sg_kinds.specs.Visits.{least}
-use Rattle.sg_orders.proofs.Below.{length-below, get_or-below, length-map-below, get_or-map-below}
+use Rattle.sg_dependencies.proofs.Below.{length-below, get_or-below, length-map-below, get_or-map-below}
 use Rattle.sg_orders.proofs.Owns.{found_push}
 use Rattle.sg_orders.proofs.Seating.{filter_has}
 

@@ -11,19 +11,19 @@ use Rattle.sg_kinds.specs.Instances.{below}
 use Rattle.sg_kinds.specs.Layers.{Extended}
 use Rattle.sg_kinds.specs.Visits.{row_at, greatest, vertex}
 use Rattle.sg_kinds.specs.ValidPlans.{pair_of, pairs, visit_of, ArePositions}
+use Rattle.sg_dependencies.specs.Faults.{AreAcyclic}
+use Rattle.sg_dependencies.specs.Induced.{relation_at}
+use Rattle.sg_dependencies.specs.Vertices.{AreInRange}
+use Rattle.sg_dependencies.proofs.Numbers.{vertex_under}
+use Rattle.sg_dependencies.proofs.Ranges.{vertices_small, attrs_small}
 use Rattle.sg_orders.specs.declared.ordering.Extension.{Extension}
 use Rattle.sg_orders.specs.Extensions.{IsExtension}
-use Rattle.sg_orders.specs.Faults.{AreAcyclic}
-use Rattle.sg_orders.specs.Induced.{relation_at}
 use Rattle.sg_orders.specs.Layerings.{layer_in}
 use Rattle.sg_orders.specs.Positions.{IsPlaceable, AreRising, AreAllRising}
 use Rattle.sg_orders.specs.Timed.{Timing, timed, IsTiming}
-use Rattle.sg_orders.specs.Vertices.{AreInRange}
 use Rattle.sg_orders.specs.VisitRows.{pair_count, visits_by}
-use Rattle.sg_orders.proofs.Numbers.{vertex_under}
 use Rattle.sg_orders.proofs.Pairs.{map_by_places}
 use Rattle.sg_orders.proofs.Pushed.{row_is}
-use Rattle.sg_orders.proofs.Ranges.{vertices_small, attrs_small}
 use Rattle.sg_orders.proofs.Refused.{no_cycle, extended_vertices}
 
 module _ (rules : Rules) (ranges : AreInRange rules) (e : Extension) (is : IsExtension rules e) where

@@ -19,7 +19,7 @@ module _ (rules : Rules) (X : ℕ) where
     ];
     closed = λ b c there e d. elim ((is.allowed a attr).closed b c there (eq-eqb (l b) (l a) (eqb-true (l b) m e ∙ sym at)) d) [
       | inl in' ↦ inl (eq-eqb (l c) m (eqb-true (l c) (l a) in' ∙ at))
-      | inr under ↦ inr (let to = Rattle.sg_orders.proofs.Sound.phylum_attrs rules X b c d in let same = lower c to.1 (omega (arith, under, at)) in omega (arith, same, under, at))
+      | inr under ↦ inr (let to = Rattle.sg_dependencies.proofs.Sound.phylum_attrs rules X b c d in let same = lower c to.1 (omega (arith, under, at)) in omega (arith, same, under, at))
     ];
   }
 
@@ -29,7 +29,7 @@ module _ (rules : Rules) (X : ℕ) where
 
   same_at : (l k : ℕ → ℕ) (m a : ℕ) → IsLayering rules X l → IsLayering rules X k → ((b : ℕ) → IsAttr rules X b → l b < m → k b ≡ l b) → ((b : ℕ) → IsAttr rules X b → k b < m → l b ≡ k b) → IsAttr rules X a → l a ≡ m → k a ≡ m
   same_at l k m a is are lower upper attr at =
-      are.largest m (λ b. nat_eq (l b) m) (let p = is.positive a attr in omega (arith, p, at)) (taken_by l k m is lower upper a attr at (λ b d. (Rattle.sg_orders.proofs.Sound.phylum_attrs rules X a b d).1)) a attr (eq-eqb (l a) m at)
+      are.largest m (λ b. nat_eq (l b) m) (let p = is.positive a attr in omega (arith, p, at)) (taken_by l k m is lower upper a attr at (λ b d. (Rattle.sg_dependencies.proofs.Sound.phylum_attrs rules X a b d).1)) a attr (eq-eqb (l a) m at)
 
   agree_below : (l k : ℕ → ℕ) (n : ℕ) → IsLayering rules X l → IsLayering rules X k → AgreeBelow l k n
   agree_below l k zero is are = record { first = λ a attr low. absurd (omega (arith, low)); second = λ a attr low. absurd (omega (arith, low)) }
@@ -79,7 +79,7 @@ module _ (rules : Rules) (X : ℕ) where
             | inr f ↦ let g = eqb-true (l b) m f in omega (arith, g)
           ];
           closed = λ b c there e d.
-              let to = Rattle.sg_orders.proofs.Sound.phylum_attrs rules X b c d in
+              let to = Rattle.sg_dependencies.proofs.Sound.phylum_attrs rules X b c d in
               let most : l c ≤ m + 2 = elim (or_cases (nat_eq (l b) (m + 2)) (nat_eq (l b) m) e) [
                 | inl f ↦ let g = eqb-true (l b) (m + 2) f in let h = after_at b c there d in omega (arith, g, h)
                 | inr f ↦ let g = eqb-true (l b) m f in let h = after_at b c there d in omega (arith, g, h)

@@ -15,12 +15,12 @@ use Rattle.sg_kinds.specs.FromScratch.{leaf_or, site_value, value_in}
 use Rattle.sg_kinds.specs.Dependencies.{IsAttr}
 use Rattle.sg_kinds.specs.ValidPlans.{AreValid}
 use Rattle.sg_kinds.specs.Visits.{row_at, visit_count}
+use Rattle.sg_dependencies.specs.Proper.{AreProper}
+use Rattle.sg_dependencies.specs.Vertices.{AreInRange}
 use Rattle.sg_orders.specs.LiveSites.{IsLive}
 use Rattle.sg_orders.specs.PlanFacts.{HasPlanFacts}
-use Rattle.sg_orders.specs.Proper.{AreProper}
 use Rattle.sg_orders.specs.StepFacts.{HasStepFacts}
 use Rattle.sg_orders.specs.Timed.{AreTimed}
-use Rattle.sg_orders.specs.Vertices.{AreInRange}
 use Rattle.sg_orders.proofs.PlanFacts as facts
 use Rattle.sg_orders.proofs.StepFacts as steps
 use Rattle.sg_orders.proofs.KeysFall as keys

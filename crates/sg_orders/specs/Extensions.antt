@@ -2,9 +2,9 @@
 use Rattle.std.specs.Prelude.{◌≡◌, ℕ, ◌<◌, length}
 use Rattle.sg_kinds.specs.declared.spec.Rules.{Rules}
 use Rattle.sg_kinds.specs.Layers.{Extended}
-use Rattle.sg_orders.specs.Induced.{relation_at}
+use Rattle.sg_dependencies.specs.Induced.{relation_at}
+use Rattle.sg_dependencies.specs.Vertices.{AreRowsOf}
 use Rattle.sg_orders.specs.Layerings.{layer_in, AreLayerings}
-use Rattle.sg_orders.specs.Vertices.{AreRowsOf}
 use Rattle.sg_orders.specs.declared.ordering.Extension.{Extension}
 
 pub record IsExtension (rules : Rules) (e : Extension) : Type 0 where

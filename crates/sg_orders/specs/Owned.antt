@@ -4,7 +4,8 @@ use Rattle.sg_kinds.specs.declared.spec.Rules.{Rules}
 use Rattle.sg_kinds.specs.declared.spec.Rule.{Rule}
 use Rattle.sg_kinds.specs.declared.spec.Occurrence.{Occurrence}
 use Rattle.sg_kinds.specs.Instances.{below}
-use Rattle.sg_orders.specs.Frames.{Frame, number_in}
+use Rattle.sg_dependencies.specs.Frames.{number_in}
+use Rattle.sg_dependencies.specs.declared.frame.Frame.{Frame}
 
 -- whether a place has an equation of p
 abbrev pub is_own : Rules → ℕ → ℕ → Bool

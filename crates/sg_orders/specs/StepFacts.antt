@@ -7,7 +7,7 @@ use Rattle.sg_kinds.specs.declared.spec.Occurrence.{Occurrence}
 use Rattle.sg_kinds.specs.Specification.{args_of}
 use Rattle.sg_kinds.specs.Visits.{position_in, after_all}
 use Rattle.sg_kinds.specs.ValidPlans.{IsStepAt}
-use Rattle.sg_orders.specs.Vertices.{IsVertex}
+use Rattle.sg_dependencies.specs.Vertices.{IsVertex}
 
 pub record HasStepFacts (rules : Rules) (plans : Plans) (p : ℕ) : Type 0 where
   -- each vertex stands before the end, and no two at one position

@@ -6,9 +6,10 @@ use Rattle.sg_kinds.specs.declared.plans.PlanStep.{PlanStep}
 use Rattle.sg_kinds.specs.Specification.{args_of, phylum_of}
 use Rattle.sg_kinds.specs.Visits.{row_at, visit_count, after_all}
 use Rattle.sg_kinds.specs.ValidPlans.{AreVisits, ArePositions, IsStepAt, AreStepsOf}
-use Rattle.sg_orders.specs.Frames.{Frame, frame_of}
-use Rattle.sg_orders.specs.Proper.{AreProper}
-use Rattle.sg_orders.specs.Vertices.{AreInRange}
+use Rattle.sg_dependencies.specs.Frames.{frame_of}
+use Rattle.sg_dependencies.specs.declared.frame.Frame.{Frame}
+use Rattle.sg_dependencies.specs.Proper.{AreProper}
+use Rattle.sg_dependencies.specs.Vertices.{AreInRange}
 pub use Rattle.sg_orders.specs.declared.timing.Timing.{Timing}
 
 -- plans with these visits and positions alone

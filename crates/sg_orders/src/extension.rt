@@ -2,16 +2,14 @@
 ghost use Rattle.std.specs.Prelude.{◌≡◌, ℕ, ◌↔◌, Bool, List, length, IfOk, OnOk};
 ghost use Rattle.sg_sets.specs.Rows.{Holds};
 ghost use Rattle.sg_kinds.specs.Dependencies.{InOperator};
-ghost use Rattle.sg_orders.specs.Faults.{AreAcyclic};
-ghost use Rattle.sg_orders.specs.Induced.{AreInduced};
-ghost use Rattle.sg_orders.specs.Layerings.{AreLayerings, IsLayered, AreLater};
-ghost use Rattle.sg_orders.specs.Rounds.{AreFitting, AreExtended};
-ghost use Rattle.sg_orders.specs.Vertices.{AreInRange};
+ghost use Rattle.sg_dependencies.specs.Faults.{AreAcyclic};
+ghost use Rattle.sg_dependencies.specs.Induced.{AreInduced};
+ghost use Rattle.sg_dependencies.specs.Rounds.{AreFitting};
+ghost use Rattle.sg_dependencies.specs.Vertices.{AreInRange};
+ghost use Rattle.sg_orders.specs.Layerings.{AreLayerings, IsLayered, AreLater, AreExtended};
 
-use crate::dependencies::Dependencies;
-use crate::frame::Frame;
 use crate::layers::layers;
-use crate::rounds::spread_all;
+use sg_dependencies::{Dependencies, Frame, spread_all};
 use sg_kinds::memory::NoMemory;
 use sg_kinds::row::Row;
 use sg_kinds::spec::Rules;

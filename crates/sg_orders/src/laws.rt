@@ -9,31 +9,22 @@ ghost use Rattle.sg_kinds.specs.Layers.{IsLayering};
 ghost use Rattle.sg_kinds.specs.Nets.{Reference, referred, net_of};
 ghost use Rattle.sg_kinds.specs.Ordered.{IsOrdered};
 ghost use Rattle.sg_kinds.specs.Places.{Place};
-ghost use Rattle.sg_kinds.specs.Sound.{AreCounted, HasShapes, HasRules};
 ghost use Rattle.sg_kinds.specs.Specification.{rules_of};
 ghost use Rattle.sg_kinds.specs.Terms.{Term};
-ghost use Rattle.sg_kinds.specs.ValidPlans.{AreValid, vertices};
-ghost use Rattle.sg_kinds.specs.Visits.{row_at, vertex, visit_count};
+ghost use Rattle.sg_kinds.specs.ValidPlans.{AreValid};
+ghost use Rattle.sg_kinds.specs.Visits.{row_at, visit_count};
 ghost use Rattle.sg_kinds.specs.declared.plans.Plans.{Plans};
 ghost use Rattle.sg_kinds.specs.declared.spec.Occurrence.{Occurrence};
 ghost use Rattle.sg_kinds.specs.declared.spec.Rules.{Rules};
 ghost use Rattle.sg_kinds.specs.declared.spec.Spec.{Spec};
-ghost use Rattle.sg_orders.specs.Faults.{IsFault};
+ghost use Rattle.sg_dependencies.specs.Faults.{IsFault};
+ghost use Rattle.sg_dependencies.specs.Proper.{AreProper};
+ghost use Rattle.sg_dependencies.specs.Vertices.{AreInRange};
+ghost use Rattle.sg_dependencies.specs.declared.fault.OrderFault.TheVariants as fault;
+ghost use Rattle.sg_dependencies.specs.declared.fault.OrderFault.{OrderFault};
 ghost use Rattle.sg_orders.specs.LiveSites.{IsLive};
 ghost use Rattle.sg_orders.specs.PlanFacts.{HasPlanFacts};
-ghost use Rattle.sg_orders.specs.Proper.{AreProper};
 ghost use Rattle.sg_orders.specs.StepFacts.{HasStepFacts};
-ghost use Rattle.sg_orders.specs.Vertices.{AreInRange, IsVertex};
-ghost use Rattle.sg_orders.specs.declared.fault.OrderFault.TheVariants as fault;
-ghost use Rattle.sg_orders.specs.declared.fault.OrderFault.{OrderFault};
-
-/// What the ordering requires of equations holds where the counts, the shapes and the equations of their
-/// specification are sound.
-#[tactic(auto, using(crate::proofs::SoundRules::sound_range, crate::proofs::SoundRules::sound_proper))]
-pub fn sound_equations()
-    ensures range { (spec : Spec) → AreCounted spec → HasShapes spec → HasRules spec → AreInRange (rules_of spec) }
-    ensures proper { (spec : Spec) → AreCounted spec → HasShapes spec → HasRules spec → AreProper (rules_of spec) }
-{}
 
 /// A phylum has at most one layering.
 pub fn unique_layers()
@@ -54,14 +45,6 @@ pub fn visits_are_counted()
         → IsAttr rules X a → 1 ≤ slice_index (row_at plans.visits X) a }
     ensures high { (rules : Rules) (plans : Plans) → AreValid rules plans → (X a : ℕ) → X < length rules.phyla
         → IsAttr rules X a → slice_index (row_at plans.visits X) a ≤ visit_count plans X }
-{}
-
-/// The numbers of an operator's vertices are below their count, and different.
-#[tactic(auto, using(crate::proofs::Numbers::vertex_under, crate::proofs::Numbers::same_vertex))]
-pub fn vertices_are_numbered()
-    ensures low { (rules : Rules) (p : ℕ) (o : Occurrence) → IsVertex rules p o → vertex rules p o < vertices rules p }
-    ensures one_each { (rules : Rules) (p : ℕ) (u v : Occurrence) → IsVertex rules p u → IsVertex rules p v
-        → vertex rules p u ≡ vertex rules p v → u ≡ v }
 {}
 
 /// No two vertices of an operator stand at one position, nor do two of its steps.

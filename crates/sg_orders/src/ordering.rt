@@ -1,23 +1,20 @@
 //! The ordering test.
 ghost use Rattle.std.specs.Prelude.{◌≡◌, IfOk, OnOk, IfErr};
-ghost use Rattle.sg_orders.specs.Extensions.{IsExtension};
-ghost use Rattle.sg_orders.specs.Faults.{AreAcyclic, IsFault};
-ghost use Rattle.sg_orders.specs.Frames.{frames_of};
-ghost use Rattle.sg_orders.specs.Layerings.{layer_in};
-ghost use Rattle.sg_orders.specs.Vertices.{AreInRange};
+ghost use Rattle.sg_dependencies.specs.Faults.{AreAcyclic, IsFault};
+ghost use Rattle.sg_dependencies.specs.Frames.{frames_of};
+ghost use Rattle.sg_dependencies.specs.Vertices.{AreInRange};
+ghost use Rattle.sg_dependencies.specs.Proper.{AreProper};
+ghost use Rattle.sg_dependencies.specs.declared.fault.OrderFault.TheVariants as fault;
 ghost use Rattle.sg_kinds.specs.Layers.{Extended};
 ghost use Rattle.sg_kinds.specs.Ordered.{IsOrdered};
 ghost use Rattle.sg_kinds.specs.ValidPlans.{AreValid};
-ghost use Rattle.sg_orders.specs.Proper.{AreProper};
-ghost use Rattle.sg_orders.specs.declared.fault.OrderFault.TheVariants as fault;
+ghost use Rattle.sg_orders.specs.Extensions.{IsExtension};
+ghost use Rattle.sg_orders.specs.Layerings.{layer_in};
 
-use crate::cycles::first_cycle;
 use crate::extension::{all_layers, extend};
-use crate::fault::OrderFault;
-use crate::frame::{Frame, frames};
-use crate::induction::{induce, operator_id};
 use crate::planning::plan;
 use crate::timing::time;
+use sg_dependencies::{Frame, OrderFault, first_cycle, frames, induce, operator_id};
 use sg_kinds::plans::Plans;
 use sg_kinds::row::Row;
 use sg_kinds::spec::Rules;

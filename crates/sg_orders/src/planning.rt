@@ -1,15 +1,15 @@
 //! The plans of ordered equations.
 ghost use Rattle.std.specs.Prelude.{◌≡◌, IfOk};
 ghost use Rattle.sg_kinds.specs.ValidPlans.{AreValid};
-ghost use Rattle.sg_orders.specs.Frames.{frames_of};
-ghost use Rattle.sg_orders.specs.Proper.{AreProper};
+ghost use Rattle.sg_dependencies.specs.Frames.{frames_of};
+ghost use Rattle.sg_dependencies.specs.Proper.{AreProper};
+ghost use Rattle.sg_dependencies.specs.Vertices.{AreInRange};
 ghost use Rattle.sg_orders.specs.Timed.{IsTiming};
-ghost use Rattle.sg_orders.specs.Vertices.{AreInRange};
 
-use crate::frame::Frame;
 use crate::readers::{owned, readers};
 use crate::steps::{Scene, behind, steps};
 use crate::timing::Timing;
+use sg_dependencies::Frame;
 use sg_kinds::memory::NoMemory;
 use sg_kinds::plans::Plans;
 use sg_kinds::row::Row;

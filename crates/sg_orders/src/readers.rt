@@ -3,14 +3,13 @@ ghost use Rattle.std.specs.Prelude.{◌≡◌, ℕ, ◌<◌, ◌^◌, false, ◌
 ghost use Rattle.sg_kinds.specs.Instances.{below};
 ghost use Rattle.sg_kinds.specs.ValidPlans.{vertices, readers_of};
 ghost use Rattle.sg_kinds.specs.declared.spec.Rule.{Rule as IsRule};
-ghost use Rattle.sg_orders.specs.Frames.{frame_of};
+ghost use Rattle.sg_dependencies.specs.Frames.{frame_of};
+ghost use Rattle.sg_dependencies.specs.Rounds.{IsNumberedBelow};
+ghost use Rattle.sg_dependencies.specs.Vertices.{AreInRange};
 ghost use Rattle.sg_orders.specs.Owned.{own_of, has_number, only_where, AreOwned};
-ghost use Rattle.sg_orders.specs.Rounds.{IsNumberedBelow};
-ghost use Rattle.sg_orders.specs.Vertices.{AreInRange};
 
-use crate::direct::operator;
-use crate::frame::Frame;
 use crate::grown::{empties, push_at};
+use sg_dependencies::{Frame, operator};
 use sg_kinds::ids::RuleId;
 use sg_kinds::memory::NoMemory;
 use sg_kinds::row::{Row, item};

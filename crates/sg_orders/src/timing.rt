@@ -1,11 +1,11 @@
 //! The visits of all attributes and the positions of all vertices.
 ghost use Rattle.std.specs.Prelude.{IfOk};
 ghost use Rattle.sg_kinds.specs.Layers.{Extended};
+ghost use Rattle.sg_dependencies.specs.Faults.{AreAcyclic};
+ghost use Rattle.sg_dependencies.specs.Vertices.{AreInRange};
 ghost use Rattle.sg_orders.specs.Extensions.{IsExtension};
-ghost use Rattle.sg_orders.specs.Faults.{AreAcyclic};
 ghost use Rattle.sg_orders.specs.Layerings.{layer_in};
 ghost use Rattle.sg_orders.specs.Timed.{IsTiming};
-ghost use Rattle.sg_orders.specs.Vertices.{AreInRange};
 
 use crate::ordering::Extension;
 use crate::positions::all_positions;

@@ -18,11 +18,11 @@ use Rattle.sg_kinds.specs.Nets.{Net, Reference, Operation, Holding, phylum_at, r
 use Rattle.sg_kinds.specs.Instances.{Site, rule_for, rule_under, site_at, site_above, is_inherited_at, site_of}
 use Rattle.sg_kinds.specs.Dependencies.{is_inherited_there, occurrence}
 use Rattle.sg_kinds.specs.Keys.{operation, operator_in}
+use Rattle.sg_dependencies.specs.Proper.{is_owed, IsOwed, AreProper}
+use Rattle.sg_dependencies.specs.Vertices.{IsVertex, AreInRange}
+use Rattle.sg_dependencies.proofs.SoundRules.{sound_range, sound_proper}
 use Rattle.sg_orders.specs.LiveSites.{IsLive}
-use Rattle.sg_orders.specs.Proper.{is_owed, IsOwed, AreProper}
-use Rattle.sg_orders.specs.Vertices.{IsVertex, AreInRange}
 use Rattle.sg_orders.proofs.KeysFall.{IsSiteAt, site_found}
-use Rattle.sg_orders.proofs.SoundRules.{sound_range, sound_proper}
 use Rattle.sg_plans.specs.Segments.{bearer}
 use Rattle.sg_plans.proofs.Equations.{rule_is, owed_rule, leaf_inherits_nothing}
 use Rattle.sg_plans.proofs.Nodes.{IsNodeAt, node_label, not_held, leaf_fits, leaf_or_node, fitting_phylum, node_at}

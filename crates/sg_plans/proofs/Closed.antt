@@ -15,14 +15,14 @@ use Rattle.sg_kinds.specs.Dependencies.{is_inherited_there, IsAttr, phylum_there
 use Rattle.sg_kinds.specs.Keys.{operation, operator_in}
 use Rattle.sg_kinds.specs.declared.plans.Plans.{Plans}
 use Rattle.sg_kinds.specs.Visits.{row_at, belongs, seat, position_in, visit_count}
+use Rattle.sg_dependencies.specs.Proper.{is_owed}
+use Rattle.sg_dependencies.specs.Vertices.{IsVertex, AreInRange}
+use Rattle.sg_dependencies.proofs.Numbers.{some_attr}
+use Rattle.sg_dependencies.proofs.Sound.{attr_vertex}
 use Rattle.sg_orders.specs.LiveSites.{IsLive}
-use Rattle.sg_orders.specs.Proper.{is_owed}
 use Rattle.sg_orders.specs.Timed.{AreTimed}
-use Rattle.sg_orders.specs.Vertices.{IsVertex, AreInRange}
 use Rattle.sg_orders.proofs.KeysFall.{inherited_attr}
-use Rattle.sg_orders.proofs.Numbers.{some_attr}
 use Rattle.sg_orders.proofs.PlanFacts.{named_before, belongs_itself, inherited_by, inherited_before_seat, seat_before, seat_rises}
-use Rattle.sg_orders.proofs.Sound.{attr_vertex}
 use Rattle.sg_orders.proofs.ValidFacts.{valid_timed}
 use Rattle.sg_plans.specs.Planned.{IsPlanned}
 use Rattle.sg_plans.specs.Segments.{position_at, visit_at, position_of, IsOfVisit, IsGivenBy, IsTaken, IsLeafSlot}

@@ -12,9 +12,9 @@ use Rattle.sg_kinds.specs.Instances.{below}
 use Rattle.sg_kinds.specs.ValidPlans.{AreValid, vertices, names, readers_of}
 use Rattle.sg_kinds.specs.Visits.{row_at, vertex}
 use Rattle.sg_kinds.proofs.Elementary.{some_there, slice_get-Contains}
-use Rattle.sg_orders.specs.Vertices.{IsVertex, AreInRange}
-use Rattle.sg_orders.proofs.Below.{length-below, get_or-below, get_or-map-below}
-use Rattle.sg_orders.proofs.Numbers.{same_vertex}
+use Rattle.sg_dependencies.specs.Vertices.{IsVertex, AreInRange}
+use Rattle.sg_dependencies.proofs.Below.{length-below, get_or-below, get_or-map-below}
+use Rattle.sg_dependencies.proofs.Numbers.{same_vertex}
 use Rattle.sg_orders.proofs.Seating.{filter_has}
 use Rattle.sg_orders.proofs.Sought.{found_at}
 use Rattle.sg_plans.specs.Reading.{IsReader}

@@ -20,8 +20,8 @@ use Rattle.sg_kinds.specs.ValidPlans.{IsStepAt, AreStepsOf}
 use Rattle.sg_kinds.specs.declared.plans.Plans.{Plans}
 use Rattle.sg_kinds.specs.Visits.{row_at, belongs, seat, position_in, visit_count}
 use Rattle.sg_kinds.proofs.Elementary.{slice_get-Contains}
+use Rattle.sg_dependencies.specs.Vertices.{AreInRange}
 use Rattle.sg_orders.specs.LiveSites.{IsLive}
-use Rattle.sg_orders.specs.Vertices.{AreInRange}
 use Rattle.sg_orders.proofs.StepFacts.{IsVisitAt, eval_at, visit_at, step_of_eval, step_of_visit, one_position}
 use Rattle.sg_plans.specs.Planned.{IsPlanned}
 use Rattle.sg_plans.specs.Segments as segments

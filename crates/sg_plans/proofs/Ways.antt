@@ -14,8 +14,8 @@ use Rattle.sg_kinds.specs.Keys.{operator_in}
 use Rattle.sg_kinds.specs.ValidPlans.{AreValid}
 use Rattle.sg_kinds.specs.declared.plans.Plans.{Plans}
 use Rattle.sg_kinds.specs.Visits.{visit_count, belongs, seat}
+use Rattle.sg_dependencies.specs.Vertices.{AreInRange}
 use Rattle.sg_orders.specs.Timed.{AreTimed}
-use Rattle.sg_orders.specs.Vertices.{AreInRange}
 use Rattle.sg_orders.proofs.PlanFacts.{belonging, belongs_rises, seat_rises}
 use Rattle.sg_orders.proofs.ValidFacts.{valid_timed}
 use Rattle.sg_plans.specs.Segments.{position_at, visit_at, position_of, IsOfVisit}

@@ -3,7 +3,7 @@ ghost use Rattle.std.specs.Prelude.{◌≡◌, ◌↔◌, ◌-◌, ◌<◌, ◌�
 ghost use Rattle.sg_kinds.specs.Specification.{phylum_of, rules_of};
 ghost use Rattle.sg_kinds.specs.ValidPlans.{AreValid, readers_of};
 ghost use Rattle.sg_kinds.specs.Visits.{row_at, vertex, visit_count as visit_count_of};
-ghost use Rattle.sg_orders.specs.Vertices.{AreInRange, IsVertex};
+ghost use Rattle.sg_dependencies.specs.Vertices.{AreInRange, IsVertex};
 ghost use Rattle.sg_plans.specs.Reading.{IsReader};
 ghost use Rattle.sg_plans.specs.Stepping.{steps_of};
 

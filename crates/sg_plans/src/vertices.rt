@@ -3,7 +3,7 @@ ghost use Rattle.std.specs.Prelude.{◌≡◌, suc, ◌<◌, ◌≤◌, Some, le
 ghost use Rattle.sg_kinds.specs.Instances.{attr_count};
 ghost use Rattle.sg_kinds.specs.Specification.{args_of, rules_of};
 ghost use Rattle.sg_kinds.specs.Visits.{attrs_before, vertex};
-ghost use Rattle.sg_orders.specs.Vertices.{IsVertex, AreInRange};
+ghost use Rattle.sg_dependencies.specs.Vertices.{IsVertex, AreInRange};
 
 use sg_kinds::ids::{OpId, PhylumId};
 use sg_kinds::row::item;

@@ -19,7 +19,7 @@ use Rattle.sg_groves.specs.Grove.{Grove, nodes, IsGrove}
 use Rattle.sg_groves.specs.Stored.{number_at, value_there}
 use Rattle.sg_pool.specs.Pools.{value_at}
 use Rattle.sg_kinds.specs.Evaluation.{untyped}
-use Rattle.sg_orders.specs.Vertices.{IsVertex, locals_there}
+use Rattle.sg_dependencies.specs.Vertices.{IsVertex, locals_there}
 use Rattle.sg_terms.specs.Found.{op_at}
 use Rattle.sg_terms.specs.Occurrences.{node_there}
 use Rattle.sg_attrib.proofs.Nodes.{operation_is}

@@ -21,7 +21,7 @@ use Rattle.sg_groves.specs.Grove.{Grove, nodes, IsGrove}
 use Rattle.sg_groves.specs.Stored.{value_there}
 use Rattle.sg_groves.proofs.Lists.{map_from, map_to}
 use Rattle.sg_groves.proofs.Ways.{one_node}
-use Rattle.sg_orders.specs.Vertices.{locals_there}
+use Rattle.sg_dependencies.specs.Vertices.{locals_there}
 use Rattle.sg_plans.specs.Planned.{IsPlanned}
 use Rattle.sg_plans.specs.Segments.{IsOutside}
 use Rattle.sg_plans.proofs.Nodes.{fitting_phylum, node_at}

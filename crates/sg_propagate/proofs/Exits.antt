@@ -10,7 +10,7 @@ use Rattle.sg_kinds.specs.declared.spec.Attr.{Attr}
 use Rattle.sg_kinds.specs.declared.spec.Local.{Local}
 use Rattle.std.proofs.lemmas.List.{length-map}
 use Rattle.sg_kinds.specs.declared.spec.Spec.{Spec}
-use Rattle.sg_orders.specs.Vertices.{IsVertex, locals_there}
+use Rattle.sg_dependencies.specs.Vertices.{IsVertex, locals_there}
 use Rattle.sg_forest.specs.Node as forest
 use Rattle.sg_forest.specs.Trees.{IsChild}
 use Rattle.sg_groves.specs.declared.kind.Kind.{Kind}

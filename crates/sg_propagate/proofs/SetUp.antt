@@ -28,7 +28,7 @@ use Rattle.sg_groves.specs.IsRight.{IsRight}
 use Rattle.sg_groves.specs.Stored.{number_at, value_there}
 use Rattle.sg_groves.proofs.Held.{held_fits, node_held, one_term, part_held}
 use Rattle.sg_groves.proofs.Ways.{one_node, one_way}
-use Rattle.sg_orders.specs.Vertices.{IsVertex}
+use Rattle.sg_dependencies.specs.Vertices.{IsVertex}
 use Rattle.sg_plans.specs.Planned.{IsPlanned}
 use Rattle.sg_plans.specs.Segments.{IsLeafSlot, IsNodeAt, IsOutside, bearer}
 use Rattle.sg_plans.proofs.Bearers.{bearer_found, found_bears, found_live, owed_site}

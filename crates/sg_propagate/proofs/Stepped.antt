@@ -21,7 +21,7 @@ use Rattle.sg_forest.specs.Trees.{Climbs}
 use Rattle.sg_groves.specs.Grove.{Grove, nodes, IsGrove}
 use Rattle.sg_groves.specs.Holds.{IsPlaced}
 use Rattle.sg_groves.proofs.Frames.{only_climbed, only_itself, only_more, only_twice}
-use Rattle.sg_orders.specs.Vertices.{IsVertex}
+use Rattle.sg_dependencies.specs.Vertices.{IsVertex}
 use Rattle.sg_plans.specs.Planned.{IsPlanned}
 use Rattle.sg_plans.specs.Segments.{HasVisit, IsGivenBy, IsLeafSlot}
 use Rattle.sg_plans.specs.Stepping.{IsGivenBefore, IsOfStep, IsReady, leaf, taken, earlier, before, steps_of}

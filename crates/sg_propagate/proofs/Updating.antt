@@ -27,8 +27,8 @@ use Rattle.sg_groves.specs.Stored.{number_at, value_there}
 use Rattle.sg_groves.specs.Unchanged.{OnlyStored}
 use Rattle.sg_groves.proofs.Frames.{only_climbs, number_stands}
 use Rattle.sg_groves.proofs.Ways.{one_node, one_way}
-use Rattle.sg_orders.specs.Vertices.{IsVertex}
-use Rattle.sg_orders.proofs.SoundRules.{sound_range}
+use Rattle.sg_dependencies.specs.Vertices.{IsVertex}
+use Rattle.sg_dependencies.proofs.SoundRules.{sound_range}
 use Rattle.sg_plans.specs.Planned.{IsPlanned}
 use Rattle.sg_plans.specs.Segments.{bearer}
 use Rattle.sg_plans.proofs.Bearers.{bearer_found, found_bears}

@@ -2,7 +2,7 @@
 ghost use Rattle.std.specs.Prelude.{◌≡◌, ◌↔◌, Some, Contains, IsTrue, slice_get};
 ghost use Rattle.sg_kinds.specs.Specification.{rules_of};
 ghost use Rattle.sg_kinds.specs.declared.spec.Rule.{Rule};
-ghost use Rattle.sg_orders.specs.Vertices.{IsVertex};
+ghost use Rattle.sg_dependencies.specs.Vertices.{IsVertex};
 ghost use Rattle.sg_terms.specs.Found.{op_at};
 ghost use Rattle.sg_propagate.specs.Scenes.{AreTops, ShowsOther};
 

@@ -2,7 +2,7 @@
 ghost use Rattle.std.specs.Prelude.{◌≡◌, ◌<◌, ◌^◌, ℕ, true, length, Some, Contains, IfOk, OnOk};
 ghost use Rattle.sg_kinds.specs.Dependencies.{IsAttr};
 ghost use Rattle.sg_kinds.specs.Specification.{attrs_of, is_inherited, rules_of};
-ghost use Rattle.sg_orders.specs.Vertices.{AreInRange};
+ghost use Rattle.sg_dependencies.specs.Vertices.{AreInRange};
 ghost use Rattle.sg_forest.specs.Trees.{IsBelow, IsInside, IsLive, IsRoot};
 ghost use Rattle.sg_groves.specs.Grove.{nodes};
 ghost use Rattle.sg_groves.specs.Stored.{number_at};

@@ -23,7 +23,7 @@ use Rattle.sg_kinds.specs.declared.fault.PrintedSymbol.TheVariants.{End, Marker,
 use Rattle.sg_kinds.proofs.Elementary.{slice_get-seam}
 use Rattle.sg_patterns.specs.Lexemes.{literals_of}
 use Rattle.sg_grammar.specs.Numbered.{first_literal, first_lexeme, first_nonterminal, lexeme_number, symbol_number}
-use Rattle.sg_orders.proofs.Below.{length-below, get_or-below}
+use Rattle.sg_dependencies.proofs.Below.{length-below, get_or-below}
 use Rattle.sg_reports.specs.Symbols.{marker_of, lexeme_symbols, nonterminal_symbols, printed_symbols, symbol_in}
 use Rattle.sg_reports.proofs.VertexLaws.{mapped_there}
 

@@ -14,8 +14,8 @@ use Rattle.sg_kinds.specs.declared.fault.PrintedVertex.TheVariants.{Own, Argumen
 use Rattle.sg_kinds.specs.Instances.{attr_count}
 use Rattle.sg_kinds.specs.Dependencies.{phylum_there, occurrence}
 use Rattle.sg_kinds.specs.Visits.{attrs_before, attrs_here, vertex}
-use Rattle.sg_orders.proofs.Framed.{args_are, phylum_is}
-use Rattle.sg_orders.proofs.Numbers.{number_attr, number_local}
+use Rattle.sg_dependencies.proofs.Framed.{args_are, phylum_is}
+use Rattle.sg_dependencies.proofs.Numbers.{number_attr, number_local}
 use Rattle.sg_reports.specs.Vertices.{occurrence_vertices, argument_vertices, vertices_of, printed_vertices, vertex_in}
 
 -- what stands in a list stands in its picture

@@ -4,8 +4,8 @@ use Rattle.sg_kinds.specs.declared.spec.Spec.{Spec}
 use Rattle.sg_kinds.specs.declared.fault.SpecFault.{SpecFault}
 use Rattle.sg_kinds.specs.declared.fault.SpecFault.TheVariants as fault
 use Rattle.sg_ast.specs.Declarations.{Decl}
-use Rattle.sg_orders.specs.declared.fault.OrderFault.{OrderFault}
-use Rattle.sg_orders.specs.declared.fault.OrderFault.TheVariants.{Direct, Induced, Ordered, NoMemory}
+use Rattle.sg_dependencies.specs.declared.fault.OrderFault.{OrderFault}
+use Rattle.sg_dependencies.specs.declared.fault.OrderFault.TheVariants.{Direct, Induced, Ordered, NoMemory}
 use Rattle.sg_reports.specs.Places.{place_in, operator_places}
 use Rattle.sg_reports.specs.Vertices.{printed_cycle, operator_name}
 

@@ -14,7 +14,7 @@ use sg_kinds::memory::NoMemory;
 use sg_kinds::row::Row;
 use sg_kinds::spec::Spec;
 use sg_kinds::text::Text;
-use sg_orders::OrderFault;
+use sg_dependencies::OrderFault;
 use std::alloc::Global;
 
 /// What is printed of an operator with a cycle: its place, its name, the cycle.

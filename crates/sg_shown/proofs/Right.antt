@@ -20,8 +20,8 @@ use Rattle.sg_groves.specs.Grove.{Grove, IsGrove}
 use Rattle.sg_groves.specs.Holds.{IsPlaced}
 use Rattle.sg_groves.specs.Stored.{number_at, value_there}
 use Rattle.sg_groves.proofs.Held.{one_term}
-use Rattle.sg_orders.specs.Proper.{is_owed}
-use Rattle.sg_orders.specs.Vertices.{IsVertex}
+use Rattle.sg_dependencies.specs.Proper.{is_owed}
+use Rattle.sg_dependencies.specs.Vertices.{IsVertex}
 use Rattle.sg_plans.proofs.Nodes.{node_label}
 use Rattle.sg_plans.proofs.Bearers.{owed_site}
 use Rattle.sg_attrib.proofs.Nodes.{label_op}

@@ -30,7 +30,7 @@ use Rattle.sg_groves.specs.Holds.{Holds, IsPlaced}
 use Rattle.sg_groves.specs.IsRight.{IsRight}
 use Rattle.sg_groves.specs.Stored.{number_at, value_there}
 use Rattle.sg_groves.proofs.Held.{one_term, node_held}
-use Rattle.sg_orders.specs.Vertices.{IsVertex}
+use Rattle.sg_dependencies.specs.Vertices.{IsVertex}
 use Rattle.sg_plans.proofs.Nodes.{IsNodeAt, node_label, node_at, some_term, leaf_or_node, fitting_phylum, below_at}
 use Rattle.sg_plans.proofs.Bearers.{owed_site}
 use Rattle.sg_terms.specs.Found.{op_at}

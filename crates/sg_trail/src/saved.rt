@@ -2,7 +2,7 @@
 ghost use Rattle.std.specs.Prelude.{◌≡◌, ◌<◌, ◌^◌, ℕ, Some, Contains, length, OnOk};
 ghost use Rattle.sg_kinds.specs.Specification.{args_of, rules_of};
 ghost use Rattle.sg_kinds.specs.Typing.{slots_there};
-ghost use Rattle.sg_orders.specs.Vertices.{AreInRange};
+ghost use Rattle.sg_dependencies.specs.Vertices.{AreInRange};
 ghost use Rattle.sg_forest.specs.Trees.{IsLive};
 ghost use Rattle.sg_groves.specs.Grove.{nodes};
 ghost use Rattle.sg_groves.specs.Stored.{number_at};

@@ -1,9 +1,6 @@
-//! Trials over accepted specifications: what their records hold, their plans and tables, typed-in texts, terms, and
-//! calls that may answer want of memory where memory is ample.
+//! Trials over accepted specifications: what their records hold, and their plans.
 #![tactic(auto)]
 
-#[cfg(test)]
-mod entering;
 #[cfg(test)]
 mod language;
 #[cfg(test)]
@@ -12,5 +9,3 @@ mod loading;
 mod plans;
 #[cfg(test)]
 mod records;
-#[cfg(test)]
-mod terms;

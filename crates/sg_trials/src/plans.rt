@@ -3,9 +3,6 @@
 use crate::language::language;
 use crate::loading::loaded;
 use sg_kinds::plans::{PlanStep, Plans};
-use sg_kinds::spec::Rules;
-use sg_load::Loaded;
-use sg_orders::{is_in_range, is_proper, order};
 use std::fmt::Write;
 use std::process::Abort;
 
@@ -90,29 +87,9 @@ fn assert_plans(rt: &(impl Abort + AllocGlobal), plans: &Plans) {
     assert_eq!(rt; out.as_str(), READERS);
 }
 
-/// A copy of the rules of a language.
-fn rules_of(rt: &(impl Abort + AllocGlobal), loaded: &Loaded) -> Rules {
-    let spec = loaded.spec.copy(rt.alloc()).expect(rt, "a copy");
-    Rules {
-        phyla: spec.phyla,
-        ops: spec.ops,
-        exprs: spec.exprs,
-        rules: spec.rules,
-    }
-}
-
 #[test]
 fn plans_of_a_language_of_two_visits(rt: HostRuntime) {
     let loaded = loaded(&rt, language());
     let plans = loaded.plans.copy(rt.alloc()).expect(&rt, "a copy");
     assert_plans(&rt, &plans);
-}
-
-#[test]
-fn the_order_of_a_record_alone(rt: HostRuntime) {
-    let loaded = loaded(&rt, language());
-    let rules = rules_of(&rt, &loaded);
-    assert!(rt; is_in_range(&rules));
-    assert!(rt; is_proper(rt.alloc(), &rules).expect(&rt, "memory"));
-    assert!(rt; order(rt.alloc(), &rules).is_ok());
 }

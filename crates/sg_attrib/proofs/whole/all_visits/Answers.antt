@@ -12,7 +12,7 @@ use Rattle.sg_forest.specs.declared.node_id.NodeId.{NodeId}
 use Rattle.sg_forest.specs.Trees.{IsRoot}
 use Rattle.sg_groves.specs.declared.kind.Kind.{Kind}
 use Rattle.sg_groves.specs.Grove.{Grove, nodes, IsGrove}
-use Rattle.sg_orders.proofs.SoundRules.{sound_range}
+use Rattle.sg_dependencies.proofs.SoundRules.{sound_range}
 use Rattle.sg_attrib.specs.Visited.{Gives, HasEquation, IsGiven, IsGivenUpTo, IsKnown, IsNothing}
 use Rattle.sg_attrib.proofs.Attributed.{no_visits, next_visit, all_visits, some_visits, leaf_visits}
 use Rattle.sg_attrib.proofs.Calls.{op_there, count_is}

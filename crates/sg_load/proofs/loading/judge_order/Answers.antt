@@ -1,9 +1,9 @@
 use Rattle.std.proofs.Common.{sym, subst}
 use Rattle.sg_kinds.specs.Ordered.{IsOrdered}
 use Rattle.sg_ast.specs.View.{trees_of}
-use Rattle.sg_orders.specs.Vertices.{AreInRange}
-use Rattle.sg_orders.specs.Proper.{AreProper}
-use Rattle.sg_orders.proofs.SoundRules.{sound_range, sound_proper}
+use Rattle.sg_dependencies.specs.Vertices.{AreInRange}
+use Rattle.sg_dependencies.specs.Proper.{AreProper}
+use Rattle.sg_dependencies.proofs.SoundRules.{sound_range, sound_proper}
 use Rattle.sg_load.proofs.Phases.{no_order_fault, found_order_fault, joined_back}
 use Rattle.sg_load.proofs.loading.judge_order.Goals as goal
 

@@ -2,9 +2,9 @@ use Rattle.std.specs.Prelude.{◌≡◌, ◌↔◌, ◌⊎◌, ℕ, ◌<◌, [],
 use Rattle.std.proofs.Common.{sym, ap, ◌∙◌, subst, get_or, arith}
 use Rattle.std.proofs.lemmas.List.{get_or_default}
 use Rattle.sg_sets.specs.Rows.{Holds}
-use Rattle.sg_orders.specs.Frames.{Frame}
-use Rattle.sg_orders.specs.Induced.{relation_at}
-use Rattle.sg_orders.specs.Rounds.{Fits, IsSpread, frame_at, no_frame}
+use Rattle.sg_dependencies.specs.declared.frame.Frame.{Frame}
+use Rattle.sg_dependencies.specs.Induced.{relation_at}
+use Rattle.sg_dependencies.specs.Rounds.{Fits, IsSpread, frame_at, no_frame}
 use Rattle.sg_orders.proofs.Later.{extended_more}
 use Rattle.sg_orders.proofs.extension.spread_each.Goals as goal
 

@@ -1,11 +1,11 @@
 use Rattle.std.specs.Prelude.{◌≡◌, IfErr}
 use Rattle.std.proofs.lemmas.Result.{IfErr-weaker}
 use Rattle.sg_kinds.specs.Ordered.{IsOrdered}
-use Rattle.sg_orders.specs.Faults.{IsFault}
-use Rattle.sg_orders.specs.declared.fault.OrderFault.TheVariants as fault
+use Rattle.sg_dependencies.specs.Faults.{IsFault}
+use Rattle.sg_dependencies.specs.declared.fault.OrderFault.TheVariants as fault
 use Rattle.std.proofs.Common.{rules}
+use Rattle.sg_dependencies.proofs.Ranges.{vertices_small}
 use Rattle.sg_orders.specs.Layerings.{layer_in}
-use Rattle.sg_orders.proofs.Ranges.{vertices_small}
 use Rattle.sg_orders.proofs.Refused.{refused}
 use Rattle.sg_orders.proofs.ordering.order.Goals as goal
 

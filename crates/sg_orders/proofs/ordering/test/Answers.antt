@@ -4,13 +4,13 @@ use Rattle.std.proofs.lemmas.List.{with_items_is}
 use Rattle.sg_sets.specs.Cycles.{HasNoCycle}
 use Rattle.sg_sets.specs.Rows.{Holds}
 use Rattle.sg_kinds.specs.Layers.{Extended}
-use Rattle.sg_orders.specs.Faults.{IsFirst}
-use Rattle.sg_orders.specs.Induced.{relation_at}
+use Rattle.sg_dependencies.specs.Faults.{IsFirst}
+use Rattle.sg_dependencies.specs.Induced.{relation_at}
+use Rattle.sg_dependencies.specs.Rounds.{IsFirstCycle, AreFitting}
+use Rattle.sg_dependencies.specs.Vertices.{AreRowsOf}
+use Rattle.sg_dependencies.proofs.Reports.{all_acyclic, first_by}
 use Rattle.sg_orders.specs.Layerings.{layer_in, AreLater}
-use Rattle.sg_orders.specs.Rounds.{IsFirstCycle, AreFitting}
-use Rattle.sg_orders.specs.Vertices.{AreRowsOf}
 use Rattle.sg_orders.proofs.Extends.{AreExtendedRows, all_extended, fitting_later, acyclic_direct}
-use Rattle.sg_orders.proofs.Reports.{all_acyclic, first_by}
 use Rattle.sg_orders.proofs.ordering.test.Goals as goal
 
 pub extend-requires : goal.extend-requires

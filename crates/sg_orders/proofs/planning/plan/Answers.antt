@@ -1,6 +1,6 @@
 use Rattle.std.specs.Prelude.{◌≡◌, ◌<◌, length}
 use Rattle.std.proofs.Common.{ap, arith, rules}
-use Rattle.sg_orders.proofs.Numbers.{frames_count}
+use Rattle.sg_dependencies.proofs.Numbers.{frames_count}
 use Rattle.sg_orders.proofs.Plans.{next_operator, planned_more, valid_by}
 use Rattle.sg_orders.proofs.planning.plan.Goals as goal
 

@@ -1,7 +1,7 @@
 use Rattle.std.specs.Prelude.{◌<◌, length}
 use Rattle.std.proofs.Common.{ap, ◌∙◌, get_or, arith}
 use Rattle.std.proofs.lemmas.List.{get_or_default}
-use Rattle.sg_orders.specs.Frames.{number_in}
+use Rattle.sg_dependencies.specs.Frames.{number_in}
 use Rattle.sg_orders.proofs.Owns.{IsNoted, noted_new, noted_again}
 use Rattle.sg_orders.proofs.readers.note.Goals as goal
 use Rattle.sg_orders.proofs.readers.note.Goals.{then-insert+in_ok-push_at, else-insert}

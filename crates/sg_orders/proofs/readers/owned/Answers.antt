@@ -1,7 +1,7 @@
 use Rattle.std.specs.Prelude.{◌+◌, [], ◌∷◌, ◌++◌, length}
 use Rattle.std.proofs.Common.{sym, ap, ◌∙◌, subst, get_or, set, arith, length-set}
 use Rattle.std.proofs.lemmas.List.{with_items_is}
-use Rattle.sg_orders.proofs.Directs.{at_rule}
+use Rattle.sg_dependencies.proofs.Directs.{at_rule}
 use Rattle.sg_orders.proofs.Owns.{OwnedTo, owned_more}
 use Rattle.sg_orders.proofs.readers.owned.Goals as goal
 

@@ -1,11 +1,12 @@
 use Rattle.std.specs.Prelude.{◌≡◌, ℕ, ◌+◌, ◌<◌, [], ◌++◌, length, All}
 use Rattle.std.proofs.Common.{sym, ap, ◌∙◌, subst, get_or, arith}
 use Rattle.std.proofs.lemmas.List.{with_items_is}
-use Rattle.sg_orders.specs.Frames.{Frame, frame_of}
+use Rattle.sg_dependencies.specs.Frames.{frame_of}
+use Rattle.sg_dependencies.specs.declared.frame.Frame.{Frame}
+use Rattle.sg_dependencies.specs.Rounds.{IsNumberedBelow}
+use Rattle.sg_dependencies.proofs.Directs.{numbered_below}
+use Rattle.sg_dependencies.proofs.Ranges.{vertices_small}
 use Rattle.sg_orders.specs.Owned.{has_number, only_where}
-use Rattle.sg_orders.specs.Rounds.{IsNumberedBelow}
-use Rattle.sg_orders.proofs.Directs.{numbered_below}
-use Rattle.sg_orders.proofs.Ranges.{vertices_small}
 use Rattle.sg_orders.proofs.Owns.{ReadersTo, next_own, readers_more, readers_all, own_at}
 use Rattle.sg_orders.proofs.readers.readers.Goals as goal
 

@@ -3,9 +3,9 @@ use Rattle.std.proofs.Common.{sym, ap, ◌∙◌, subst, arith}
 use Rattle.sg_kinds.specs.Specification.{rules_of}
 use Rattle.sg_kinds.specs.ValidPlans.{vertices, readers_of}
 use Rattle.sg_kinds.specs.Visits.{vertex}
-use Rattle.sg_orders.proofs.Below.{length-map-below}
-use Rattle.sg_orders.proofs.Directs.{op_there}
-use Rattle.sg_orders.proofs.Numbers.{vertex_under}
+use Rattle.sg_dependencies.proofs.Below.{length-map-below}
+use Rattle.sg_dependencies.proofs.Directs.{op_there}
+use Rattle.sg_dependencies.proofs.Numbers.{vertex_under}
 use Rattle.sg_plans.specs.Reading.{IsReader}
 use Rattle.sg_plans.proofs.Rows.{rows_read, readers_at, reader_is}
 use Rattle.sg_plans.proofs.reading.readers.Goals as goal

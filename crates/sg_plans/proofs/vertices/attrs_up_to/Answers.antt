@@ -4,8 +4,8 @@ use Rattle.sg_kinds.specs.Specification.{args_of, rules_of}
 use Rattle.sg_kinds.specs.Instances.{attr_count}
 use Rattle.sg_kinds.specs.Dependencies.{phylum_there}
 use Rattle.sg_kinds.specs.Visits.{attrs_before}
-use Rattle.sg_orders.proofs.Framed.{args_are, phylum_is, framed_fits}
-use Rattle.sg_orders.proofs.Ranges.{vertices_small}
+use Rattle.sg_dependencies.proofs.Framed.{args_are, phylum_is, framed_fits}
+use Rattle.sg_dependencies.proofs.Ranges.{vertices_small}
 use Rattle.sg_plans.proofs.vertices.attrs_up_to.Goals as goal
 
 pub loop-i-init : goal.loop-i-init

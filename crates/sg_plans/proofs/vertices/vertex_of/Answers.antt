@@ -7,11 +7,11 @@ use Rattle.sg_kinds.specs.Specification.{args_of, rules_of}
 use Rattle.sg_kinds.specs.Dependencies.{phylum_there}
 use Rattle.sg_kinds.specs.ValidPlans.{vertices}
 use Rattle.sg_kinds.specs.Visits.{attrs_before, vertex}
-use Rattle.sg_orders.specs.Vertices.{IsVertex}
-use Rattle.sg_orders.proofs.Directs.{op_there}
-use Rattle.sg_orders.proofs.Framed.{args_are, phylum_is}
-use Rattle.sg_orders.proofs.Numbers.{split_vertex, vertex_under}
-use Rattle.sg_orders.proofs.Ranges.{vertices_small}
+use Rattle.sg_dependencies.specs.Vertices.{IsVertex}
+use Rattle.sg_dependencies.proofs.Directs.{op_there}
+use Rattle.sg_dependencies.proofs.Framed.{args_are, phylum_is}
+use Rattle.sg_dependencies.proofs.Numbers.{split_vertex, vertex_under}
+use Rattle.sg_dependencies.proofs.Ranges.{vertices_small}
 use Rattle.sg_plans.proofs.vertices.vertex_of.Goals as goal
 
 -- the number of an attribute of an argument

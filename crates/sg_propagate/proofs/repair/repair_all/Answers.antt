@@ -7,7 +7,7 @@ use Rattle.sg_kinds.specs.Visits.{visit_count}
 use Rattle.sg_kinds.specs.declared.spec.Spec.{Spec}
 use Rattle.sg_eval.specs.Journal.{now_of}
 use Rattle.sg_groves.specs.declared.kind.Kind.{Kind}
-use Rattle.sg_orders.proofs.SoundRules.{sound_range}
+use Rattle.sg_dependencies.proofs.SoundRules.{sound_range}
 use Rattle.sg_trail.specs.Trails.{IsAnySlot}
 use Rattle.sg_attrib.proofs.Calls.{op_there, count_is}
 use Rattle.sg_propagate.specs.Moves.{Repairs}

@@ -1,6 +1,6 @@
 use Rattle.std.proofs.Common.{◌<◌, ◌+◌, ◌∙◌, true, false, length, sym, subst, ap}
 use Rattle.std.specs.Prelude.{is_some}
-use Rattle.sg_orders.proofs.SoundRules.{sound_range}
+use Rattle.sg_dependencies.proofs.SoundRules.{sound_range}
 use Rattle.sg_groves.specs.Grove.{Grove}
 use Rattle.sg_propagate.proofs.Tops.{IsTakingOver, phylum_low, taking_next, taking_number, taking_skip, taking_storable, tested}
 use Rattle.sg_propagate.proofs.start.take_over.Goals.{then-is_handed, else-is_handed}

@@ -1,5 +1,0 @@
-use Rattle.sg_orders.proofs.Framed.{Framed}
-use Rattle.sg_orders.proofs.frame.Frame.of.Given as goal
-
-abbrev pub invariant-loop-arg : goal.invariant-loop-arg
-invariant-loop-arg l = Framed l.rules l.op l.arg-index l.spots.items l.next

@@ -1,8 +1,0 @@
-use Rattle.sg_orders.proofs.Gathers.{MetTo}
-use Rattle.sg_orders.proofs.rounds.gather.Given as goal
-
-abbrev pub invariant-loop-b : goal.invariant-loop-b
-invariant-loop-b l = MetTo l.spot l.closed l.fn.phylum l.phylum l.gained l.a l.b
-
-abbrev pub invariant-loop-a : goal.invariant-loop-a
-invariant-loop-a l = MetTo l.spot l.closed l.fn.phylum l.phylum l.gained l.a 0

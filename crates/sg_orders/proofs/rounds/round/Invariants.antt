@@ -1,5 +1,0 @@
-use Rattle.sg_orders.proofs.RoundSteps.{RoundTo}
-use Rattle.sg_orders.proofs.rounds.round.Given as goal
-
-abbrev pub invariant-loop-p : goal.invariant-loop-p
-invariant-loop-p l = RoundTo l.frames l.fn.operators l.fn.phyla l.operators l.phyla l.waiting l.gained l.p
