@@ -30,9 +30,16 @@ statements_quiet n zero = All-nil IsQuiet
 statements_quiet n (suc k) =
     All-append IsQuiet (statements n k) (written n (suc k)) (statements_quiet n k) (written_quiet n (suc k))
 
+-- behind the opening
+abbrev behind : ℕ → List Command
+behind n = statements n n ++ replicate (turns n) Undo ++ replicate (turns n) Redo
+
+behind_quiet : (n : ℕ) → All IsQuiet (behind n)
+behind_quiet n =
+    All-append IsQuiet (statements n n ++ replicate (turns n) Undo) (replicate (turns n) Redo)
+    (All-append IsQuiet (statements n n) (replicate (turns n) Undo) (statements_quiet n n) (All-replicate IsQuiet (turns n) Undo refl))
+    (All-replicate IsQuiet (turns n) Redo refl)
+
 pub quiet : (n : ℕ) → All (λ c. IsTrue (asks_nothing c)) (workload n)
 quiet n =
-    one_quiet (New (codes "main")) refl _ (one_quiet Next refl _ (one_quiet Next refl _
-    (All-append IsQuiet (statements n n ++ replicate (turns n) Undo) (replicate (turns n) Redo)
-    (All-append IsQuiet (statements n n) (replicate (turns n) Undo) (statements_quiet n n) (All-replicate IsQuiet (turns n) Undo refl))
-    (All-replicate IsQuiet (turns n) Redo refl))))
+    one_quiet (New (codes "main")) refl (Next ∷ Next ∷ behind n) (one_quiet Next refl (Next ∷ behind n) (one_quiet Next refl (behind n) (behind_quiet n)))

@@ -37,7 +37,11 @@ pub fn work<K: Sink>(
 {
     match line(alloc, count, journal) {
         Ok(line) => end(finish(sink, line.as_slice(), Status::Done)),
-        Err(fault) if is_memory(&fault) => Err(Status::Memory),
-        Err(fault) => Err(refuse(alloc, &fault, sink)),
+        Err(fault) => {
+            if is_memory(&fault) {
+                return Err(Status::Memory);
+            }
+            Err(refuse(alloc, &fault, sink))
+        }
     }
 }

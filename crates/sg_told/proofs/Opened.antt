@@ -202,13 +202,13 @@ Fetches (Load n) = ⊥
 Fetches job = Unit {0}
 
 fetched_reading : (job : Job) (replies : List Reply) (r : Reading) → Fetches job → IsTheReading replies r → IsTheReadingFor (Some job) replies r
-fetched_reading (Load n) replies r no the = absurd no
+fetched_reading (Load n) replies r fetches the = absurd fetches
 fetched_reading (Show name) replies r is the = the
 fetched_reading (Check name) replies r is the = the
 fetched_reading (Run name script w h) replies r is the = the
 
 fetched_unjudged : (job : Job) (old : World) (replies : List Reply) (status : Status) (new : World) → Fetches job → Unjudged (spec_name job) old replies status new → IsUnjudged job old replies status new
-fetched_unjudged (Load n) old replies status new no u = absurd no
+fetched_unjudged (Load n) old replies status new fetches u = absurd fetches
 fetched_unjudged (Show name) old replies status new is u = u
 fetched_unjudged (Check name) old replies status new is u = u
 fetched_unjudged (Run name script w h) old replies status new is u = u

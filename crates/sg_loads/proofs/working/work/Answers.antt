@@ -35,7 +35,7 @@ pub returns-in_err-errors-clause-cut : goal.returns-in_err-errors-clause-cut
 returns-in_err-errors-clause-cut c = λ r right.
     let e = c.args.editor.now in
     let done = all_performed (spec_in e) (height_in e) r (session_of e) c.deref.result.now c.args.count c.requires.window c.requires.first (c.deref.ensures.value ∙ c.in_ok-commands.ensures)
-        (session_of c.perform.new.editor) (counted c.args.journal.now) (counted c.perform.new.journal) (c.in_ok-perform.ensures.done r right) in
+    (session_of c.perform.new.editor) (counted c.args.journal.now) (counted c.perform.new.journal) (c.in_ok-perform.ensures.done r right) in
     cut_behind _ _ _ _ done
 
 pub returns : goal.returns
@@ -46,8 +46,8 @@ returns c =
     let begun : ℕ = counted c.args.journal.now in
     let ended : ℕ = counted c.perform.new.journal in
     let done = λ (r : Readers) (right : AreReaders (spec_in e) r).
-        all_performed (spec_in e) (height_in e) r (session_of e) c.deref.result.now c.args.count c.requires.window c.requires.first same
-        (session_of after) begun ended (c.in_ok-perform.ensures.done r right) in
+    all_performed (spec_in e) (height_in e) r (session_of e) c.deref.result.now c.args.count c.requires.window c.requires.first same
+    (session_of after) begun ended (c.in_ok-perform.ensures.done r right) in
     record {
       line = λ r right. subst (λ (b : Bytes). IfOk c.line_of.result (λ (s : Vec ℕ Global). s.items ≡ b))
           (line_told (spec_in e) r c.args.count (session_of after) begun ended c.nodes.result c.as_slice.result.now _ (done r right) c.nodes.ensures

@@ -1,4 +1,4 @@
-use Rattle.std.proofs.Common.{◌≢◌, ◌∙◌}
+use Rattle.std.proofs.Common.{◌≢◌, ◌∙◌, inl}
 use Rattle.sg_kinds.specs.declared.fault.SpecFault.TheVariants.{NoMemory}
 use Rattle.sg_eval.specs.Journal.{counted}
 use Rattle.sg_told.proofs.Endings.{ends_with}
@@ -19,18 +19,18 @@ returns-in-Ok g c =
     }
 
 -- memory was wanting
-pub returns-in-Err-then-is_memory : goal.returns-in-Err-then-is_memory
-returns-in-Err-then-is_memory g c = record {
+pub returns-then-is_memory : goal.returns-then-is_memory
+returns-then-is_memory g c = record {
   known = known_cut _ _ _ c.in-Err.ensures.known;
   ended = λ r right shelf. ends_cut shelf _ c.args.count _ _ r right c.in-Err.ensures.known c.in-Err.ensures.cut;
 }
 
 -- the built-in language has a fault
-pub returns-in-Err-2 : goal.returns-in-Err-2
-returns-in-Err-2 g c =
-    let some : c.in-Err-2.fault ≢ NoMemory = λ is. let yes = c.if-is_memory.ensures.1 is in let no = c.if-is_memory.false in cc in
-    let the = c.in-Err-2.ensures.fault some in
+pub returns-else-is_memory : goal.returns-else-is_memory
+returns-else-is_memory g c =
+    let some : c.in-Err.fault ≢ NoMemory = λ is. let yes = c.if-is_memory.ensures.1 is in let no = c.if-is_memory.false in cc in
+    let the = c.in-Err.ensures.fault some in
     record {
       known = known_fault _ _ _ _ _ _ the;
-      ended = λ r right shelf. ends_fault _ shelf _ _ c.args.count _ _ _ r the right (c.in-Err-2.ensures.quiet some) (c.refuse.ensures shelf _);
+      ended = λ r right shelf. ends_fault _ shelf _ _ c.args.count _ _ _ r the right (c.in-Err.ensures.quiet some) (c.refuse.ensures shelf _);
     }
