@@ -8,13 +8,13 @@ ghost use Rattle.sg_reports.specs.Vertices.{printed_cycle, operator_name};
 use crate::places::{operator_places, place_in};
 use crate::vertices::{operator_name, printed_cycle};
 use sg_ast::decl::Decl;
+use sg_dependencies::OrderFault;
 use sg_kinds::fault::{Position, PrintedVertex, SpecFault};
 use sg_kinds::ids::OpId;
 use sg_kinds::memory::NoMemory;
 use sg_kinds::row::Row;
 use sg_kinds::spec::Spec;
 use sg_kinds::text::Text;
-use sg_dependencies::OrderFault;
 use std::alloc::Global;
 
 /// What is printed of an operator with a cycle: its place, its name, the cycle.
