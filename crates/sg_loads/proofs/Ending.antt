@@ -1,6 +1,6 @@
 -- A workload that was performed, or a part of it, and its line.
-use Rattle.std.specs.Prelude.{◌≡◌, ◌≤◌, ℕ, ◌+◌, ◌-◌, List, Result, Ok, Err, IfOk, IfErr, OnOk, OnErr, IsErrAnd, ◌≢◌}
-use Rattle.std.proofs.Common.{sym, ap, ◌∙◌, subst, arith}
+use Rattle.std.specs.Prelude.{◌≡◌, ℕ, ◌+◌, ◌-◌, List, Vec, Result, Ok, Err, IfOk, IfErr, OnOk, OnErr, IsErrAnd, ◌≢◌}
+use Rattle.std.proofs.Common.{sym, ap, ◌∙◌, subst, arith, Global}
 use Rattle.sg_kinds.specs.Values.{Bytes}
 use Rattle.sg_kinds.specs.declared.spec.Spec.{Spec}
 use Rattle.sg_kinds.specs.declared.fault.SpecFault.{SpecFault}
@@ -25,14 +25,21 @@ pub on_err : {A E P : Type 0} → (r : Result A E) → P → OnErr r P
 on_err (Ok a) p = tt
 on_err (Err e) p = p
 
--- there is no value, and no fault but want of memory
-pub no_value : {A E : Type 0} → (P : A → Type 0) (Q : E → Type 0) (r : Result A E) → IsErrAnd r Q → IfOk r P
-no_value P Q (Ok a) e = absurd e
-no_value P Q (Err f) e = tt
+-- a line that was not told, and why
+abbrev pub Line : Type 0
+Line = Result (Vec ℕ Global) SpecFault
 
-pub memory_alone : {A : Type 0} → (P : SpecFault → Type 0) (r : Result A SpecFault) → IsErrAnd r (λ f. f ≡ NoMemory) → IfErr r (λ f. f ≢ NoMemory → P f)
-memory_alone P (Ok a) e = tt
-memory_alone P (Err f) e = λ other. absurd (other e)
+pub no_line : (P : Vec ℕ Global → Type 0) (f : SpecFault) (r : Line) → IsErrAnd r (λ x. x ≡ f) → IfOk r P
+no_line P f (Ok a) e = absurd e
+no_line P f (Err x) e = tt
+
+pub fault_is : (Q : SpecFault → Type 0) (f : SpecFault) (r : Line) → IsErrAnd r (λ x. x ≡ f) → Q f → IfErr r Q
+fault_is Q f (Ok a) e q = absurd e
+fault_is Q f (Err x) e q = subst Q (sym e) q
+
+pub memory_alone : (Q : SpecFault → Type 0) (r : Line) → IsErrAnd r (λ f. f ≡ NoMemory) → IfErr r (λ f. f ≢ NoMemory → Q f)
+memory_alone Q (Ok a) e = absurd e
+memory_alone Q (Err f) e = λ other. absurd (other e)
 
 -- nothing was evaluated, and all was
 pub cut_before : (p : Played) (before now : ℕ) → now ≡ before → AreCut p before now

@@ -4,7 +4,6 @@ ghost use Rattle.sg_editor.specs.Ask.{asks_nothing};
 ghost use Rattle.sg_workload.specs.Workload.{workload};
 
 /// No command of a workload asks anything of the shelf.
-#[tactic(auto, using(crate::proofs::Quiet::quiet))]
 pub fn asks_nothing()
     ensures { (n : ℕ) → All (λ c. IsTrue (asks_nothing c)) (workload n) }
 {}

@@ -1,10 +1,11 @@
-use Rattle.std.proofs.Common.{◌≡◌, ◌≤◌, ◌<◌, ◌+◌, ◌*◌, ◌^◌, ◌∷◌, ℕ, length, drop, get_or, arith, refl, sym, ap, ◌∙◌, subst}
+use Rattle.std.proofs.Common.{◌≡◌, ◌+◌, ◌∷◌, drop, arith, refl, sym, ◌∙◌, subst}
 use Rattle.std.specs.Prelude.{IsTrue}
 use Rattle.sg_eval.specs.Journal.{counted}
 use Rattle.sg_script.specs.declared.command.Command.{Command}
-use Rattle.sg_editor.specs.Ask.{Readers, AreReaders, asks_nothing}
+use Rattle.sg_editor.specs.Ask.{AreReaders, asks_nothing}
 use Rattle.sg_editor.specs.Editing.{Setting, spec_in, height_in, session_of}
-use Rattle.sg_loads.proofs.Performing.{at_first, next_left, cut_left, none_left, item_first, no_item}
+use Rattle.sg_loads.proofs.Performing.{at_first, next_left, cut_left, item_first}
+use Rattle.sg_loads.proofs.Ending.{on_err}
 use Rattle.sg_loads.proofs.working.perform.Goals as goal
 
 pub loop-command-init : goal.loop-command-init
@@ -39,6 +40,6 @@ returns-in_err-step-clause-cut c = λ r right.
     let inv = c.loop-command.invariant in
     let at : drop i c.args.commands.now ≡ x ∷ drop (i + 1) c.args.commands.now = item_first c.args.commands.now i x c.loop-command-test.true c.command-item.is in
     let quiet : IsTrue (asks_nothing x) = subst (λ (z : Command). IsTrue (asks_nothing z)) (sym c.command-item.is) (c.requires.quiet i x c.loop-command-test.true) in
-    cut_left c.args.editor.now c.args.commands.now (counted c.args.journal.now) r c.others_ask_nothing.ensures c.loop-command.editor inv.setting
+    on_err _ (cut_left c.args.editor.now c.args.commands.now (counted c.args.journal.now) r c.others_ask_nothing.ensures c.loop-command.editor inv.setting
     x (drop i c.args.commands.now) (drop (i + 1) c.args.commands.now) c.loop-command.journal c.step.new.journal _ _ _ _ quiet at
-    (c.in_err-step.ensures.err r (subst (λ (z : Setting). AreReaders z.contents.spec r) (sym inv.setting) right)) c.step.ensures.total inv.later (inv.left r right)
+    (c.in_err-step.ensures.err r (subst (λ (z : Setting). AreReaders z.contents.spec r) (sym inv.setting) right)) c.step.ensures.total inv.later (inv.left r right))

@@ -6,15 +6,17 @@ use Rattle.sg_kinds.specs.Values.{Bytes}
 use Rattle.sg_editor.specs.Ask.{Readers, AreReaders, asks_nothing}
 use Rattle.sg_editor.specs.Editing.{spec_in, height_in, session_of}
 use Rattle.sg_workload.specs.Workload.{workload}
-use Rattle.sg_loads.specs.Loads.{worked, line_of}
+use Rattle.sg_loads.specs.Loads.{worked}
 use Rattle.sg_loads.proofs.Ending.{cut_before, cut_behind, all_performed, all_cut, work_counted, line_told, reads_at, on_ok, on_err}
 use Rattle.sg_loads.proofs.working.work.Goals as goal
 
 pub returns-in_err-commands-clause-cut : goal.returns-in_err-commands-clause-cut
-returns-in_err-commands-clause-cut c = λ r right. cut_before _ _ _ refl
+returns-in_err-commands-clause-cut c = λ r right.
+    on_err _ (cut_before (worked (spec_in c.args.editor.now) r c.args.count) (counted c.args.journal.now) (counted c.args.journal.now) refl)
 
 pub returns-in_err-shelf-clause-cut : goal.returns-in_err-shelf-clause-cut
-returns-in_err-shelf-clause-cut c = λ r right. cut_before _ _ _ refl
+returns-in_err-shelf-clause-cut c = λ r right.
+    on_err _ (cut_before (worked (spec_in c.args.editor.now) r c.args.count) (counted c.args.journal.now) (counted c.args.journal.now) refl)
 
 pub perform-requires : goal.perform-requires
 perform-requires c =
@@ -28,15 +30,15 @@ perform-requires c =
 pub returns-in_err-perform-clause-cut : goal.returns-in_err-perform-clause-cut
 returns-in_err-perform-clause-cut c = λ r right.
     let e = c.args.editor.now in
-    all_cut (spec_in e) (height_in e) r (session_of e) c.deref.result.now c.args.count c.requires.window c.requires.first (c.deref.ensures.value ∙ c.in_ok-commands.ensures)
-    (counted c.args.journal.now) (counted c.perform.new.journal) (c.in_err-perform.ensures.cut r right)
+    on_err _ (all_cut (spec_in e) (height_in e) r (session_of e) c.deref.result.now c.args.count c.requires.window c.requires.first (c.deref.ensures.value ∙ c.in_ok-commands.ensures)
+    (counted c.args.journal.now) (counted c.perform.new.journal) (c.in_err-perform.ensures.cut r right))
 
 pub returns-in_err-errors-clause-cut : goal.returns-in_err-errors-clause-cut
 returns-in_err-errors-clause-cut c = λ r right.
     let e = c.args.editor.now in
     let done = all_performed (spec_in e) (height_in e) r (session_of e) c.deref.result.now c.args.count c.requires.window c.requires.first (c.deref.ensures.value ∙ c.in_ok-commands.ensures)
     (session_of c.perform.new.editor) (counted c.args.journal.now) (counted c.perform.new.journal) (c.in_ok-perform.ensures.done r right) in
-    cut_behind _ _ _ _ done
+    on_err _ (cut_behind (worked (spec_in e) r c.args.count) (session_of c.perform.new.editor) (counted c.args.journal.now) (counted c.perform.new.journal) done)
 
 pub returns : goal.returns
 returns c =

@@ -4,11 +4,12 @@ use Rattle.sg_eval.specs.Journal.{counted}
 use Rattle.sg_editor.specs.Ask.{AreReaders}
 use Rattle.sg_loads.specs.Loads.{worked, work, work_line}
 use Rattle.sg_loads.specs.Performed.{AreCut}
-use Rattle.sg_loads.proofs.Ending.{cut_before}
+use Rattle.sg_loads.proofs.Ending.{on_err, cut_before}
 use Rattle.sg_loads.proofs.working.work_alone.Goals as goal
 
 pub returns-in_err-editor-clause-cut : goal.returns-in_err-editor-clause-cut
-returns-in_err-editor-clause-cut c = λ r right. cut_before _ _ _ refl
+returns-in_err-editor-clause-cut c = λ r right.
+    on_err _ (cut_before (worked c.args.loaded.spec r c.args.count) (counted c.args.journal.now) (counted c.args.journal.now) refl)
 
 pub returns : goal.returns
 returns c =
