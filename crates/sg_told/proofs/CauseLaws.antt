@@ -7,7 +7,7 @@ use Rattle.sg_load.specs.Verdict.Verdict.{Refused, Accepted}
 use Rattle.sg_replies.specs.declared.reply.Reply.{Reply}
 use Rattle.sg_replies.specs.declared.reply.Reply.TheVariants.{Fetched, FetchFailed, Kept, KeepFailed}
 use Rattle.sg_replies.specs.Requests.{Request, failures, fits}
-use Rattle.sg_replies.specs.Calls.{ShelfState, Served, ServedOrOneMore}
+use Rattle.sg_replies.specs.Calls.{ShelfState}
 use Rattle.sg_replies.proofs.Laws.{≤-raised_by}
 use Rattle.sg_script.specs.declared.command.Command.{Command}
 use Rattle.sg_script.specs.declared.fault.ScriptFault.{ScriptFault as NoScript}
@@ -23,7 +23,7 @@ use Rattle.sg_told.specs.Job.Job.{Show, Check, Run, Load}
 use Rattle.sg_told.specs.Told.{Told, before, taking, unfinished, asked}
 use Rattle.sg_told.specs.Session.{Desk, desk, telling, turn, asks, session}
 use Rattle.sg_told.specs.Output.{first_command, scanned, with_spec, with_script, shown, checked, performed, job_told}
-use Rattle.sg_told.specs.Reading.{Reading, IsVerdictIn, IsRight, IsTheReading, IsRightFor, IsTheReadingFor}
+use Rattle.sg_told.specs.Reading.{Reading, IsVerdictIn, IsTheReading, IsRightFor, IsTheReadingFor}
 use Rattle.sg_told.specs.Work.{told_once, work_told}
 use Rattle.sg_workload.specs.Lines.{lines_text}
 use Rattle.sg_loads.specs.Loads.{work, work_line}

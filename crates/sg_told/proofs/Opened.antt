@@ -18,10 +18,10 @@ use Rattle.sg_told.specs.declared.status.Status.{Status}
 use Rattle.sg_told.specs.declared.status.Status.TheVariants.{Memory, ReadFault, ScriptFault}
 use Rattle.sg_told.specs.Job.{Job, job, spec_name}
 use Rattle.sg_told.specs.Told.{Told, before, text, asked}
-use Rattle.sg_told.specs.Output.{opened, judged, scanned, scripted, fault_told, read_fault_text, script_missing_text, script_fault_text, whole_file, with_spec, with_script, job_told, told}
-use Rattle.sg_told.specs.Reading.{Reading, IsVerdictIn, IsTheVerdictIn, AreReadersOf, IsRight, IsTheReading, IsRightFor, IsTheReadingFor}
+use Rattle.sg_told.specs.Output.{opened, judged, scanned, scripted, read_fault_text, script_missing_text, script_fault_text, whole_file, with_spec, with_script, job_told, told}
+use Rattle.sg_told.specs.Reading.{Reading, IsVerdictIn, IsTheVerdictIn, AreReadersOf, IsRight, IsTheReading, IsTheReadingFor}
 use Rattle.sg_told.specs.Job.Job.{Show, Check, Run, Load}
-use Rattle.sg_told.specs.Opening.{IsFetched, IsVerdictOf, IsTheVerdictOf, IsAdmitted, IsOpened, IsScriptOf, IsQuiet, Silent, IsKnown, IsKnownOf}
+use Rattle.sg_told.specs.Opening.{IsFetched, IsVerdictOf, IsTheVerdictOf, IsAdmitted, IsOpened, IsScriptOf, IsQuiet, IsKnown, IsKnownOf}
 use Rattle.sg_told.specs.Causes.{Unjudged, IsUnjudged, IsReadOf, IsRead}
 use Rattle.sg_told.specs.World.{SinkState, World, world}
 use Rattle.sg_told.specs.Parts.{Ends, Passed, Played, Finished}

@@ -1,5 +1,5 @@
 -- How the job of a workload ends
-use Rattle.std.proofs.Common.{◌≡◌, ◌≢◌, ◌⊎◌, inl, inr, ◌≤◌, ℕ, ◌+◌, List, [], ◌∷◌, take, sum, length, Option, Some, refl, sym, ap, ◌∙◌, subst, arith}
+use Rattle.std.proofs.Common.{◌≡◌, ◌⊎◌, inl, inr, ◌≤◌, ℕ, ◌+◌, List, [], take, sum, Option, Some, refl, sym, ap, subst, arith}
 use Rattle.sg_kinds.specs.declared.spec.Spec.{Spec}
 use Rattle.sg_kinds.specs.declared.fault.SpecFault.{SpecFault as Fault}
 use Rattle.sg_load.specs.Only.{IsTheVerdict}
@@ -14,7 +14,6 @@ use Rattle.sg_loads.specs.Loads.{worked, work, work_line}
 use Rattle.sg_loads.specs.Performed.{AreCut, IsLinesAccepted}
 use Rattle.sg_told.specs.declared.status.Status.{Status}
 use Rattle.sg_told.specs.declared.status.Status.TheVariants.{Done, Memory}
-use Rattle.sg_told.specs.Told.{Told}
 use Rattle.sg_told.specs.Opening.{IsQuiet}
 use Rattle.sg_told.specs.Judged.{judged, fault_told}
 use Rattle.sg_replies.specs.declared.reply.Reply.{Reply}

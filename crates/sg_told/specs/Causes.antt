@@ -14,7 +14,7 @@ use Rattle.sg_told.specs.declared.status.Status.{Status}
 use Rattle.sg_told.specs.declared.status.Status.TheVariants.{Memory}
 use Rattle.sg_workload.specs.Lines.{lines_text}
 use Rattle.sg_told.specs.Job.{Job, spec_name}
-use Rattle.sg_told.specs.Job.Job.{Show, Check, Run, Load}
+use Rattle.sg_told.specs.Job.Job.{Run, Load}
 use Rattle.sg_told.specs.Output.{whole_file}
 use Rattle.sg_told.specs.Reading.{Reading, IsTheReading, IsTheReadingFor}
 use Rattle.sg_told.specs.World.{World}

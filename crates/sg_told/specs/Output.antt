@@ -2,10 +2,7 @@
 use Rattle.std.specs.Prelude.{ℕ, List, [], ◌∷◌, ◌++◌, Option, Some, None, Result, Ok, Err, codes}
 use Rattle.std.specs.Fmt.{decimal}
 use Rattle.sg_kinds.specs.declared.spec.Spec.{Spec}
-use Rattle.sg_kinds.specs.declared.fault.SpecFault.{SpecFault as Fault}
-use Rattle.sg_faults.specs.FaultLine.{fault_line}
 use Rattle.sg_load.specs.Verdict.{Verdict}
-use Rattle.sg_load.specs.Verdict.Verdict.{Refused, Accepted}
 use Rattle.sg_replies.specs.declared.reply.Reply.{Reply}
 use Rattle.sg_replies.specs.declared.reply.Reply.TheVariants.{Fetched, FetchFailed, Kept, KeepFailed}
 use Rattle.sg_replies.specs.Requests.{Request}
@@ -17,7 +14,7 @@ use Rattle.sg_script.specs.declared.fault.ScriptFault.TheVariants.{Long, Line, M
 use Rattle.sg_script.specs.Script.{script_of}
 use Rattle.sg_editor.specs.Ask.{Readers}
 use Rattle.sg_editor.specs.Session.{start}
-use Rattle.sg_told.specs.declared.status.Status.TheVariants.{Done, Usage, ReadFault, SpecFault, ScriptFault}
+use Rattle.sg_told.specs.declared.status.Status.TheVariants.{Done, Usage, ReadFault, ScriptFault}
 use Rattle.sg_told.specs.Job.{Job, job}
 use Rattle.sg_told.specs.Job.Job.{Show, Check, Run, Load}
 use Rattle.sg_told.specs.Reading.{Reading}
