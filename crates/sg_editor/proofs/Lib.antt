@@ -9,3 +9,4 @@ mod Printed
 mod Bound
 mod Telling
 mod Refusing
+mod Current

@@ -1,5 +1,5 @@
 -- What an editor keeps, and the session that it stands for.
-use Rattle.std.specs.Prelude.{◌≡◌, ◌<◌, ℕ, List, map, length, All, slice_get, Option, option_and_then, MatchOption, ⊤, refl}
+use Rattle.std.specs.Prelude.{◌≡◌, ◌<◌, ℕ, List, map, length, All, slice_get, Option, Some, option_and_then, MatchOption, ⊤, refl}
 use Rattle.std.specs.Coded.{Coded, code_by, coded×, coded_ℕ, coded_list, coded_option}
 use Rattle.sg_kinds.specs.Values.{Bytes}
 use Rattle.sg_kinds.specs.declared.spec.Spec.{Spec}
@@ -10,7 +10,7 @@ use Rattle.sg_buffer.specs.Held.{Held, state_of}
 use Rattle.sg_commands.specs.Tools.{IsClip}
 use Rattle.sg_commands.specs.Typing.{IsTyping}
 use Rattle.sg_editor.specs.declared.desk.Named.{Named}
-use Rattle.sg_editor.specs.Session.{Session}
+use Rattle.sg_editor.specs.Session.{Session, current_of}
 
 -- an accepted specification, and a window
 pub record Setting : Type 0 where
@@ -66,6 +66,11 @@ session_of e = session_in e.kept
 -- the current buffer
 abbrev pub current_in : Kept → Option Named
 current_in k = option_and_then (slice_get k.buffers) k.current
+
+pub record IsCurrent (e : Editing) (b : Held) : Type 0 where
+  pub name : Bytes
+  pub is : current_of (session_of e) ≡ Some (name, state_of b)
+  pub spec : b.grove.spec ≡ spec_in e
 
 module _ (spec : Spec) (height : ℕ) where
   -- a buffer of this specification, with a window of this height, in which a text is typed only where one may be

@@ -1,19 +1,20 @@
 //! The editor.
-ghost use Rattle.std.specs.Prelude.{◌≡◌, ◌≤◌, ◌<◌, ◌^◌, [], length, IfOk, MatchOption, ⊤, OnErr};
+ghost use Rattle.std.specs.Prelude.{◌≡◌, ◌≤◌, ◌<◌, ◌^◌, [], length, IfOk, MatchOption, ⊤, OnErr, None};
 ghost use Rattle.sg_kinds.specs.Sound.{IsSmall, IsSound};
 ghost use Rattle.sg_buffer.specs.Held.{term_in};
 ghost use Rattle.sg_eval.specs.Journal.{counted, now_of, total_of};
 ghost use Rattle.sg_replies.specs.Calls.{shelf_state};
 ghost use Rattle.sg_editor.specs.Ask.{AreReaders, Readers, ask, barred, keeps, loads, saved_form, saved_text};
-ghost use Rattle.sg_editor.specs.Editing.{IsKept, current_in, height_in, session_in, session_of, spec_in, width_in};
+ghost use Rattle.sg_editor.specs.Editing.{IsCurrent, IsKept, current_in, height_in, session_in, session_of, spec_in, width_in};
 ghost use Rattle.sg_editor.specs.Screen.{screen};
-ghost use Rattle.sg_editor.specs.Session.{start};
+ghost use Rattle.sg_editor.specs.Session.{current_of, start};
 ghost use Rattle.sg_editor.specs.Steps.{Interrupted, Stepped};
 
 use crate::base::Base;
 use crate::desk::Desk;
 use crate::fetching::fetch;
 use crate::keeping::keep;
+use sg_buffer::Buffer;
 use sg_eval::Journal;
 use sg_kinds::memory::NoMemory;
 use sg_kinds::text::Text;
@@ -225,6 +226,18 @@ impl Editor {
         let message = self.act(command, shelf, journal, replies);
         self.facts();
         message
+    }
+
+    /// The current buffer. None exactly where there is none.
+    #[tactic(auto, using(crate::proofs::Current::none_current, crate::proofs::Current::is_current))]
+    pub fn current(&self) -> Option<&Buffer>
+        ensures { MatchOption result (current_of (session_of self.now) ≡ None) (λ b. IsCurrent self.now b.now) }
+    {
+        let _ = &self.base;
+        match self.desk.current() {
+            Some(named) => Some(&named.buffer),
+            None => None,
+        }
     }
 
     /// What is printed after a command: its message, and the current buffer in the window. `ev` says how many equations

@@ -1,10 +1,21 @@
 // The text that ends a run.
-ghost use Rattle.sg_told.specs.Statuses.{IsEnd};
+ghost use Rattle.std.specs.Prelude.{◌≡◌};
+ghost use Rattle.sg_told.specs.Statuses.{IsEnd, ended};
 ghost use Rattle.sg_told.specs.World.{sink_state};
 ghost use Rattle.sg_told.specs.Parts.{Finished};
 
 use crate::Status;
 use sg_outside::{Sink, SinkError};
+
+/// The run is over with this status.
+pub fn end(status: Status) -> Result<(), Status>
+    ensures { ended result ≡ status }
+{
+    match status {
+        Status::Done => Ok(()),
+        status => Err(status),
+    }
+}
 
 /// Puts the text that ends the run with that status. A put that is refused gives its own status in its place.
 pub fn finish<K: Sink>(sink: &mut K, text: &[u8], status: Status) -> Status

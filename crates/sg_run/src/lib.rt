@@ -7,7 +7,10 @@ mod opening;
 mod playing;
 mod running;
 mod scripts;
+mod sure;
 mod words;
+mod workloads;
 
 pub use running::{Outcome, run};
 pub use sg_told::Status;
+pub use sure::run_surely;

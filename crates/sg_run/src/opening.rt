@@ -17,10 +17,10 @@ ghost use Rattle.sg_told.specs.World.{SinkState, world, world_of, sink_state};
 
 use crate::Status;
 use crate::finishing::finish;
-use sg_editor::laws::readers_are_there;
 use sg_faults::fault_line;
 use sg_kinds::fault::SpecFault;
 use sg_load::{Loaded, load};
+use sg_loads::tell_readers;
 use sg_outside::{Shelf, Sink};
 use sg_replies::{Reply, add, fetched};
 use std::alloc::Global;
@@ -53,15 +53,15 @@ pub fn fetch<S: Shelf>(
     Ok(reply)
 }
 
-// Whether there was not enough memory to judge a specification.
-fn is_memory(fault: &SpecFault) -> bool
+/// Whether there was not enough memory to judge a specification.
+pub fn is_memory(fault: &SpecFault) -> bool
     ensures { IsTrue result ↔ (fault.now ≡ SpecFault.NoMemory) }
 {
     matches!(fault, SpecFault::NoMemory)
 }
 
 /// Ends the run by the line of a static fault.
-fn refuse<K: Sink>(alloc: Global, fault: &SpecFault, sink: &mut K) -> Status
+pub fn refuse<K: Sink>(alloc: Global, fault: &SpecFault, sink: &mut K) -> Status
     ensures { (shelf : ShelfState) (n : ℕ) → Ends (world shelf
         (sink_state (K.written sink.old) (K.faults sink.old) (K.puts sink.old)) n) (fault_told fault.now) [] result
         (world shelf (sink_state (K.written sink.new) (K.faults sink.new) (K.puts sink.new)) n) }
@@ -87,16 +87,6 @@ fn end_by<K: Sink>(alloc: Global, bytes: &[u8], fault: &SpecFault, sink: &mut K)
         return Status::Memory;
     }
     refuse(alloc, fault, sink)
-}
-
-/// There are readers of the texts of an accepted specification. This does nothing and tells it.
-fn tell_readers(loaded: &Loaded)
-    ensures { (r : Readers) × AreReaders loaded.now.spec r }
-{
-    loaded.facts();
-    loaded.tables.sound();
-    loaded.tables.decided();
-    readers_are_there();
 }
 
 /// Loads the specification of these bytes. An error says with which status the run is over.

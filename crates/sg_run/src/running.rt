@@ -9,17 +9,18 @@ ghost use Rattle.sg_told.specs.Statuses.{IsEnd, IsCut, ended};
 ghost use Rattle.sg_told.specs.Job.{job};
 ghost use Rattle.sg_told.specs.Told.{joined};
 ghost use Rattle.sg_told.specs.Output.{told, with_spec, shown, checked, performed, first_command};
-ghost use Rattle.sg_told.specs.Reading.{Reading, IsRight};
+ghost use Rattle.sg_told.specs.Reading.{Reading, IsRight, IsRightFor};
 ghost use Rattle.sg_told.specs.World.{world_of, WroteCounted, WholeBlocks};
 ghost use Rattle.sg_told.specs.Parts.{Ends, Played};
-ghost use Rattle.sg_told.specs.Causes.{IsReadOf, IsRead, LastFailed, FirstFetched, SecondFetched, HasFault, IsNoScript, IsAccepted};
+ghost use Rattle.sg_told.specs.Causes.{IsReadOf, IsRead, LastFailed, SecondFetched, IsSpecRefused, IsNoScript, IsAccepted};
 
 use crate::Status;
-use crate::finishing::finish;
+use crate::finishing::{end, finish};
 use crate::opening::open;
 use crate::playing::play_all;
 use crate::scripts::script;
 use crate::words::{Job, read};
+use crate::workloads::work;
 use sg_eval::Journal;
 use sg_kinds::memory::NoMemory;
 use sg_kinds::text::Text;
@@ -37,16 +38,6 @@ pub struct Outcome {
     pub status: Status,
     /// What the shelf replied to each of its calls in turn, but for a last call for which it had no memory.
     pub replies: Vec<Reply>,
-}
-
-// The run is over with this status.
-fn end(status: Status) -> Result<(), Status>
-    ensures { ended result ≡ status }
-{
-    match status {
-        Status::Done => Ok(()),
-        status => Err(status),
-    }
 }
 
 // The one command of the first screen.
@@ -168,7 +159,7 @@ fn run_job<S: Shelf, K: Sink>(
         (world_of S.files S.faults S.calls shelf.old K.written K.faults K.puts sink.old (counted journal.old))
         replies.new.items (ended result)
         (world_of S.files S.faults S.calls shelf.new K.written K.faults K.puts sink.new (counted journal.new)) }
-    ensures played { (r : Reading) → IsRight replies.new.items r
+    ensures played { (r : Reading) → IsRightFor (job (map string_bytes words.now)) replies.new.items r
         → Played (told (map string_bytes words.now) r) [] replies.new.items (ended result)
         (world_of S.files S.faults S.calls shelf.old K.written K.faults K.puts sink.old (counted journal.old))
         (world_of S.files S.faults S.calls shelf.new K.written K.faults K.puts sink.new (counted journal.new)) }
@@ -188,6 +179,7 @@ fn run_job<S: Shelf, K: Sink>(
             journal,
             replies,
         ),
+        Some(Job::Load(count)) => work(alloc, count, sink, journal),
     }
 }
 
@@ -203,7 +195,7 @@ fn run_to_end<S: Shelf, K: Sink>(
         (world_of S.files S.faults S.calls shelf.old K.written K.faults K.puts sink.old (counted journal.old))
         result.replies.items result.status
         (world_of S.files S.faults S.calls shelf.new K.written K.faults K.puts sink.new (counted journal.new)) }
-    ensures ended { (r : Reading) → IsRight result.replies.items r
+    ensures ended { (r : Reading) → IsRightFor (job (map string_bytes words.now)) result.replies.items r
         → Ends (world_of S.files S.faults S.calls shelf.old K.written K.faults K.puts sink.old (counted journal.old))
         (told (map string_bytes words.now) r result.replies.items) result.replies.items result.status
         (world_of S.files S.faults S.calls shelf.new K.written K.faults K.puts sink.new (counted journal.new)) }
@@ -227,48 +219,49 @@ pub fn run<S: Shelf, K: Sink>(
 ) -> Outcome
     requires room { counted journal.old < 2 ^ 60 }
 
-    // There is a reading of what was fetched: the verdict on the specification, of which there is no other, and how
-    // texts that are typed and files that are loaded are read; or memory was wanting before there was a verdict. For
-    // each right reading the rest follows.
+    // There is a reading of what was fetched, and for a workload of the built-in language: the verdict on the
+    // specification, of which there is no other, and how texts that are typed and files that are loaded are read; or
+    // memory was wanting before there was a verdict. For each right reading the rest follows.
     ensures known { IsRead (job (map string_bytes words.now))
         (world_of S.files S.faults S.calls shelf.old K.written K.faults K.puts sink.old (counted journal.old))
         result.replies.items result.status
         (world_of S.files S.faults S.calls shelf.new K.written K.faults K.puts sink.new (counted journal.new)) }
 
     // What was written and evaluated, at an end of its own and after it was cut short.
-    ensures output { (r : Reading) → IsRight result.replies.items r → IsEnd result.status
-        → K.written sink.new ≡ appended (K.written sink.old)
+    ensures output { (r : Reading) → IsRightFor (job (map string_bytes words.now)) result.replies.items r
+        → IsEnd result.status → K.written sink.new ≡ appended (K.written sink.old)
         (joined (told (map string_bytes words.now) r result.replies.items).blocks) }
-    ensures puts { (r : Reading) → IsRight result.replies.items r → IsEnd result.status
-        → K.puts sink.new ≡ tallied (length (told (map string_bytes words.now) r result.replies.items).blocks)
-        (K.puts sink.old) }
-    ensures finished { (r : Reading) → IsRight result.replies.items r → IsEnd result.status
+    ensures puts { (r : Reading) → IsRightFor (job (map string_bytes words.now)) result.replies.items r
+        → IsEnd result.status → K.puts sink.new
+        ≡ tallied (length (told (map string_bytes words.now) r result.replies.items).blocks) (K.puts sink.old) }
+    ensures finished { (r : Reading) → IsRightFor (job (map string_bytes words.now)) result.replies.items r
+        → IsEnd result.status
         → (told (map string_bytes words.now) r result.replies.items).status ≡ Some result.status }
-    ensures evaluated { (r : Reading) → IsRight result.replies.items r → IsEnd result.status
-        → counted journal.new ≡ counted journal.old + sum
+    ensures evaluated { (r : Reading) → IsRightFor (job (map string_bytes words.now)) result.replies.items r
+        → IsEnd result.status → counted journal.new ≡ counted journal.old + sum
         (told (map string_bytes words.now) r result.replies.items).evs }
-    ensures cut_short { (r : Reading) → IsRight result.replies.items r → IsCut result.status
-        → WroteCounted result.status
+    ensures cut_short { (r : Reading) → IsRightFor (job (map string_bytes words.now)) result.replies.items r
+        → IsCut result.status → WroteCounted result.status
         (world_of S.files S.faults S.calls shelf.old K.written K.faults K.puts sink.old (counted journal.old))
         (world_of S.files S.faults S.calls shelf.new K.written K.faults K.puts sink.new (counted journal.new))
         (told (map string_bytes words.now) r result.replies.items) }
-    ensures after_memory { (r : Reading) → IsRight result.replies.items r → result.status ≡ Status.Memory
-        → WholeBlocks (K.written sink.old) (K.written sink.new)
+    ensures after_memory { (r : Reading) → IsRightFor (job (map string_bytes words.now)) result.replies.items r
+        → result.status ≡ Status.Memory → WholeBlocks (K.written sink.old) (K.written sink.new)
         (told (map string_bytes words.now) r result.replies.items).blocks }
-    ensures after_sink_fault { (r : Reading) → IsRight result.replies.items r → result.status ≡ Status.SinkFault
-        → CutShort (K.written sink.old) (K.written sink.new)
+    ensures after_sink_fault { (r : Reading) → IsRightFor (job (map string_bytes words.now)) result.replies.items r
+        → result.status ≡ Status.SinkFault → CutShort (K.written sink.old) (K.written sink.new)
         (joined (told (map string_bytes words.now) r result.replies.items).blocks) }
 
     // The replies, and what they say of the shelf.
-    ensures replies { (r : Reading) → IsRight result.replies.items r
+    ensures replies { (r : Reading) → IsRightFor (job (map string_bytes words.now)) result.replies.items r
         → (told (map string_bytes words.now) r result.replies.items).taken ≡ length result.replies.items }
-    ensures files { (r : Reading) → IsRight result.replies.items r
+    ensures files { (r : Reading) → IsRightFor (job (map string_bytes words.now)) result.replies.items r
         → Serves (S.files shelf.old)
         (told (map string_bytes words.now) r result.replies.items).requests result.replies.items (S.files shelf.new) }
     ensures failed_replies { raised_by (failures result.replies.items) (S.faults shelf.old) ≤ S.faults shelf.new }
     ensures calls { result.status ≢ Status.Memory → S.calls shelf.new
         ≡ tallied (length result.replies.items) (S.calls shelf.old) }
-    ensures calls_or_one_more { (r : Reading) → IsRight result.replies.items r
+    ensures calls_or_one_more { (r : Reading) → IsRightFor (job (map string_bytes words.now)) result.replies.items r
         → CallsOrOneMore (length (told (map string_bytes words.now) r result.replies.items).requests
         ≡ length result.replies.items + 1)
         (length result.replies.items) (S.calls shelf.old) (S.calls shelf.new) }
@@ -278,7 +271,7 @@ pub fn run<S: Shelf, K: Sink>(
     ensures read_fault { result.status ≡ Status.ReadFault
         → LastFailed result.replies.items × Rose (S.faults shelf.old) (S.faults shelf.new) }
     ensures spec_fault { result.status ≡ Status.SpecFault
-        → FirstFetched result.replies.items HasFault }
+        → IsSpecRefused (job (map string_bytes words.now)) result.replies.items }
     ensures script_fault { result.status ≡ Status.ScriptFault → SecondFetched result.replies.items IsNoScript }
     ensures sink_fault { result.status ≡ Status.SinkFault → Rose (K.faults sink.old) (K.faults sink.new) }
     ensures complete { (Rose (S.faults shelf.old) (S.faults shelf.new) → ⊥)

@@ -1,8 +1,10 @@
 // The words of the command line.
 ghost use Rattle.std.specs.Prelude.{◌≡◌, map, string_bytes, IfSome};
 ghost use Rattle.std.specs.Option.{option_map};
-ghost use Rattle.sg_told.specs.Job.{job, size_of, sized as sized_job};
+ghost use Rattle.sg_told.specs.Job.{job, job_of_name, load_of, size_of, sized as sized_job};
 ghost use Rattle.sg_run.specs.JobView.{job_of, HasWindow};
+
+use sg_workload::MOST_STATEMENTS;
 
 /// What the words ask for.
 #[derive(Drop)]
@@ -14,6 +16,8 @@ pub enum Job<'a> {
     /// To perform the script of the second name on the specification of the first, in a window of that width and
     /// height, each from 1 to 1,024.
     Run(&'a str, &'a str, usize, usize),
+    /// To perform the workload of so many statements, from 1 to 400.
+    Load(usize),
 }
 
 /// A width or a height: a number from 1 to 1,024 in decimal digits, of which the first is no 0.
@@ -43,14 +47,41 @@ fn sized<'a>(name: &'a str, script: &'a str, width: &str, height: &str) -> Optio
     Some(Job::Run(name, script, width, height))
 }
 
+// the workload of so many statements
+fn load<'a>(word: &str) -> Option<Job<'a>>
+    ensures job { option_map job_of result ≡ load_of word.now }
+    ensures window { IfSome result HasWindow }
+{
+    let count = size(word)?;
+    if count > MOST_STATEMENTS {
+        return None;
+    }
+    Some(Job::Load(count))
+}
+
+// the job of a word and a name, or of a word and a number
+fn named<'a>(word: &str, name: &'a str) -> Option<Job<'a>>
+    ensures job { option_map job_of result ≡ job_of_name word.now name.now }
+    ensures window { IfSome result HasWindow }
+{
+    if word == "show" {
+        Some(Job::Show(name))
+    } else if word == "check" {
+        Some(Job::Check(name))
+    } else if word == "load" {
+        load(name)
+    } else {
+        None
+    }
+}
+
 /// The job of these words, if they are one.
 pub fn read<'a>(words: &'a [String]) -> Option<Job<'a>>
     ensures job { option_map job_of result ≡ job (map string_bytes words.now) }
     ensures window { IfSome result HasWindow }
 {
     match words {
-        [word, name] if word.as_str() == "show" => Some(Job::Show(name.as_str())),
-        [word, name] if word.as_str() == "check" => Some(Job::Check(name.as_str())),
+        [word, name] => named(word.as_str(), name.as_str()),
         [word, name, script] if word.as_str() == "run" => {
             Some(Job::Run(name.as_str(), script.as_str(), 80, 24))
         }

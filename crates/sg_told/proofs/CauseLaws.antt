@@ -1,12 +1,13 @@
 -- The causes of a status follow from what the run tells
-use Rattle.std.proofs.Common.{◌≡◌, ◌≢◌, ◌⊎◌, inl, inr, ℕ, suc, ◌≤◌, List, [], ◌∷◌, ◌++◌, Option, Some, None, IsSome, Result, Ok, Err, Bool, true, false, if◌then◌else◌, refl, ap, ◌∙◌, subst, length, arith}
+use Rattle.std.proofs.Common.{◌≡◌, ◌≢◌, ◌⊎◌, inl, inr, ℕ, suc, ◌≤◌, List, [], ◌∷◌, ◌++◌, Option, Some, None, IsSome, Result, Ok, Err, Bool, true, false, if◌then◌else◌, refl, sym, ap, ◌∙◌, subst, length, arith}
 use Rattle.sg_outside.specs.Count.{Rose, raised, raised_by}
 use Rattle.sg_kinds.specs.declared.spec.Spec.{Spec}
-use Rattle.sg_load.specs.Verdict.{Verdict}
+use Rattle.sg_load.specs.Verdict.{Verdict, IsVerdict}
 use Rattle.sg_load.specs.Verdict.Verdict.{Refused, Accepted}
 use Rattle.sg_replies.specs.declared.reply.Reply.{Reply}
 use Rattle.sg_replies.specs.declared.reply.Reply.TheVariants.{Fetched, FetchFailed, Kept, KeepFailed}
 use Rattle.sg_replies.specs.Requests.{Request, failures, fits}
+use Rattle.sg_replies.specs.Calls.{ShelfState}
 use Rattle.sg_replies.proofs.Laws.{≤-raised_by}
 use Rattle.sg_script.specs.declared.command.Command.{Command}
 use Rattle.sg_script.specs.declared.fault.ScriptFault.{ScriptFault as NoScript}
@@ -18,14 +19,19 @@ use Rattle.sg_editor.specs.Ask.Ask.{Tells, Asks}
 use Rattle.sg_told.specs.declared.status.Status.{Status}
 use Rattle.sg_told.specs.declared.status.Status.TheVariants.{Done, Memory, Usage, ReadFault, SpecFault, ScriptFault, SinkFault}
 use Rattle.sg_told.specs.Job.{Job}
-use Rattle.sg_told.specs.Job.Job.{Show, Check, Run}
-use Rattle.sg_told.specs.Told.{Told, before, taking, unfinished}
+use Rattle.sg_told.specs.Job.Job.{Show, Check, Run, Load}
+use Rattle.sg_told.specs.Told.{Told, before, taking, unfinished, asked}
 use Rattle.sg_told.specs.Session.{Desk, desk, telling, turn, asks, session}
 use Rattle.sg_told.specs.Output.{first_command, scanned, with_spec, with_script, shown, checked, performed, job_told}
-use Rattle.sg_told.specs.Reading.{Reading, IsVerdictIn, IsRight, IsTheReading}
+use Rattle.sg_told.specs.Reading.{Reading, IsVerdictIn, IsTheReading, IsRightFor, IsTheReadingFor}
+use Rattle.sg_told.specs.Work.{told_once, work_told}
+use Rattle.sg_workload.specs.Lines.{lines_text}
+use Rattle.sg_loads.specs.Loads.{work, work_line}
 use Rattle.sg_told.specs.World.{World}
 use Rattle.sg_told.specs.Parts.{Ends}
-use Rattle.sg_told.specs.Causes.{IsRead, LastFailed, FirstFetched, SecondFetched, HasFault, HasNoFault, IsNoScript, IsScript, AreScripts, IsAccepted}
+use Rattle.sg_told.specs.Causes.{IsRead, LastFailed, FirstFetched, SecondFetched, HasFault, HasNoFault, IsNoScript, IsScript, AreScripts, IsAccepted, IsSpecRefused, IsSpecAccepted, IsUnjudged}
+use Rattle.sg_told.specs.Judged.{judged}
+use Rattle.sg_editor.specs.Ask.{Readers}
 use Rattle.sg_told.proofs.Opened.{reading_of, the_reading_is_right}
 
 -- what is told never ends so
@@ -50,6 +56,19 @@ session_never status other d (c ∷ commands) s replies e =
 
 checked_never : (status : Status) → status ≢ Done → (spec : Spec) → Never status (checked spec)
 checked_never status other spec replies e = other (cc)
+
+-- a workload ends with Done, or with the fault of its language
+lines_never : (status : Status) → status ≢ Done → status ≢ SpecFault → (n : ℕ) (r : Readers) (v : Verdict)
+    → (judged v (λ spec. told_once (work_line spec r n) (work spec r n))).status ≡ Some status → ⊥
+lines_never status done fault n r (Refused f) e = fault (cc)
+lines_never status done fault n r (Accepted spec) e = done (cc)
+
+work_never : (status : Status) → status ≢ Done → status ≢ SpecFault → (n : ℕ) (r : Reading) → (work_told n r).status ≡ Some status → ⊥
+work_never status done fault n r e = lines_never status done fault n r.readers r.verdict e
+
+lines_refused : (n : ℕ) (r : Readers) (v : Verdict) → IsVerdict lines_text v → (judged v (λ spec. told_once (work_line spec r n) (work spec r n))).status ≡ Some SpecFault → HasFault lines_text
+lines_refused n r (Refused f) right is = (f, right)
+lines_refused n r (Accepted spec) right is = absurd (cc)
 
 -- a run that never ends with usage
 spec_no_usage : (next : Spec → List Reply → Told) (name : List ℕ) (v : Verdict) → ((spec : Spec) → Never Usage (next spec)) → Never Usage (with_spec next name v)
@@ -77,6 +96,7 @@ pub usage_cause : (j : Option Job) (r : Reading) (replies : List Reply) → (job
 usage_cause None r replies is = refl
 usage_cause (Some (Show name)) r replies is = absurd (spec_no_usage (shown r.readers) name r.verdict (λ spec. session_never Usage (λ e. cc) (desk spec 80 24 r.readers) first_command start) replies is)
 usage_cause (Some (Check name)) r replies is = absurd (spec_no_usage checked name r.verdict (checked_never Usage (λ e. cc)) replies is)
+usage_cause (Some (Load n)) r replies is = absurd (work_never Usage (λ e. cc) (λ e. cc) n r is)
 usage_cause (Some (Run name script w h)) r replies is =
     absurd (spec_no_usage (performed script w h r.readers) name r.verdict
     (λ spec. script_never Usage (λ e. cc) (λ e. cc) (session (desk spec w h r.readers) start) script (λ commands. session_never Usage (λ e. cc) (desk spec w h r.readers) commands start)) replies is)
@@ -114,6 +134,7 @@ read_cause None r replies is all = absurd (cc)
 read_cause (Some (Show name)) r replies is all =
     spec_fails (shown r.readers) name r.verdict (λ spec. never_fails (shown r.readers spec) (session_never ReadFault (λ e. cc) (desk spec 80 24 r.readers) first_command start)) replies is all
 read_cause (Some (Check name)) r replies is all = spec_fails checked name r.verdict (λ spec. never_fails (checked spec) (checked_never ReadFault (λ e. cc) spec)) replies is all
+read_cause (Some (Load n)) r replies is all = absurd (work_never ReadFault (λ e. cc) (λ e. cc) n r is)
 read_cause (Some (Run name script w h)) r replies is all =
     spec_fails (performed script w h r.readers) name r.verdict
     (λ spec. script_fails (session (desk spec w h r.readers) start) script (λ commands. session_never ReadFault (λ e. cc) (desk spec w h r.readers) commands start)) replies is all
@@ -128,14 +149,15 @@ spec_refused next name v (FetchFailed ∷ rest) never right is = absurd (cc)
 spec_refused next name v (Kept ∷ rest) never right is = absurd (cc)
 spec_refused next name v (KeepFailed ∷ rest) never right is = absurd (cc)
 
-pub spec_cause : (j : Option Job) (r : Reading) (replies : List Reply) → IsVerdictIn replies r.verdict → (job_told j r replies).status ≡ Some SpecFault → FirstFetched replies HasFault
+pub spec_cause : (j : Option Job) (r : Reading) (replies : List Reply) → IsRightFor j replies r → (job_told j r replies).status ≡ Some SpecFault → IsSpecRefused j replies
 spec_cause None r replies right is = absurd (cc)
 spec_cause (Some (Show name)) r replies right is =
-    spec_refused (shown r.readers) name r.verdict replies (λ spec. session_never SpecFault (λ e. cc) (desk spec 80 24 r.readers) first_command start) right is
-spec_cause (Some (Check name)) r replies right is = spec_refused checked name r.verdict replies (checked_never SpecFault (λ e. cc)) right is
+    spec_refused (shown r.readers) name r.verdict replies (λ spec. session_never SpecFault (λ e. cc) (desk spec 80 24 r.readers) first_command start) right.verdict is
+spec_cause (Some (Check name)) r replies right is = spec_refused checked name r.verdict replies (checked_never SpecFault (λ e. cc)) right.verdict is
+spec_cause (Some (Load n)) r replies right is = lines_refused n r.readers r.verdict right.verdict is
 spec_cause (Some (Run name script w h)) r replies right is =
     spec_refused (performed script w h r.readers) name r.verdict replies
-    (λ spec. script_never SpecFault (λ e. cc) (λ e. cc) (session (desk spec w h r.readers) start) script (λ commands. session_never SpecFault (λ e. cc) (desk spec w h r.readers) commands start)) right is
+    (λ spec. script_never SpecFault (λ e. cc) (λ e. cc) (session (desk spec w h r.readers) start) script (λ commands. session_never SpecFault (λ e. cc) (desk spec w h r.readers) commands start)) right.verdict is
 
 -- a fault of the script that was fetched second
 no_script : (r : Result (List Command) NoScript) (next : List Command → Told) → ((commands : List Command) → (next commands).status ≡ Some ScriptFault → ⊥) → (scanned r next).status ≡ Some ScriptFault
@@ -173,6 +195,7 @@ script_cause None r replies is = absurd (cc)
 script_cause (Some (Show name)) r replies is =
     absurd ((spec_stops (shown r.readers) name r.verdict replies (λ rest. ⊥) (λ spec. session_never ScriptFault (λ e. cc) (desk spec 80 24 r.readers) first_command start) is).3)
 script_cause (Some (Check name)) r replies is = absurd ((spec_stops checked name r.verdict replies (λ rest. ⊥) (checked_never ScriptFault (λ e. cc)) is).3)
+script_cause (Some (Load n)) r replies is = absurd (work_never ScriptFault (λ e. cc) (λ e. cc) n r is)
 script_cause (Some (Run name script w h)) r replies is =
     let s = spec_stops (performed script w h r.readers) name r.verdict replies (λ rest. FirstFetched rest IsNoScript)
     (λ spec rest. script_stops (session (desk spec w h r.readers) start) script rest (λ commands. session_never ScriptFault (λ e. cc) (desk spec w h r.readers) commands start)) is in
@@ -191,45 +214,78 @@ failed_rose replies old new last counted =
     let grown : raised old ≤ raised_by (failures last.0) (raised old) = ≤-raised_by (failures last.0) (raised old) (omega arith) in
     omega (arith, more, grown)
 
+-- the only reading for a job is right
+pub the_reading_is_right_for : (j : Option Job) (replies : List Reply) (r : Reading) → IsTheReadingFor j replies r → IsRightFor j replies r
+the_reading_is_right_for (Some (Load n)) replies r the = record { verdict = the.verdict.is; readers = the.readers }
+the_reading_is_right_for None replies r the = the_reading_is_right replies r the
+the_reading_is_right_for (Some (Show name)) replies r the = the_reading_is_right replies r the
+the_reading_is_right_for (Some (Check name)) replies r the = the_reading_is_right replies r the
+the_reading_is_right_for (Some (Run name script w h)) replies r the = the_reading_is_right replies r the
+
+-- nothing failed but what the shelf counted
+unjudged_failures : (job : Job) (replies : List Reply) (status : Status) (old new : World) → IsUnjudged job old replies status new → raised_by (failures replies) old.shelf.faults ≤ new.shelf.faults
+unjudged_failures (Load n) replies status old new u =
+    let some : failures replies ≡ 0 = ap failures u.none in
+    let same = ap (λ (s : ShelfState). s.faults) u.shelf in
+    subst (λ k. raised_by k old.shelf.faults ≤ new.shelf.faults) (sym some) (omega (arith, same))
+unjudged_failures (Show name) replies status old new u = u.served.faults
+unjudged_failures (Check name) replies status old new u = u.served.faults
+unjudged_failures (Run name script w h) replies status old new u = u.served.faults
+
 -- each failure was counted
 pub failures_counted : (j : Option Job) (replies : List Reply) (status : Status) (old new : World) → IsRead j old replies status new
-    → ((r : Reading) → IsRight replies r → Ends old (job_told j r replies) replies status new) → raised_by (failures replies) old.shelf.faults ≤ new.shelf.faults
-failures_counted j replies status old new (inl k) ends = (ends k.0 (the_reading_is_right replies k.0 k.1)).served.faults
-failures_counted j replies status old new (inr q) ends = q.2.served.faults
+    → ((r : Reading) → IsRightFor j replies r → Ends old (job_told j r replies) replies status new) → raised_by (failures replies) old.shelf.faults ≤ new.shelf.faults
+failures_counted j replies status old new (inl k) ends = (ends k.0 (the_reading_is_right_for j replies k.0 k.1)).served.faults
+failures_counted j replies status old new (inr q) ends = unjudged_failures q.0 replies status old new q.2
 
 -- a specification with a fault is not accepted
-not_accepted : (j : Option Job) (r : Reading) (replies : List Reply) → IsTheReading replies r → FirstFetched replies HasFault → IsAccepted j replies → ⊥
-not_accepted j r replies the f fit =
-    let good : HasNoFault f.0 = fit.spec f.0 f.1 f.2 in
+fetched_apart : (r : Reading) (replies : List Reply) → IsTheReading replies r → FirstFetched replies HasFault
+    → ((bytes : List ℕ) (rest : List Reply) → replies ≡ Fetched bytes ∷ rest → HasNoFault bytes) → ⊥
+fetched_apart r replies the f fit =
+    let good : HasNoFault f.0 = fit f.0 f.1 f.2 in
     let verdict = the.verdict f.0 f.1 f.2 in
     let bad = verdict.only (Refused f.3.0) f.3.1 in
     let fine = verdict.only (Accepted good.0) good.1 in
     cc
 
+not_accepted : (j : Option Job) (r : Reading) (replies : List Reply) → IsTheReadingFor j replies r → IsSpecRefused j replies → IsSpecAccepted j replies → ⊥
+not_accepted (Some (Load n)) r replies the f good =
+    let bad = the.verdict.only (Refused f.0) f.1 in
+    let fine = the.verdict.only (Accepted good.0) good.1 in
+    cc
+not_accepted None r replies the f fit = fetched_apart r replies the f fit
+not_accepted (Some (Show name)) r replies the f fit = fetched_apart r replies the f fit
+not_accepted (Some (Check name)) r replies the f fit = fetched_apart r replies the f fit
+not_accepted (Some (Run name script w h)) r replies the f fit = fetched_apart r replies the f fit
+
 -- the job is done, or there was not enough memory
 pub done_or_memory : (j : Option Job) (replies : List Reply) (status : Status) (old new : World)
     → (Rose old.shelf.faults new.shelf.faults → ⊥) → (Rose old.sink.faults new.sink.faults → ⊥) → IsSome j → IsAccepted j replies → IsRead j old replies status new
-    → ((r : Reading) → IsRight replies r → Ends old (job_told j r replies) replies status new) → (status ≡ Done) ⊎ (status ≡ Memory)
+    → ((r : Reading) → IsRightFor j replies r → Ends old (job_told j r replies) replies status new) → (status ≡ Done) ⊎ (status ≡ Memory)
 done_or_memory j replies status old new shelf sink some fit read ends = decide status read ends
   where
-    reading : (s : Status) → s ≢ Memory → IsRead j old replies s new → (r : Reading) × IsTheReading replies r
+    reading : (s : Status) → s ≢ Memory → IsRead j old replies s new → (r : Reading) × IsTheReadingFor j replies r
     reading s other k = reading_of j old new replies s k other
 
-    decide : (s : Status) → IsRead j old replies s new → ((r : Reading) → IsRight replies r → Ends old (job_told j r replies) replies s new) → (s ≡ Done) ⊎ (s ≡ Memory)
+    decide : (s : Status) → IsRead j old replies s new → ((r : Reading) → IsRightFor j replies r → Ends old (job_told j r replies) replies s new) → (s ≡ Done) ⊎ (s ≡ Memory)
     decide Done k e = inl refl
     decide Memory k e = inr refl
-    decide SinkFault k e = let r = reading SinkFault (λ m. cc) k in absurd (sink ((e r.0 (the_reading_is_right replies r.0 r.1)).sink_fault refl))
+    decide SinkFault k e = let r = reading SinkFault (λ m. cc) k in absurd (sink ((e r.0 (the_reading_is_right_for j replies r.0 r.1)).sink_fault refl))
     decide Usage k e =
         let r = reading Usage (λ m. cc) k in
-        let none = usage_cause j r.0 replies ((e r.0 (the_reading_is_right replies r.0 r.1)).finished tt) in absurd (cc)
+        let none = usage_cause j r.0 replies ((e r.0 (the_reading_is_right_for j replies r.0 r.1)).finished tt) in absurd (cc)
     decide ReadFault k e =
         let r = reading ReadFault (λ m. cc) k in
-        let end = e r.0 (the_reading_is_right replies r.0 r.1) in
+        let end = e r.0 (the_reading_is_right_for j replies r.0 r.1) in
         absurd (shelf (failed_rose replies old.shelf.faults new.shelf.faults (read_cause j r.0 replies (end.finished tt) end.taken) end.served.faults))
     decide SpecFault k e =
         let r = reading SpecFault (λ m. cc) k in
-        let right = the_reading_is_right replies r.0 r.1 in
-        absurd (not_accepted j r.0 replies r.1 (spec_cause j r.0 replies right.verdict ((e r.0 right).finished tt)) fit)
+        let right = the_reading_is_right_for j replies r.0 r.1 in
+        absurd (not_accepted j r.0 replies r.1 (spec_cause j r.0 replies right ((e r.0 right).finished tt)) fit.spec)
     decide ScriptFault k e =
         let r = reading ScriptFault (λ m. cc) k in
-        absurd ((script_cause j r.0 replies ((e r.0 (the_reading_is_right replies r.0 r.1)).finished tt)).1 fit.script)
+        absurd ((script_cause j r.0 replies ((e r.0 (the_reading_is_right_for j replies r.0 r.1)).finished tt)).1 fit.script)
+
+-- where memory was not wanting, there is a right reading
+pub right_of : (asked : Option Job) (old new : World) (replies : List Reply) (status : Status) → IsRead asked old replies status new → status ≢ Memory → (r : Reading) × IsRightFor asked replies r
+right_of asked old new replies status k other = let r = reading_of asked old new replies status k other in (r.0, the_reading_is_right_for asked replies r.0 r.1)

@@ -10,3 +10,4 @@ pub mod Blank
 pub mod CauseLaws
 pub mod Exits
 pub mod Worked
+pub mod Works

@@ -1,5 +1,5 @@
 -- What follows the fetches of the specification and of the script
-use Rattle.std.proofs.Common.{◌≡◌, ◌≢◌, ℕ, List, [], ◌∷◌, ◌++◌, Option, Some, Result, Ok, Err, IfOk, IfErr, inl, inr, refl, sym, ap, ◌∙◌, subst, arith}
+use Rattle.std.proofs.Common.{◌≡◌, ◌≢◌, ℕ, List, [], ◌∷◌, ◌++◌, Option, Some, None, Result, Ok, Err, IfOk, IfErr, inl, inr, refl, sym, ap, ◌∙◌, subst, arith}
 use Rattle.sg_kinds.specs.declared.spec.Spec.{Spec}
 use Rattle.sg_kinds.specs.declared.fault.SpecFault.{SpecFault as Fault}
 use Rattle.sg_kinds.specs.declared.fault.SpecFault.TheVariants as fault
@@ -19,9 +19,10 @@ use Rattle.sg_told.specs.declared.status.Status.TheVariants.{Memory, ReadFault, 
 use Rattle.sg_told.specs.Job.{Job, job, spec_name}
 use Rattle.sg_told.specs.Told.{Told, before, text, asked}
 use Rattle.sg_told.specs.Output.{opened, judged, scanned, scripted, read_fault_text, script_missing_text, script_fault_text, whole_file, with_spec, with_script, job_told, told}
-use Rattle.sg_told.specs.Reading.{Reading, IsVerdictIn, IsTheVerdictIn, AreReadersOf, IsRight, IsTheReading}
+use Rattle.sg_told.specs.Reading.{Reading, IsVerdictIn, IsTheVerdictIn, AreReadersOf, IsRight, IsTheReading, IsTheReadingFor}
+use Rattle.sg_told.specs.Job.Job.{Show, Check, Run, Load}
 use Rattle.sg_told.specs.Opening.{IsFetched, IsVerdictOf, IsTheVerdictOf, IsAdmitted, IsOpened, IsScriptOf, IsQuiet, IsKnown, IsKnownOf}
-use Rattle.sg_told.specs.Causes.{Unjudged, IsReadOf, IsRead}
+use Rattle.sg_told.specs.Causes.{Unjudged, IsUnjudged, IsReadOf, IsRead}
 use Rattle.sg_told.specs.World.{SinkState, World, world}
 use Rattle.sg_told.specs.Parts.{Ends, Passed, Played, Finished}
 use Rattle.sg_told.proofs.Endings.{ends_as, ends_text}
@@ -195,11 +196,29 @@ played_admitted name rb rm ra shelf shelf' sink sink' n spec follow new status n
     (passed_fetched name (opened (follow r.readers) r.verdict) rb rm shelf shelf' sink sink' n f same) in
     played_after (with_spec (follow r.readers) name r.verdict) (follow r.readers spec) rb rm ra (world shelf sink n) (world shelf' sink' n) new status passed (p r.readers (right.readers spec accepted))
 
--- the same of the specification of a job
-pub read_job : (asked : Option Job) (job : Job) (name : List ℕ) (old new : World) (replies : List Reply) (status : Status) → asked ≡ Some job → spec_name job ≡ name
+-- a job whose specification is fetched
+abbrev pub Fetches : Job → Type 0
+Fetches (Load n) = ⊥
+Fetches job = Unit {0}
+
+fetched_reading : (job : Job) (replies : List Reply) (r : Reading) → Fetches job → IsTheReading replies r → IsTheReadingFor (Some job) replies r
+fetched_reading (Load n) replies r fetches the = absurd fetches
+fetched_reading (Show name) replies r is the = the
+fetched_reading (Check name) replies r is the = the
+fetched_reading (Run name script w h) replies r is the = the
+
+fetched_unjudged : (job : Job) (old : World) (replies : List Reply) (status : Status) (new : World) → Fetches job → Unjudged (spec_name job) old replies status new → IsUnjudged job old replies status new
+fetched_unjudged (Load n) old replies status new fetches u = absurd fetches
+fetched_unjudged (Show name) old replies status new is u = u
+fetched_unjudged (Check name) old replies status new is u = u
+fetched_unjudged (Run name script w h) old replies status new is u = u
+
+pub read_job : (asked : Option Job) (job : Job) (name : List ℕ) (old new : World) (replies : List Reply) (status : Status) → Fetches job → asked ≡ Some job → spec_name job ≡ name
     → IsReadOf name old replies status new → IsRead asked old replies status new
-read_job asked job name old new replies status e is (inl k) = inl k
-read_job asked job name old new replies status e is (inr u) = inr (job, e, subst (λ (x : List ℕ). Unjudged x old replies status new) (sym is) u)
+read_job asked job name old new replies status fetches e is (inl k) =
+    inl (k.0, subst (λ (j : Option Job). IsTheReadingFor j replies k.0) (sym e) (fetched_reading job replies k.0 fetches k.1))
+read_job asked job name old new replies status fetches e is (inr u) =
+    inr (job, e, fetched_unjudged job old replies status new fetches (subst (λ (x : List ℕ). Unjudged x old replies status new) (sym is) u))
 
 -- the same, with the status that it ended with; with the words of the job
 pub read_with : (asked : Option Job) (old new : World) (replies : List Reply) (status other : Status) → IsRead asked old replies status new → other ≡ status → IsRead asked old replies other new
@@ -210,9 +229,15 @@ pub told_by : (j : Option Job) (r : Reading) (words : List (List ℕ)) (rb ra : 
 told_by j r words rb ra status old new e p = subst (λ (x : Option Job). Played (job_told x r) rb ra status old new) e p
 
 -- where memory was not wanting, there is a reading
-pub reading_of : (asked : Option Job) (old new : World) (replies : List Reply) (status : Status) → IsRead asked old replies status new → status ≢ Memory → (r : Reading) × IsTheReading replies r
+pub reading_of : (asked : Option Job) (old new : World) (replies : List Reply) (status : Status) → IsRead asked old replies status new → status ≢ Memory → (r : Reading) × IsTheReadingFor asked replies r
 reading_of asked old new replies status (inl k) other = k
-reading_of asked old new replies status (inr q) other = absurd (other q.2.memory)
+reading_of asked old new replies status (inr q) other = absurd (other (unjudged_memory q.0 old replies status new q.2))
+  where
+    unjudged_memory : (job : Job) (old : World) (replies : List Reply) (status : Status) (new : World) → IsUnjudged job old replies status new → status ≡ Memory
+    unjudged_memory (Load n) old replies status new u = u.memory
+    unjudged_memory (Show name) old replies status new u = u.memory
+    unjudged_memory (Check name) old replies status new u = u.memory
+    unjudged_memory (Run name script w h) old replies status new u = u.memory
 
 -- the only reading is right
 pub the_reading_is_right : (replies : List Reply) (r : Reading) → IsTheReading replies r → IsRight replies r
@@ -268,13 +293,11 @@ script_ended reply bytes old new (Err s) is ended = λ next quiet at n.
 pub read_nothing : (name : List ℕ) (old new : World) (replies : List Reply) (status : Status) (readers : Readers) → replies ≡ [] → IsReadOf name old replies status new
 read_nothing name old new replies status readers none = inl (record { verdict = Refused fault.TooLong; readers = readers }, the_reading_of_nothing replies readers none)
 
-pub read_none : (asked : Option Job) (old new : World) (replies : List Reply) (status : Status) (readers : Readers) → replies ≡ [] → IsRead asked old replies status new
-read_none asked old new replies status readers none = inl (record { verdict = Refused fault.TooLong; readers = readers }, the_reading_of_nothing replies readers none)
+pub read_none : (asked : Option Job) (old new : World) (replies : List Reply) (status : Status) (readers : Readers) → None ≡ asked → replies ≡ [] → IsRead asked old replies status new
+read_none asked old new replies status readers is none =
+    let r : Reading = record { verdict = Refused fault.TooLong; readers = readers } in
+    inl (r, subst (λ (j : Option Job). IsTheReadingFor j replies r) is (the_reading_of_nothing replies readers none))
 
 -- the same, with the status that it ended with
 pub read_as : (name : List ℕ) (old new : World) (replies : List Reply) (status other : Status) → other ≡ status → IsReadOf name old replies status new → IsReadOf name old replies other new
 read_as name old new replies status other e k = subst (λ (s : Status). IsReadOf name old replies s new) (sym e) k
-
--- where memory was not wanting, there is a right reading
-pub right_of : (asked : Option Job) (old new : World) (replies : List Reply) (status : Status) → IsRead asked old replies status new → status ≢ Memory → (r : Reading) × IsRight replies r
-right_of asked old new replies status k other = let r = reading_of asked old new replies status k other in (r.0, the_reading_is_right replies r.0 r.1)

@@ -12,10 +12,11 @@ use Rattle.sg_load.specs.Verdict.{IsVerdict}
 use Rattle.sg_load.specs.Verdict.Verdict.{Refused, Accepted}
 use Rattle.sg_told.specs.declared.status.Status.{Status}
 use Rattle.sg_told.specs.declared.status.Status.TheVariants.{Memory}
+use Rattle.sg_workload.specs.Lines.{lines_text}
 use Rattle.sg_told.specs.Job.{Job, spec_name}
-use Rattle.sg_told.specs.Job.Job.{Run}
+use Rattle.sg_told.specs.Job.Job.{Run, Load}
 use Rattle.sg_told.specs.Output.{whole_file}
-use Rattle.sg_told.specs.Reading.{Reading, IsTheReading}
+use Rattle.sg_told.specs.Reading.{Reading, IsTheReading, IsTheReadingFor}
 use Rattle.sg_told.specs.World.{World}
 
 -- memory was wanting before there was a verdict: the specification of that name was fetched, and nothing was written or
@@ -33,10 +34,22 @@ abbrev pub IsReadOf : List ℕ → World → List Reply → Status → World →
 IsReadOf name old replies status new =
     ((r : Reading) × IsTheReading replies r) ⊎ Unjudged name old replies status new
 
+-- the same of the built-in specification, which is not fetched
+pub record IsUnopened (old : World) (replies : List Reply) (status : Status) (new : World) : Type 0 where
+  pub memory : status ≡ Memory
+  pub none : replies ≡ []
+  pub shelf : new.shelf ≡ old.shelf
+  pub sink : new.sink ≡ old.sink
+  pub counted : new.counted ≡ old.counted
+
 -- the same of the specification of this job
+abbrev pub IsUnjudged : Job → World → List Reply → Status → World → Type 0
+IsUnjudged (Load n) old replies status new = IsUnopened old replies status new
+IsUnjudged job old replies status new = Unjudged (spec_name job) old replies status new
+
 abbrev pub IsRead : Option Job → World → List Reply → Status → World → Type 0
-IsRead asked old replies status new = ((r : Reading) × IsTheReading replies r)
-    ⊎ ((job : Job) × (asked ≡ Some job) × Unjudged (spec_name job) old replies status new)
+IsRead asked old replies status new = ((r : Reading) × IsTheReadingFor asked replies r)
+    ⊎ ((job : Job) × (asked ≡ Some job) × IsUnjudged job old replies status new)
 
 -- the last reply is a failed fetch
 abbrev pub LastFailed : List Reply → Type 0
@@ -57,6 +70,11 @@ HasFault bytes = (f : SpecFault) × IsVerdict bytes (Refused f)
 abbrev pub HasNoFault : List ℕ → Type 0
 HasNoFault bytes = (spec : Spec) × IsVerdict bytes (Accepted spec)
 
+-- the specification of a job has a fault
+abbrev pub IsSpecRefused : Option Job → List Reply → Type 0
+IsSpecRefused (Some (Load n)) replies = HasFault lines_text
+IsSpecRefused job replies = FirstFetched replies HasFault
+
 -- a text that is no script; one that is
 abbrev pub IsNoScript : List ℕ → Type 0
 IsNoScript bytes = (f : ScriptFault) × (script_of bytes ≡ Err f)
@@ -70,6 +88,10 @@ AreScripts (Some (Run name script width height)) replies =
     (first : Reply) (bytes : List ℕ) (rest : List Reply) → replies ≡ first ∷ Fetched bytes ∷ rest → IsScript bytes
 AreScripts job replies = ⊤
 
+abbrev pub IsSpecAccepted : Option Job → List Reply → Type 0
+IsSpecAccepted (Some (Load n)) replies = HasNoFault lines_text
+IsSpecAccepted job replies = (bytes : List ℕ) (rest : List Reply) → replies ≡ Fetched bytes ∷ rest → HasNoFault bytes
+
 pub record IsAccepted (job : Option Job) (replies : List Reply) : Type 0 where
-  pub spec : (bytes : List ℕ) (rest : List Reply) → replies ≡ Fetched bytes ∷ rest → HasNoFault bytes
+  pub spec : IsSpecAccepted job replies
   pub script : AreScripts job replies

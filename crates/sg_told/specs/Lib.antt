@@ -2,6 +2,8 @@ pub mod Statuses
 pub mod Job
 pub mod Told
 pub mod Session
+pub mod Judged
+pub mod Work
 pub mod Output
 pub mod Reading
 pub mod World

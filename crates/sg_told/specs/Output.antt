@@ -2,10 +2,7 @@
 use Rattle.std.specs.Prelude.{ℕ, List, [], ◌∷◌, ◌++◌, Option, Some, None, Result, Ok, Err, codes}
 use Rattle.std.specs.Fmt.{decimal}
 use Rattle.sg_kinds.specs.declared.spec.Spec.{Spec}
-use Rattle.sg_kinds.specs.declared.fault.SpecFault.{SpecFault as Fault}
-use Rattle.sg_faults.specs.FaultLine.{fault_line}
 use Rattle.sg_load.specs.Verdict.{Verdict}
-use Rattle.sg_load.specs.Verdict.Verdict.{Refused, Accepted}
 use Rattle.sg_replies.specs.declared.reply.Reply.{Reply}
 use Rattle.sg_replies.specs.declared.reply.Reply.TheVariants.{Fetched, FetchFailed, Kept, KeepFailed}
 use Rattle.sg_replies.specs.Requests.{Request}
@@ -17,11 +14,13 @@ use Rattle.sg_script.specs.declared.fault.ScriptFault.TheVariants.{Long, Line, M
 use Rattle.sg_script.specs.Script.{script_of}
 use Rattle.sg_editor.specs.Ask.{Readers}
 use Rattle.sg_editor.specs.Session.{start}
-use Rattle.sg_told.specs.declared.status.Status.TheVariants.{Done, Usage, ReadFault, SpecFault, ScriptFault}
+use Rattle.sg_told.specs.declared.status.Status.TheVariants.{Done, Usage, ReadFault, ScriptFault}
 use Rattle.sg_told.specs.Job.{Job, job}
-use Rattle.sg_told.specs.Job.Job.{Show, Check, Run}
+use Rattle.sg_told.specs.Job.Job.{Show, Check, Run, Load}
 use Rattle.sg_told.specs.Reading.{Reading}
+pub use Rattle.sg_told.specs.Judged.{fault_told, judged}
 use Rattle.sg_told.specs.Told.{Told, text, asked}
+use Rattle.sg_told.specs.Work.{work_told}
 use Rattle.sg_told.specs.Session.{desk, session}
 
 -- where the words are no job
@@ -45,15 +44,6 @@ script_fault_text Long = codes "script long" ++ 10 ∷ []
 script_fault_text (Line n) = codes "script line " ++ decimal n ++ 10 ∷ []
 script_fault_text (Many n) = codes "script many " ++ decimal n ++ 10 ∷ []
 script_fault_text NoMemory = []
-
--- a static fault ends the run
-abbrev pub fault_told : Fault → Told
-fault_told f = text SpecFault (fault_line f)
-
--- what follows with the record, unless the specification has a fault
-abbrev pub judged : Verdict → (Spec → Told) → Told
-judged (Refused f) next = fault_told f
-judged (Accepted spec) next = next spec
 
 -- what follows with the commands, unless the script is not in its form
 abbrev pub scanned : Result (List Command) NoScript → (List Command → Told) → Told
@@ -108,6 +98,7 @@ job_told (Some (Show name)) r replies = with_spec (shown r.readers) name r.verdi
 job_told (Some (Check name)) r replies = with_spec checked name r.verdict replies
 job_told (Some (Run name script width height)) r replies =
     with_spec (performed script width height r.readers) name r.verdict replies
+job_told (Some (Load n)) r replies = work_told n r
 
 -- what a run of these words tells where the shelf gives these replies, and the texts among them are read so
 abbrev pub told : List (List ℕ) → Reading → List Reply → Told

@@ -2,11 +2,9 @@ use Rattle.std.proofs.Common.{map, string_bytes, refl, sym}
 use Rattle.sg_told.specs.declared.status.Status.TheVariants.{Memory, Usage, ReadFault, SpecFault, ScriptFault, SinkFault}
 use Rattle.sg_told.specs.Causes.{LastFailed}
 use Rattle.sg_told.specs.Job.{job}
-use Rattle.sg_told.specs.Reading.{IsRight}
 use Rattle.sg_told.proofs.Endings.{ends_with}
 use Rattle.sg_told.proofs.Fronts.{cut_front}
-use Rattle.sg_told.proofs.Opened.{right_of}
-use Rattle.sg_told.proofs.CauseLaws.{usage_cause, read_cause, spec_cause, script_cause, failed_rose, failures_counted, done_or_memory}
+use Rattle.sg_told.proofs.CauseLaws.{right_of, usage_cause, read_cause, spec_cause, script_cause, failed_rose, failures_counted, done_or_memory}
 use Rattle.sg_run.proofs.running.run.Goals as goal
 
 pub returns-clause-failed_replies : goal.returns-clause-failed_replies
@@ -35,8 +33,7 @@ returns-clause-read_fault g c = λ is.
 pub returns-clause-spec_fault : goal.returns-clause-spec_fault
 returns-clause-spec_fault g c = λ is.
     let k = right_of _ _ _ _ _ c.run_to_end.ensures.known (λ m. cc) in
-    let right : IsRight c.run_to_end.result.replies.items k.0 = k.1 in
-    spec_cause (job (map string_bytes c.args.words.now)) k.0 c.run_to_end.result.replies.items right.verdict ((ends_with _ _ _ _ _ SpecFault (c.run_to_end.ensures.ended k.0 k.1) (sym is)).finished tt)
+    spec_cause (job (map string_bytes c.args.words.now)) k.0 c.run_to_end.result.replies.items k.1 ((ends_with _ _ _ _ _ SpecFault (c.run_to_end.ensures.ended k.0 k.1) (sym is)).finished tt)
 
 pub returns-clause-script_fault : goal.returns-clause-script_fault
 returns-clause-script_fault g c = λ is.

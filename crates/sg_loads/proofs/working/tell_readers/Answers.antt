@@ -1,7 +1,7 @@
 use Rattle.std.proofs.Common.{subst}
 use Rattle.sg_lalr.specs.Tables.{Decided, IsTables}
 use Rattle.sg_load.specs.Loaded.{Contents}
-use Rattle.sg_run.proofs.opening.tell_readers.Goals as goal
+use Rattle.sg_loads.proofs.working.tell_readers.Goals as goal
 
 pub returns : goal.returns
 returns c =

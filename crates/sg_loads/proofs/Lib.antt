@@ -1,0 +1,3 @@
+pub mod Performing
+pub mod Quiet
+pub mod Ending
