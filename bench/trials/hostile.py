@@ -82,13 +82,11 @@ L ::= (NUM) { Leaf(STRtoINT(NUM.value)) } | ('(' L) { Link(L$2.t) };
 link ~ L.t;
 INT dig(INT n) { n == 0 ? 0 : 1 + dig(n - 1) };
 link Climb(INT n, link l) { n == 0 ? l : Climb(n - 1, Link(l)) };
-transform link on "shallow" l : Leaf(dig(1000));
-transform link on "far" l : Leaf(dig(2046));
-transform link on "farther" l : Leaf(dig(2047));
-transform link on "deep" l : Leaf(dig(2048));
-transform link on "deeper" l : Leaf(dig(100000));
-transform link on "climb" l : Climb(1000, l);
-transform link on "climb far" l : Climb(2000, l);
+transform link on "far" l : Leaf(dig(681));
+transform link on "too far" l : Leaf(dig(682));
+transform link on "deep" l : Leaf(dig(100000));
+transform link on "climb" l : Climb(1022, l);
+transform link on "climb far" l : Climb(1023, l);
 """
 
 EVERY = """
@@ -218,7 +216,6 @@ def add(table):
               {"open": Pieces((HEAD, 1), (b"a(", 2000000)), "closed": Pieces((HEAD, 1), (b"a(", 1390000), (b")", 1390000), (b"\n", 1)),
                "inner": Pieces((HEAD + b"Top(", 1), (b"Link(", 690000), (b"End()", 1), (b")", 690001), (b"\n", 1))})
     table.run("Calls that nest deep, and terms that they make.", "chain",
-              ["new a", "next"] + [f'do "{name}"' for name in ("shallow", "far", "farther", "deep", "deeper", "climb", "climb", "climb far")],
-              (40, 1))
+              ["new a", "next", 'do "too far"', 'do "deep"', 'do "climb far"', 'do "climb"', 'do "climb"', "undo", 'do "far"', 'do "climb"'], (40, 1))
     table.run("Texts that nest deep.", "chain",
               ["new a", "next", f'text "{"(" * 1021}1"', f'text "{"(" * 1022}1"', f'text "{"(" * 900000}1"', f'text "{"(" * 30000}"'], (40, 1))
