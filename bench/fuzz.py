@@ -31,6 +31,7 @@ ODD = [b"\0", b"\t", b"\r", b"\x7f", b"\x80", b"\xff", b"\xc3\xa9", b"/*", b"*/"
 LINES = ["next", "prev", "up", "first", "sibling", "delete", "remove", "insert-before", "insert-after", "cut", "copy", "paste", "erase",
          "enter", "abandon", "alternate", "elide", "undo", "redo", "show", "save kept", "load again kept", "load b file", "new b",
          "save-text text", "load c text", "load d script", "load e spec", "load f none", "switch b", "switch a"]
+SIGNS = [(b"+", b"-", b"*", b"/"), (b"<", b"==", b">"), (b"&", b"|"), (b":", b"::="), (b"@", b"^")]
 # What a text has to begin with, by its status.
 TEXTS = {2: b"usage: ", 3: b"read fault ", 4: b"fault ", 5: b"script "}
 NO_TEXT = 8
@@ -138,6 +139,29 @@ def lines_damaged(rng, data, others):
     return b"\n".join(lines)
 
 
+def altered(rng, data):
+    """A specification in which one or two words or signs are others of their kind, so that it is often one still."""
+    pieces = PIECES.findall(data)
+    for _ in range(rng.choice((1, 1, 2))):
+        at = rng.randrange(len(pieces))
+        while pieces[at].isspace() or pieces[at] in b";{}()":
+            at = rng.randrange(len(pieces))
+        piece = pieces[at]
+        near = pieces[max(0, at - 150):at + 150]
+        group = next((group for group in SIGNS if piece in group), None)
+        if piece.isdigit():
+            pieces[at] = rng.choice((b"0", b"1", b"2", b"3", b"7", b"9223372036854775807"))
+        elif group:
+            pieces[at] = rng.choice(group)
+        elif piece[:1].isalpha():
+            pieces[at] = rng.choice([p for p in near if p[:1].isalpha() and p[:1].islower() == piece[:1].islower()])
+        elif piece[:1] in b"\"'":
+            pieces[at] = rng.choice([p for p in near if p[:1] == piece[:1]])
+        else:
+            pieces[at:at + 1] = rng.choice(([], [piece, piece]))
+    return b"".join(pieces)
+
+
 def script(rng, corpus, spec):
     """A script, mostly of commands that are ones, many of them at home in the language."""
     own, lines = corpus.lines[spec], ["new a"]
@@ -169,10 +193,12 @@ def made(rng, corpus):
     words = ["run", "spec", "script"]
     if rng.random() < 0.2:
         words += [str(rng.choice((1, 2, 20, 80, 1024))), str(rng.choice((1, 3, 24, 200)))]
-    kind = rng.choices(("spec", "script", "commands", "saved", "bytes", "words"), (35, 15, 20, 15, 8, 7))[0]
+    kind = rng.choices(("spec", "language", "script", "commands", "saved", "bytes", "words"), (25, 22, 12, 18, 12, 6, 5))[0]
     if kind == "spec":
         files["spec"] = damaged(rng, corpus.specs[rng.choice(list(corpus.specs))], corpus.names)
         words = rng.choice((["check", "spec"], ["check", "spec"], ["show", "spec"], words))
+    elif kind == "language":
+        files["spec"] = altered(rng, corpus.specs[spec])
     elif kind == "script":
         files["script"] = damaged(rng, files["script"], [line.encode() for line in corpus.every])
     elif kind == "saved":
