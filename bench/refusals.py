@@ -126,7 +126,7 @@ def memory(given, case, place, made):
                     print(f"{place}: allocation {number}: {wrong}", flush=True)
                 if given.keep:
                     (log / str(number)).exists() and (log / str(number)).rename(Path(given.keep) / f"{place.replace(':', '-')}-{number}")
-    stopped = len({row[2] for row in tried})
+    stopped = len({row[2] for row in tried if row[1] == MEMORY != case.status})
     print(f"{place}: {count} allocations, {len(tried)} refused: {told['memory']} ended for want of memory after {stopped} fronts, "
           f"{told['whole']} whole, {bad} wrong, {time.time() - began:.0f} s", flush=True)
     return bad > 0
