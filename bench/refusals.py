@@ -1,136 +1,177 @@
 #!/usr/bin/env python3
-"""refusals.py TABLE LINE [--crate CRATE] [--at N,N..] [--some K] [--sweep]
-refusals.py TABLE LINE --stack PROGRAM.. [--kib K]
+"""refusals.py PROGRAM TABLE [LINE..] [--again] [--from N] [--step K] [--keep FOLDER]
+refusals.py PROGRAM TABLE [LINE..] --stack [--kib K]
 
-Runs the case at a line of a table of cases while memory is refused, or with a small stack, and holds what comes against
-what the case wants. The case is one whose shelf and sink never fail.
+Runs the cases at these lines of a table of cases on PROGRAM, a built ssled, while memory is refused, or with a small
+stack, and holds what comes against what each case wants. The cases are ones whose shelf and sink never fail. With no
+line each such case of the table is run.
 
-Memory: `rt try --fail-alloc N` runs the program of CRATE (crates/ssled) with its Nth allocation refused, for each N of
---at, or for K numbers (12) spread evenly from 1 to the first at which nothing is refused any more. The status is 1 and
-the output ends after some of the wanted blocks, or status and output are those of the case. Each N builds the program
-anew. With --sweep each N from 1 on is run instead, with one build: rt tells the runs that fault, hang or end with the
-same status and other output.
+Memory: `refuse.c` beside this file forks the run at each of its allocations from number N (1) on, or at each K-th, and
+refuses that one in the child. The status is 1, the output ends after some of the wanted blocks, and the files are those
+before or after a command that keeps one; or status, output and files are those of the case. What is wrong stays in
+FOLDER.
 
-Stack: each PROGRAM, a built one, runs the case with a stack of K KiB (8,192): status, output and kept files are those
-of the case. The programs of both compilers come from `rt run --backend llvm` and `rt run --backend rattle`.
+With --again PROGRAM is a built ssled_again, which gives a command that finds no memory once more, and the cases are
+those with a script. The status is 1 only where nothing is written yet; else status, output and files are those of the
+case.
+
+Stack: the case runs with a stack of K KiB (8,192): status, output and kept files are those of the case.
 """
 import argparse
+import os
 import resource
 import subprocess
 import sys
 import tempfile
+import time
+from collections import Counter
 from pathlib import Path
 
-sys.path.insert(0, str(Path(__file__).resolve().parent / "trials"))
+HERE = Path(__file__).resolve().parent
+sys.path.insert(0, str(HERE / "trials"))
 from check import cases  # noqa: E402
 
 MEMORY = 1
-# What rt answers with 4 or more where a run faulted, gave no answer, or the two runs differ.
-NO_ANSWER = (2, 3, 4, 5, 6)
 
 
 def fronts(output):
-    """The outputs that end after some of the blocks, the empty one and the whole one among them."""
-    ends, at = [b""], 0
+    """The lengths of the outputs that end after some of the blocks, the empty one and the whole one among them."""
+    ends, at = {0}, 0
     for line in output.splitlines(keepends=True):
         if not line.startswith(b"|") and at:
-            ends.append(output[:at])
+            ends.add(at)
         at += len(line)
-    return [*ends, output]
+    return ends | {at}
 
 
-def tried(crate, case, folder, flags):
-    """Status, output and the lines of rt of the case under rt try."""
-    words = ["rt", "try", *flags]
-    for name, data in case.files.items():
-        (folder / name).write_bytes(data)
-        words += ["--data", f"{name}={folder / name}"]
-    done = subprocess.run([*words, "--", *case.words], cwd=crate, capture_output=True, stdin=subprocess.DEVNULL, check=False)
-    return done.returncode, done.stdout, done.stderr.decode(errors="replace")
+def mixed(value, data):
+    for byte in data:
+        value = (value ^ byte) * 1099511628211 & 0xFFFF_FFFF_FFFF_FFFF
+    return value
 
 
-def judged(case, status, output):
-    """What is wrong with an answer, or None; and whether it is that of the case."""
-    if (status, output) == (case.status, case.written):
-        return None, True
+def sum_of(files):
+    """The sum over files by which refuse.c tells them."""
+    start = 14695981039346656037
+    return sum(mixed(start, name.encode() + b"\0" + data) for name, data in files.items()) & 0xFFFF_FFFF_FFFF_FFFF
+
+
+def library(folder):
+    """The library that refuses."""
+    made = folder / "refuse.so"
+    subprocess.run(["cc", "-O2", "-shared", "-fPIC", "-o", made, HERE / "refuse.c"], check=True)
+    return made
+
+
+def is_played(case):
+    """Whether the case is a script, played to its end."""
+    return case.words[0] == "run" and case.status == 0 and len(case.words) in (3, 5)
+
+
+def judged(case, ends, status, length, same, files):
+    """What is wrong with an answer, or None. The files are as before, as later, or others."""
+    if not same:
+        return "output that is no front of what is wanted"
+    if status == case.status and length == len(case.written) and files == "last":
+        return None
     if status != MEMORY:
-        return f"status {status}", False
-    if output not in fronts(case.written):
-        return "output that ends within a block, or is no front of what is wanted", False
-    return None, False
+        return f"status {status}, {length} bytes"
+    if length not in ends:
+        return f"output of {length} bytes, which ends within a block"
+    return None if files else "files that are neither those before nor those after a command"
 
 
-def numbers(given, answer):
-    """The numbers to refuse: those given, or some up to the first at which the run is whole."""
-    if given.at:
-        return [int(n) for n in given.at.split(",")]
-    most = 64
-    while not answer(most):
-        most *= 4
-    return sorted({1 + (most - 1) * k // max(1, given.some - 1) for k in range(given.some)})
+def rows_of(log):
+    """The lines of a log: number, status, length, whether the bytes are wanted ones, and the sums before and after."""
+    for line in log.read_text().splitlines():
+        number, status, length, same, before, after = line.split(" ")
+        yield int(number), int(status), int(length), same == "1", int(before, 16), int(after, 16)
 
 
-def memory(given, case):
-    with tempfile.TemporaryDirectory() as folder:
-        folder = Path(folder)
-        status, output, said = tried(given.crate, case, folder, [])
-        if (status, output) != (case.status, case.written):
-            sys.exit(f"with all memory: status {status}, {len(output)} bytes\n{said[-2000:]}")
-        if given.sweep:
-            status, _, said = tried(given.crate, case, folder, ["--fail-alloc", "1.."])
-            print(said[-4000:])
-            return status in NO_ANSWER
-        seen = {}
+def memory(given, case, place, made):
+    began = time.time()
+    with tempfile.TemporaryDirectory(dir=given.keep) as base:
+        base = Path(base)
+        shelf, log = base / "files", base / "tried"
+        shelf.mkdir()
+        log.mkdir()
+        for name, data in case.files.items():
+            (shelf / name).write_bytes(data)
+        (log / "wanted").write_bytes(case.written)
+        more = {"REFUSE": str(log), "REFUSE_FROM": str(given.first), "REFUSE_STEP": str(given.step), "LD_PRELOAD": str(made)}
+        with (base / "output").open("wb") as output:
+            words = case.words[1:] if given.again else case.words
+            done = subprocess.run([given.program, *words], cwd=shelf, stdout=output, env={**os.environ, **more}, check=False)
+        if (done.returncode, (base / "output").read_bytes()) != (case.status, case.written):
+            print(f"{place}: with all memory: status {done.returncode}")
+            return True
+        rows = list(rows_of(log / "log"))
+        last = sum_of({**case.files, **case.after})
+        *tried, (zero, _, count, _, _, final) = rows
+        assert zero == 0 and final == last, "the files of the whole run"
+        # Of each row the sum that comes next, when a command keeps a file.
+        later, known = last, {}
+        for row, following in zip(reversed(tried), reversed([*tried[1:], None])):
+            if following and following[4] != row[4]:
+                later = following[4]
+            known[row[0]] = later
+        ends, told, bad = {0} if given.again else fronts(case.written), Counter(), 0
+        for number, status, length, same, before, after in tried:
+            files = "last" if after == last else "known" if after in (before, known[number]) else None
+            wrong = judged(case, ends, status, length, same, files)
+            told["memory" if status == MEMORY != case.status else "whole"] += 1
+            if wrong:
+                bad += 1
+                if bad <= 5:
+                    print(f"{place}: allocation {number}: {wrong}", flush=True)
+                if given.keep:
+                    (log / str(number)).exists() and (log / str(number)).rename(Path(given.keep) / f"{place.replace(':', '-')}-{number}")
+    stopped = len({row[2] for row in tried if row[1] == MEMORY != case.status})
+    print(f"{place}: {count} allocations, {len(tried)} refused: {told['memory']} ended for want of memory after {stopped} fronts, "
+          f"{told['whole']} whole, {bad} wrong, {time.time() - began:.0f} s", flush=True)
+    return bad > 0
 
-        def answer(number):
-            if number not in seen:
-                status, output, said = tried(given.crate, case, folder, ["--fail-alloc", str(number)])
-                wrong, whole = judged(case, status, output)
-                seen[number] = wrong, whole
-                tells = f"WRONG: {wrong}\n{said[-1000:]}" if wrong else "as without" if whole else f"{len(output)} bytes stand"
-                print(f"{number:8} status {status} {tells}", flush=True)
-            return seen[number][1]
 
-        for number in numbers(given, answer):
-            answer(number)
-        bad = sum(wrong is not None for wrong, _ in seen.values())
-        print(f"{len(seen)} numbers, {sum(not whole for _, whole in seen.values())} refused, {bad} wrong")
-        return bad > 0
-
-
-def stack(given, case):
+def stack(given, case, place):
     def small():
         resource.setrlimit(resource.RLIMIT_STACK, (given.kib * 1024, given.kib * 1024))
 
-    bad = False
-    for program in given.stack:
-        with tempfile.TemporaryDirectory() as folder:
-            for name, data in case.files.items():
-                (Path(folder) / name).write_bytes(data)
-            done = subprocess.run([str(Path(program).resolve()), *case.words], cwd=folder, stdout=subprocess.PIPE,
-                                  preexec_fn=small, check=False)
-            kept = {p.name: p.read_bytes() for p in Path(folder).iterdir()}
-        right = (done.returncode, done.stdout) == (case.status, case.written) and kept == {**case.files, **case.after}
-        print(f"{program}: {'as wanted' if right else f'WRONG: status {done.returncode}, {len(done.stdout)} bytes'}")
-        bad = bad or not right
-    return bad
+    with tempfile.TemporaryDirectory() as folder:
+        for name, data in case.files.items():
+            (Path(folder) / name).write_bytes(data)
+        done = subprocess.run([given.program, *case.words], cwd=folder, stdout=subprocess.PIPE, preexec_fn=small, check=False)
+        kept = {p.name: p.read_bytes() for p in Path(folder).iterdir()}
+    right = (done.returncode, done.stdout) == (case.status, case.written) and kept == {**case.files, **case.after}
+    print(f"{place}: {'as wanted' if right else f'WRONG: status {done.returncode}, {len(done.stdout)} bytes'}")
+    return not right
 
 
 def main():
     words = argparse.ArgumentParser(description=__doc__, formatter_class=argparse.RawDescriptionHelpFormatter)
+    words.add_argument("program", type=lambda path: str(Path(path).resolve()))
     words.add_argument("table", type=Path)
-    words.add_argument("line", type=int)
-    words.add_argument("--crate", default="crates/ssled")
-    words.add_argument("--at")
-    words.add_argument("--some", type=int, default=12)
-    words.add_argument("--sweep", action="store_true")
-    words.add_argument("--stack", nargs="+")
+    words.add_argument("lines", type=int, nargs="*")
+    words.add_argument("--from", type=int, default=1, dest="first")
+    words.add_argument("--step", type=int, default=1)
+    words.add_argument("--again", action="store_true")
+    words.add_argument("--keep")
+    words.add_argument("--stack", action="store_true")
     words.add_argument("--kib", type=int, default=8192)
     given = words.parse_args()
-    case = next((case for line, case in cases(given.table) if line == given.line), None)
-    if case is None or case.fails:
-        sys.exit("no case of a whole shelf and sink begins at this line")
-    sys.exit(stack(given, case) if given.stack else memory(given, case))
+    found = {line: case for line, case in cases(given.table) if not case.fails and (is_played(case) or not given.again)}
+    missing = set(given.lines) - set(found)
+    if missing:
+        sys.exit(f"no case of a whole shelf and sink begins at {sorted(missing)}")
+    bad = False
+    with tempfile.TemporaryDirectory() as folder:
+        made = None if given.stack else library(Path(folder))
+        for line in given.lines or found:
+            place = f"{given.table.name}:{line}"
+            if given.stack:
+                bad = stack(given, found[line], place) or bad
+            else:
+                bad = memory(given, found[line], place, made) or bad
+    sys.exit(bad)
 
 
 if __name__ == "__main__":

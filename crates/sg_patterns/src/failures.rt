@@ -13,8 +13,8 @@ use crate::program::{Above, Program, flag};
 use sg_kinds::memory::NoMemory;
 use std::alloc::Global;
 
-/// Checkpoints stand at multiples of so many bytes.
-pub const APART: usize = 64;
+/// How many bytes checkpoints are apart at least.
+const APART: usize = 64;
 
 /// How many checkpoints there are for places with equally many trailing zeros: runs that began at different places may
 /// differ in their flags at one place.
@@ -89,8 +89,8 @@ impl Failures {
         })
     }
 
-    /// Whether it is known that no match ends behind a place with these flags. If it is not, they are kept for later: the
-    /// last flags that were met at a place with so many trailing zeros, and with so low a first one.
+    /// Whether it is known that no match ends behind a place with these flags. If it is not, they may be kept for
+    /// later: the last flags that were met at a place with so many trailing zeros, and with so low a first one.
     pub fn meets(&mut self, place: usize, flags: &[bool]) -> bool
         ensures sized { (n : ℕ) → HasSize n self.old → HasSize n self.new }
         ensures met { (p : plain_program.Program) (q : plain.Lexeme) (h : IsProgram p q) (text : Bytes)
@@ -100,6 +100,9 @@ impl Failures {
             → HasSize (length p.nodes.items) self.old → AreSpentIf text h.tree place place flags.now self.old
             → AreSpentIf text h.tree (place + 1) place flags.now self.new }
     {
+        if place % APART != 0 {
+            return false;
+        }
         let level = (place / APART).trailing_zeros() as usize;
         let first = flags.iter().position(|flag| *flag).unwrap_or(0);
         let slot = level * WAYS + first % WAYS;

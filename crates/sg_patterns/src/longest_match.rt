@@ -7,7 +7,7 @@ ghost use Rattle.sg_patterns.specs.Programs.{IsProgram, ArePrograms, AreOrdered,
 ghost use Rattle.sg_patterns.specs.Spent.{HaveFailures};
 
 use crate::failures::{Failures, failures_of};
-use crate::marks::{is_barred, longest_from, with_barred};
+use crate::marks::{longest_from, with_barred};
 use crate::program::Program;
 use sg_kinds::lexeme::Lexeme;
 use sg_kinds::memory::NoMemory;
@@ -75,11 +75,7 @@ pub fn longest_among(
 {
     let mut best = before;
     for (k, program) in programs.iter().enumerate() {
-        let len = if is_barred(program, text, at) {
-            0
-        } else {
-            longest_from(program, text, at, begins, finals, &mut failures[k])
-        };
+        let len = longest_from(program, text, at, begins, finals, &mut failures[k]);
         if len > len_of(best) {
             best = Some((number + k, len));
         }

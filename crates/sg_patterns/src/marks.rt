@@ -7,7 +7,7 @@ ghost use Rattle.std.specs.Bool.{OnTrue, OnFalse};
 ghost use Rattle.sg_patterns.specs.Programs.{flag_at, IsBarred, IsOrdered, IsProgram};
 ghost use Rattle.sg_patterns.specs.Spent.{AreFailures};
 
-use crate::failures::{APART, Failures};
+use crate::failures::Failures;
 use crate::program::{Above, Node, Program, flag};
 use sg_kinds::memory::NoMemory;
 use std::alloc::Global;
@@ -124,7 +124,7 @@ pub fn with_barred(alloc: Global, mut program: Program) -> Result<Program, NoMem
 }
 
 /// Whether it is known that no match that has a byte begins at a place.
-pub fn is_barred(program: &Program, text: &[u8], at: usize) -> bool
+fn is_barred(program: &Program, text: &[u8], at: usize) -> bool
     ensures { OnTrue result ((p : plain.Lexeme) → IsProgram program.now p → IsLength (Pattern p) text.now at 0) }
 {
     at < text.len() && flag(&program.barred, text[at] as usize)
@@ -147,6 +147,9 @@ pub fn longest_from(
     ensures longest { (p : plain.Lexeme) → IsProgram program.now p → IsLength (Pattern p) text.now at result }
     ensures known { AreFailures program.now text.now failures.new }
 {
+    if is_barred(program, text, at) {
+        return 0;
+    }
     clear(program.nodes.len(), finals);
     let mut longest = 0;
     for place in at..text.len() {
@@ -157,7 +160,7 @@ pub fn longest_from(
         if flag(finals, program.root) {
             longest = place + 1 - at;
             failures.after = failures.after.max(place + 1);
-        } else if (place + 1) % APART == 0 && failures.meets(place + 1, finals) {
+        } else if failures.meets(place + 1, finals) {
             return longest;
         }
     }

@@ -52,7 +52,9 @@ impl<T: Drop> From<AllocFailed<T>> for ScanFault {
 /// first lexeme, without those of WHITESPACE; or the first place where none matches a byte.
 ///
 /// It is linear in the text where matches do not look far past their ends, and costs at most the size of the patterns
-/// times the rest of the text for each token. Nothing is allocated for a match.
+/// times the rest of the text for each token. A walk that fails is not made again where it comes to the flags of an
+/// earlier one, so a text on which each token's walk would go on to the end mostly costs little more. Nothing is
+/// allocated for a match.
 pub fn scan(alloc: Global, all: &Lexemes, text: &[u8]) -> Result<Vec<InToken>, ScanFault>
     ensures tokens { IfOk result (λ ts. Scanned all.now text.now (length text.now) ts.items) }
     ensures bad { (k : ℕ) → result ≡ Err (fault.BadAt k) → StopsAt all.now text.now k }

@@ -5,9 +5,9 @@ use Rattle.sg_patterns.specs.LongestMatch.{IsLength, Pattern}
 use Rattle.sg_patterns.specs.Programs.{IsProgram}
 use Rattle.sg_patterns.specs.Spent.{AreSpentIf, HasSize}
 use Rattle.sg_patterns.proofs.LongestSoFar.{Matched, matched-none, matched-all, all-spent, matched-spent}
-use Rattle.sg_patterns.proofs.Failing.{spent-if, if-spent, if-on, if-more, if-final, stepped}
+use Rattle.sg_patterns.proofs.Failing.{spent-if, if-spent, if-on, if-final, stepped}
 use Rattle.sg_patterns.proofs.marks.longest_from.Goals as goal
-use Rattle.sg_patterns.proofs.marks.longest_from.Goals.{then-flag, else-flag+else-place-eq0, else-place-eq0-via-then-place-eq0+else-meets, else-place-eq0-via-else-place-eq0}
+use Rattle.sg_patterns.proofs.marks.longest_from.Goals.{then-flag, else-flag+else-meets}
 
 pub loop-place-init : goal.loop-place-init
 loop-place-init c = record {
@@ -74,23 +74,12 @@ loop-place-preserved c =
             matched = λ p h. (s p h).final (sym c.flag.ensures ∙ w.if-flag.true) c.if-flag.longest (omega arith);
             spent = λ p h. if-final text h.tree (l.place + 1) l.place (l.place + 1) l.finals fs l.failures c.if-flag.failures marked (omega (arith, after)) (omega (arith, after)) (l.invariant.spent p h);
           }
-      | else-flag+else-place-eq0 w ↦
-          let n = length prog.nodes.items in
-          let off = sym c.flag.ensures ∙ w.if-flag.false in
-          let known = λ (p : Lexeme) (h : IsProgram prog p). if-on text h.tree (l.place + 1) l.place (l.place + 1) l.finals fs l.failures ((s p h).back off) (l.invariant.spent p h) in
-          let next = w.else-place-eq0.failures in
-          let sized : HasSize n next = elim w.else-place-eq0.branch [
-            | else-place-eq0-via-then-place-eq0+else-meets v ↦ subst (HasSize n) (sym v.failures-is) (v.meets.ensures.sized n l.invariant.sized)
-            | else-place-eq0-via-else-place-eq0 v ↦ subst (HasSize n) (sym v.failures-is) l.invariant.sized
-          ] in
-          let spent : (p : Lexeme) (h : IsProgram prog p) → AreSpentIf text h.tree (l.place + 1 + 1) (l.place + 1) fs next = λ p h. elim w.else-place-eq0.branch [
-            | else-place-eq0-via-then-place-eq0+else-meets v ↦ subst (AreSpentIf text h.tree (l.place + 1 + 1) (l.place + 1) fs) (sym v.failures-is) (v.meets.ensures.kept prog p h text l.invariant.sized (known p h))
-            | else-place-eq0-via-else-place-eq0 v ↦ subst (AreSpentIf text h.tree (l.place + 1 + 1) (l.place + 1) fs) (sym v.failures-is) (if-more text h.tree (l.place + 1) (l.place + 1) fs l.failures (known p h))
-          ] in record {
-            sized = subst (HasSize n) (sym w.failures-is) sized;
-            matched = λ p h. subst (λ k. Matched text h.tree fs c.args.at (l.place + 1) k) (sym w.longest-is) ((s p h).on off);
-            spent = λ p h. subst (AreSpentIf text h.tree (l.place + 1 + 1) (l.place + 1) fs) (sym w.failures-is) (spent p h);
-          }
+      | else-flag+else-meets w ↦ let off = sym c.flag.ensures ∙ w.if-flag.false in record {
+        sized = subst (HasSize (length prog.nodes.items)) (sym w.failures-is) (w.meets.ensures.sized (length prog.nodes.items) l.invariant.sized);
+        matched = λ p h. subst (λ n. Matched text h.tree fs c.args.at (l.place + 1) n) (sym w.longest-is) ((s p h).on off);
+        spent = λ p h. subst (AreSpentIf text h.tree (l.place + 1 + 1) (l.place + 1) fs) (sym w.failures-is)
+            (w.meets.ensures.kept prog p h text l.invariant.sized (if-on text h.tree (l.place + 1) l.place (l.place + 1) l.finals fs l.failures ((s p h).back off) (l.invariant.spent p h)));
+      }
     ]
 
 pub returns-clause-longest : goal.returns-clause-longest
