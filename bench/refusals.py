@@ -1,5 +1,5 @@
 #!/usr/bin/env python3
-"""refusals.py PROGRAM TABLE [LINE..] [--again] [--from N] [--step K] [--keep FOLDER]
+"""refusals.py PROGRAM TABLE [LINE..] [--from N] [--step K] [--keep FOLDER]
 refusals.py PROGRAM TABLE [LINE..] --stack [--kib K]
 
 Runs the cases at these lines of a table of cases on PROGRAM, a built ssled, while memory is refused, or with a small
@@ -10,10 +10,6 @@ Memory: `refuse.c` beside this file forks the run at each of its allocations fro
 refuses that one in the child. The status is 1, the output ends after some of the wanted blocks, and the files are those
 before or after a command that keeps one; or status, output and files are those of the case. What is wrong stays in
 FOLDER.
-
-With --again PROGRAM is a built ssled_again, which gives a command that finds no memory once more, and the cases are
-those with a script. The status is 1 only where nothing is written yet; else status, output and files are those of the
-case.
 
 Stack: the case runs with a stack of K KiB (8,192): status, output and kept files are those of the case.
 """
@@ -63,11 +59,6 @@ def library(folder):
     return made
 
 
-def is_played(case):
-    """Whether the case is a script, played to its end."""
-    return case.words[0] == "run" and case.status == 0 and len(case.words) in (3, 5)
-
-
 def judged(case, ends, status, length, same, files):
     """What is wrong with an answer, or None. The files are as before, as later, or others."""
     if not same:
@@ -100,8 +91,7 @@ def memory(given, case, place, made):
         (log / "wanted").write_bytes(case.written)
         more = {"REFUSE": str(log), "REFUSE_FROM": str(given.first), "REFUSE_STEP": str(given.step), "LD_PRELOAD": str(made)}
         with (base / "output").open("wb") as output:
-            words = case.words[1:] if given.again else case.words
-            done = subprocess.run([given.program, *words], cwd=shelf, stdout=output, env={**os.environ, **more}, check=False)
+            done = subprocess.run([given.program, *case.words], cwd=shelf, stdout=output, env={**os.environ, **more}, check=False)
         if (done.returncode, (base / "output").read_bytes()) != (case.status, case.written):
             print(f"{place}: with all memory: status {done.returncode}")
             return True
@@ -115,7 +105,7 @@ def memory(given, case, place, made):
             if following and following[4] != row[4]:
                 later = following[4]
             known[row[0]] = later
-        ends, told, bad = {0} if given.again else fronts(case.written), Counter(), 0
+        ends, told, bad = fronts(case.written), Counter(), 0
         for number, status, length, same, before, after in tried:
             files = "last" if after == last else "known" if after in (before, known[number]) else None
             wrong = judged(case, ends, status, length, same, files)
@@ -153,12 +143,11 @@ def main():
     words.add_argument("lines", type=int, nargs="*")
     words.add_argument("--from", type=int, default=1, dest="first")
     words.add_argument("--step", type=int, default=1)
-    words.add_argument("--again", action="store_true")
     words.add_argument("--keep")
     words.add_argument("--stack", action="store_true")
     words.add_argument("--kib", type=int, default=8192)
     given = words.parse_args()
-    found = {line: case for line, case in cases(given.table) if not case.fails and (is_played(case) or not given.again)}
+    found = {line: case for line, case in cases(given.table) if not case.fails}
     missing = set(given.lines) - set(found)
     if missing:
         sys.exit(f"no case of a whole shelf and sink begins at {sorted(missing)}")
