@@ -18,6 +18,14 @@ CALLED = {
 REPEATED = re.compile(r"(.{1,40}?)\1{15,}")
 SCRIPT = "script"
 
+# The typed-in form of sums of numbers.
+SUMS_ENTRY = """E { synthesized exp t; };
+T { synthesized exp t; };
+E ::= (E '+' T) { Sum(E$2.t, T.t) } | (T) { T.t };
+T ::= (NUM) { Const(STRtoINT(NUM.value)) } | ('(' E ')') { E.t };
+exp ~ E.t;
+"""
+
 
 class Pieces(bytes):
     """Bytes that are some texts, each so many times, one behind the other."""

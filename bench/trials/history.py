@@ -1,4 +1,5 @@
 """The way back: 256 steps, marks, the root, a list's end, captures, and the window's top."""
+from frame import SUMS_ENTRY
 
 ABOUT = """
 Undo and redo: the oldest of 257 changes is lost, a new change ends what could be done again, marks are changes, and term,
@@ -22,12 +23,7 @@ transform exp on "+" e : Sum(e, <exp>);
 transform calc on "double" Calc(e) : Calc(Sum(e, e));
 NUM : < "[0-9]+" >;
 WHITESPACE : < " +" >;
-E { synthesized exp t; };
-T { synthesized exp t; };
-E ::= (E '+' T) { Sum(E$2.t, T.t) } | (T) { T.t };
-T ::= (NUM) { Const(STRtoINT(NUM.value)) } | ('(' E ')') { E.t };
-exp ~ E.t;
-"""
+""" + SUMS_ENTRY
 
 LINES = """
 root book;

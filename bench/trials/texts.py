@@ -1,4 +1,5 @@
 """Texts that are typed in: values, the place at which one stops, faults of results, and long texts."""
+from frame import SUMS_ENTRY
 
 ABOUT = """
 Texts that are typed in at an entry of each kind of phylum: their values, the first byte that is not allowed, the first
@@ -20,12 +21,7 @@ exp : Digits [ @ ::= "#" @ ];
 transform exp on "digits" * : Digits([NUM]);
 NUM : < "[0-9]+" >;
 WHITESPACE : < "[ \n]+" >;
-E { synthesized exp t; };
-T { synthesized exp t; };
-E ::= (E '+' T) { Sum(E$2.t, T.t) } | (T) { T.t };
-T ::= (NUM) { Const(STRtoINT(NUM.value)) } | ('(' E ')') { E.t };
-exp ~ E.t;
-"""
+""" + SUMS_ENTRY
 
 # Programs of statements: the entry of stmt comes first, and that of stmts, which derives no token too, second.
 STATEMENTS = r"""
