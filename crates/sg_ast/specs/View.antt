@@ -38,15 +38,16 @@ abbrev mutual
   expr_of (expr.Text s) = plain_expr.Chars s
   expr_of (expr.Truth b p) = plain_expr.Truth b p
   expr_of (expr.Variable n) = plain_expr.Variable n
-  expr_of (expr.Attribute r) = plain_expr.Attribute r
-  expr_of (expr.Made made n p) = plain_expr.MadeOf made n p
+  expr_of (expr.Attribute r) = plain_expr.Attribute r.value
+  expr_of (expr.Made made n p) = plain_expr.MadeOf made n.value p
   expr_of (expr.Paren' a x p) = plain_expr.Paren (expr_of x) p
   expr_of (expr.Prefix' f a x p) = plain_expr.Single f (expr_of x) p
   expr_of (expr.Binary' s a x b y) = plain_expr.Binary s (expr_of x) (expr_of y)
   expr_of (expr.Choice' a x b y c z) = plain_expr.Choice (expr_of x) (expr_of y) (expr_of z)
-  expr_of (expr.Call n xs) = plain_expr.Call n (exprs_of xs)
-  expr_of (expr.Let' n a x b y p) = plain_expr.Let n (expr_of x) (expr_of y) p
-  expr_of (expr.With' a x q b y cs p) = plain_expr.With (expr_of x) (pattern_of q) (expr_of y) (cases_of cs) p
+  expr_of (expr.Call n xs) = plain_expr.Call n.value (exprs_of xs)
+  expr_of (expr.Let' n a x b y p) = plain_expr.Let n.value (expr_of x) (expr_of y) p
+  expr_of (expr.With' a x q b y c cs) =
+      plain_expr.With (expr_of x) (pattern_of q.value.pattern) (expr_of y) (cases_of cs) q.value.place
 
   pub exprs_of : Exprs → plain_expr.Exprs
   exprs_of exprs.End = plain_expr.NoExpr

@@ -120,10 +120,11 @@ impl Expr {
             | Expr::Made(_, _, place)
             | Expr::Paren(_, place)
             | Expr::Prefix(_, _, place)
-            | Expr::Let(_, _, _, place)
-            | Expr::With(_, _, _, _, place) => *place,
+            | Expr::Let(_, _, _, place) => *place,
+            Expr::With(_, head, _, _) => head.place,
             Expr::Text(text) => text.place,
-            Expr::Variable(name) | Expr::Call(name, _) => name.place,
+            Expr::Variable(name) => name.place,
+            Expr::Call(name, _) => name.place,
             Expr::Attribute(reference) => reference.of.place(),
             Expr::Binary(_, left, _) | Expr::Choice(left, _, _) => left.place(),
         }

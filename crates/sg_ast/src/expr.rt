@@ -50,7 +50,14 @@ pub enum Prefix {
     Not,
 }
 
-/// An expression. A place is that of the first token, where no name has it.
+/// How `with (a) (p : b ..)` begins: the place of its word, and the pattern of its first case.
+#[derive(Drop)]
+pub struct WithHead {
+    pub place: Position,
+    pub pattern: Pattern,
+}
+
+/// An expression, which five words hold. A place is that of the first token, where no name has it.
 #[cycle(ast)]
 #[derive(Drop)]
 pub enum Expr {
@@ -58,20 +65,20 @@ pub enum Expr {
     Text(Quoted),
     Truth(bool, Position),
     Variable(Name),
-    Attribute(Reference),
+    Attribute(Box<Reference>),
     /// `<p>` or `[p]`
-    Made(Made, Name, Position),
+    Made(Made, Box<Name>, Position),
     Paren(Box<Expr>, Position),
     Prefix(Prefix, Box<Expr>, Position),
     Binary(Infix, Box<Expr>, Box<Expr>),
     /// `a ? b : c`
     Choice(Box<Expr>, Box<Expr>, Box<Expr>),
     /// An operator or a function with its arguments.
-    Call(Name, Exprs),
+    Call(Box<Name>, Exprs),
     /// `let x = a in (b)`
-    Let(Name, Box<Expr>, Box<Expr>, Position),
-    /// `with (a) (p : b ..)`, with its first case beside the others.
-    With(Box<Expr>, Pattern, Box<Expr>, Cases, Position),
+    Let(Box<Name>, Box<Expr>, Box<Expr>, Position),
+    /// `with (a) (p : b ..)`: what is looked at, the head, the first case's expression and the other cases.
+    With(Box<Expr>, Box<WithHead>, Box<Expr>, Box<Cases>),
 }
 
 /// Arguments.

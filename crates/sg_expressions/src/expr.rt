@@ -13,7 +13,7 @@ ghost use Rattle.sg_expressions.specs.Joined.{joined};
 ghost use Rattle.sg_expressions.specs.WithParts as parts;
 
 use crate::nodes::{CaseChain, CaseNodes, Node, Nodes, chained, deeper};
-use sg_ast::expr::{Expr, Exprs, Infix, Prefix};
+use sg_ast::expr::{Expr, Exprs, Infix, Prefix, WithHead};
 use sg_ast::name::Name;
 use sg_ast::pattern::Pattern;
 use sg_cursor::{
@@ -40,6 +40,7 @@ fn placeholder(alloc: Global, tokens: &mut Tokens<'_>) -> Result<Node, Refusal>
     let place = tokens.expect_sign(Symbol::Less)?;
     let name = tokens.name(alloc)?;
     tokens.expect_sign(Symbol::Greater)?;
+    let name = Box::new(alloc, name)?;
     Ok(Node::leaf(Expr::Made(Made::Placeholder, name, place)))
 }
 
@@ -52,6 +53,7 @@ fn completing(alloc: Global, tokens: &mut Tokens<'_>) -> Result<Node, Refusal>
     let place = tokens.expect_sign(Symbol::LeftBracket)?;
     let name = tokens.name(alloc)?;
     tokens.expect_sign(Symbol::RightBracket)?;
+    let name = Box::new(alloc, name)?;
     Ok(Node::leaf(Expr::Made(Made::Completing, name, place)))
 }
 
@@ -69,11 +71,10 @@ fn with_of(
     let (pattern, expr) = first;
     let depth = deeper(scrutinee.depth, deeper(expr.depth, others.depth));
     let scrutinee = Box::new(alloc, scrutinee.expr)?;
+    let head = Box::new(alloc, WithHead { place, pattern })?;
     let expr = Box::new(alloc, expr.expr)?;
-    Ok(Node::above(
-        depth,
-        Expr::With(scrutinee, pattern, expr, others.cases, place),
-    ))
+    let others = Box::new(alloc, others.cases)?;
+    Ok(Node::above(depth, Expr::With(scrutinee, head, expr, others)))
 }
 
 /// `a OPERATOR b` with these operands.
@@ -108,6 +109,7 @@ fn let_of(
     ensures { IfOk result (λ n. node_of n ≡ plain.Let name (node_of value) (node_of body) place) }
 {
     let depth = deeper(value.depth, body.depth);
+    let name = Box::new(alloc, name)?;
     let value = Box::new(alloc, value.expr)?;
     let body = Box::new(alloc, body.expr)?;
     Ok(Node::above(depth, Expr::Let(name, value, body, place)))
@@ -359,11 +361,12 @@ impl<F: Fn(Global, &mut Tokens<'_>, u8, u8) -> Result<Node, Refusal>> Grammar<F>
             let arguments = self.arguments(tokens)?;
             let depth = arguments.depth;
             let exprs = Exprs::new(self.alloc, arguments.exprs)?;
+            let name = Box::new(self.alloc, name)?;
             return Ok(Node::above(depth, Expr::Call(name, exprs)));
         }
         if tokens.refers() {
             let reference = named_reference(self.alloc, tokens, name)?;
-            return Ok(Node::leaf(Expr::Attribute(reference)));
+            return Ok(Node::leaf(Expr::Attribute(Box::new(self.alloc, reference)?)));
         }
         Ok(Node::leaf(Expr::Variable(name)))
     }
@@ -420,7 +423,7 @@ impl<F: Fn(Global, &mut Tokens<'_>, u8, u8) -> Result<Node, Refusal>> Grammar<F>
         }
         if tokens.sees_sign(Symbol::DollarDollar) {
             let reference = own_reference(self.alloc, tokens)?;
-            return Ok(Node::leaf(Expr::Attribute(reference)));
+            return Ok(Node::leaf(Expr::Attribute(Box::new(self.alloc, reference)?)));
         }
         if tokens.sees_sign(Symbol::Less) {
             placeholder(self.alloc, tokens)

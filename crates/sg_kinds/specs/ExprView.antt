@@ -21,7 +21,7 @@ abbrev mutual
   expr_of (tree.Apply op es) = Apply op (exprs_of es)
   expr_of (tree.Call f es) = Call f (exprs_of es)
   expr_of (tree.Let' p a q b) = Let (expr_of a) (expr_of b)
-  expr_of (tree.With' p a cs) = With (expr_of a) (cases_of cs)
+  expr_of (tree.With' p a q cs) = With (expr_of a) (cases_of cs)
 
   pub exprs_of : ExprList → Exprs
   exprs_of list.End = NoExpr

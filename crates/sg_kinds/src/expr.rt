@@ -28,7 +28,7 @@ pub enum ExprTree {
     Call(u32, ExprList),
     /// the first is bound after the bindings that stand
     Let(Box<ExprTree>, Box<ExprTree>),
-    With(Box<ExprTree>, CaseList),
+    With(Box<ExprTree>, Box<CaseList>),
 }
 
 #[cycle(expr)]

@@ -96,7 +96,7 @@ impl ExprTree {
             }
             ExprTree::With(a, cases) => {
                 let a = Box::new(alloc, a.copy(alloc)?)?;
-                Ok(ExprTree::With(a, cases.copy(alloc)?))
+                Ok(ExprTree::With(a, Box::new(alloc, cases.copy(alloc)?)?))
             }
         }
     }

@@ -210,8 +210,8 @@ pub fn expr(walk: &Walk<'_>, e: &Expr, scope: &mut Scope) -> Result<Found, NoMem
         Expr::Choice(condition, first, second) => choice(walk, condition, first, second, scope),
         Expr::Call(name, args) => call(walk, name, args, scope),
         Expr::Let(name, bound, body, place) => bind(walk, name, bound, body, *place, scope),
-        Expr::With(subject, first, body, rest, place) => {
-            with(walk, subject, first, body, rest, *place, scope)
+        Expr::With(subject, head, body, rest) => {
+            with(walk, subject, &head.pattern, body, rest, head.place, scope)
         }
     }
 }

@@ -141,7 +141,7 @@ pub(crate) fn distinguished(
         Box::new(alloc, rest.list)?,
     );
     Ok(Found {
-        tree: ExprTree::With(tree, cases),
+        tree: ExprTree::With(tree, Box::new(alloc, cases)?),
         of: body.of,
         place,
         mismatch,

@@ -68,7 +68,7 @@ fn collect(names: &Names, op: OpId, e: &Expr, args: &mut Vec<Occurrence>) -> Res
             collect(names, op, bound, args)?;
             collect(names, op, body, args)
         }
-        Expr::With(subject, _, body, rest, _) => {
+        Expr::With(subject, _, body, rest) => {
             collect(names, op, subject, args)?;
             collect(names, op, body, args)?;
             collect_cases(names, op, rest, args)

@@ -135,9 +135,9 @@ pub(crate) fn expr(
             scope.leave(count);
             Ok(())
         }
-        Expr::With(value, first, body, rest, _) => {
+        Expr::With(value, head, body, rest) => {
             self::expr(context, scope, found, value)?;
-            case(context, scope, found, first, body)?;
+            case(context, scope, found, &head.pattern, body)?;
             cases(context, scope, found, rest)
         }
     }
