@@ -1,30 +1,15 @@
 -- The first term of a buffer.
-use Rattle.std.specs.Prelude.{◌≡◌, refl, ℕ, ◌+◌, ◌≤◌, true, false, not, ◌&&◌, if◌then◌else◌, nat_lt, List, [], ◌∷◌, Contains, Option, None, Some}
+use Rattle.std.specs.Prelude.{◌≡◌, refl, ℕ, ◌+◌, ◌≤◌, true, not, ◌&&◌, if◌then◌else◌, nat_lt, List, [], ◌∷◌, Option, None, Some}
 use Rattle.std.specs.Option.{option_map_or}
-use Rattle.std.proofs.Common.{sym, ap, ◌∙◌, subst, arith, inr, append-nil}
+use Rattle.std.proofs.Common.{sym, ap, ◌∙◌, subst, arith, append-nil}
 use Rattle.sg_kinds.specs.Terms.{Term, nodes_of}
 use Rattle.sg_kinds.specs.Fits.{Fits}
 use Rattle.sg_kinds.specs.FromScratch.{value_in}
-use Rattle.sg_kinds.specs.Instances.{instances}
 use Rattle.sg_kinds.specs.Sound.{IsSmall}
-use Rattle.sg_kinds.specs.Specification.{is_inherited, rules_of}
 use Rattle.sg_kinds.specs.declared.spec.Spec.{Spec}
-use Rattle.sg_eval.specs.declared.journal.Instance.{Instance}
 use Rattle.sg_forest.specs.declared.node_id.NodeId.{NodeId}
-use Rattle.sg_forest.specs.Node as forest
-use Rattle.sg_forest.specs.Trees.{IsInside}
-use Rattle.sg_groves.specs.declared.kind.Kind.{Kind}
-use Rattle.sg_groves.specs.declared.part.Part.{Part}
 use Rattle.sg_groves.specs.Grove.{Grove, nodes, IsGrove}
-use Rattle.sg_groves.specs.Holds.{Holds}
-use Rattle.sg_groves.specs.IsRight.{IsRight}
-use Rattle.sg_groves.specs.Unchanged.{OnlyStored}
 use Rattle.sg_groves.proofs.Below.{below_to}
-use Rattle.sg_groves.proofs.Frames.{only_root, only_was_root}
-use Rattle.sg_groves.proofs.Held.{held_fits}
-use Rattle.sg_terms.specs.Entries.{Gained, GainedAll}
-use Rattle.sg_build.specs.Grown.{GrewBy}
-use Rattle.sg_propagate.proofs.Replaced.{gained_all_after}
 use Rattle.sg_unparse.specs.Cells.{Mark}
 use Rattle.sg_unparse.specs.Owned.{place_of_mark, before}
 use Rattle.sg_unparse.specs.Page.{Region, cells_of, position_behind, region_of}
@@ -38,12 +23,9 @@ use Rattle.sg_undo.specs.Timeline.{Timeline, timeline}
 use Rattle.sg_changes.specs.declared.step.Step.{Step}
 use Rattle.sg_unparse.specs.Sheet.{Sheet}
 use Rattle.sg_buffer.specs.Held.{Held, state_of}
-use Rattle.sg_turns.specs.Noted.{Noted}
 use Rattle.sg_turns.specs.Roots.{AreTheRoots}
 use Rattle.sg_buffer.specs.Buffers.{StandsFor, IsBuffer}
 use Rattle.sg_buffer.proofs.Closing.{closes}
-use Rattle.sg_turns.proofs.Free.{root_free}
-use Rattle.sg_turns.proofs.Times.{grown_roots, no_roots}
 
 -- the root begins in the first line
 nothing_before : (marks : List Mark) → before [] marks ≡ []

@@ -1,5 +1,5 @@
 -- A buffer in whose grove every node is as before.
-use Rattle.std.specs.Prelude.{◌≡◌, refl, ℕ, true, List, [], Option, Some}
+use Rattle.std.specs.Prelude.{◌≡◌, refl, ℕ, true, [], Option, Some}
 use Rattle.std.proofs.Common.{sym, ap, ◌∙◌, subst}
 use Rattle.sg_kinds.specs.Fits.{Fits}
 use Rattle.sg_kinds.specs.declared.spec.Spec.{Spec}
@@ -22,7 +22,7 @@ use Rattle.sg_states.specs.Selections.{place_in}
 use Rattle.sg_states.specs.Seen.{is_spot}
 use Rattle.sg_states.specs.States.{State}
 use Rattle.sg_states.specs.Paged.{page_seen}
-use Rattle.sg_turns.specs.Roots.{AreTheRoots, KeepsTree}
+use Rattle.sg_turns.specs.Roots.{KeepsTree}
 use Rattle.sg_turns.proofs.Hanging.{agree_then}
 use Rattle.sg_turns.proofs.Trees.{climbs_on, holds_on, page_on, root_on, whole_kept}
 use Rattle.sg_buffer.specs.AsBefore.{IsAsBefore}

@@ -1,5 +1,5 @@
 -- A buffer after the next change of its future is done again.
-use Rattle.std.specs.Prelude.{◌≡◌, ◌≢◌, ◌↔◌, refl, ℕ, suc, ◌+◌, ◌<◌, ◌≤◌, true, List, [], ◌∷◌, ◌++◌, length, Option, None, Some}
+use Rattle.std.specs.Prelude.{◌≡◌, ◌≢◌, ℕ, ◌+◌, ◌≤◌, true, List, [], ◌∷◌, ◌++◌, length, None, Some}
 use Rattle.std.proofs.Common.{sym, ap, ◌∙◌, subst, arith}
 use Rattle.sg_kinds.specs.Terms.{Term, nodes_of}
 use Rattle.sg_kinds.specs.Fits.{Fits}
@@ -11,18 +11,17 @@ use Rattle.sg_forest.specs.declared.node_id.NodeId.{NodeId}
 use Rattle.sg_forest.specs.Trees.{IsRoot}
 use Rattle.sg_groves.specs.Grove.{Grove, nodes, IsGrove}
 use Rattle.sg_groves.specs.TermAt.{term_at}
-use Rattle.sg_changes.specs.Captured.{Captured}
 use Rattle.sg_changes.specs.Chain.{AllRedo, AllUndo, CanRedo, HasOld, IsProper, Passes}
 use Rattle.sg_changes.specs.Changes.{Change, after_of, part_of, redone as redone_term}
-use Rattle.sg_changes.specs.Told.{Agree, Exchanged, hanging, hung, future_change, told_future, told_past, tops, tops_of}
+use Rattle.sg_changes.specs.Told.{Agree, Exchanged, hanging, hung, future_change, told_future, tops}
 use Rattle.sg_changes.specs.declared.spot.Spot.{Spot}
 use Rattle.sg_changes.specs.declared.step.Step.{Step}
 use Rattle.sg_changes.specs.declared.step.Step.TheVariants.{Replaced, Marked}
-use Rattle.sg_changes.proofs.Telling.{forth_past, forth_future, forth_undoes, forth_redoes}
+use Rattle.sg_changes.proofs.Telling.{forth_past, forth_future, forth_undoes}
 use Rattle.sg_undo.specs.Timeline.{Timeline}
 use Rattle.sg_unparse.specs.Sheet.{Sheet}
 use Rattle.sg_states.specs.Selections.{place_in, settled_selection}
-use Rattle.sg_states.specs.Seen.{is_spot, nothing_typed, seen}
+use Rattle.sg_states.specs.Seen.{is_spot, seen}
 use Rattle.sg_states.specs.States.{State, redone, redone_by}
 use Rattle.sg_states.specs.Paged.{IsLook, IsWhole, page_seen}
 use Rattle.sg_states.proofs.Spotted.{spot_stays}

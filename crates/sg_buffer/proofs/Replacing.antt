@@ -1,5 +1,5 @@
 -- A buffer after a term came in the place of a node.
-use Rattle.std.specs.Prelude.{◌≡◌, ◌≢◌, ◌↔◌, refl, ℕ, ◌≤◌, IsOk, List, [], ◌∷◌, Option, None, Some, Result, Ok, Err}
+use Rattle.std.specs.Prelude.{◌≡◌, ◌≢◌, ◌↔◌, refl, ℕ, ◌≤◌, IsOk, List, [], ◌∷◌, None, Some, Result, Ok, Err}
 use Rattle.std.proofs.Common.{sym, ap, ◌∙◌, subst}
 use Rattle.std.proofs.lemmas.Option.{same_Some}
 use Rattle.sg_kinds.specs.Terms.{Term, nodes_of}
@@ -16,7 +16,6 @@ use Rattle.sg_groves.proofs.Held.{held_at, one_term}
 use Rattle.sg_groves.proofs.Ways.{one_way}
 use Rattle.sg_build.specs.Counted.{AreCounts, OfReplaced, OfWhole}
 use Rattle.sg_build.specs.declared.limits.Counts.{Counts}
-use Rattle.sg_changes.specs.Captured.{Captured}
 use Rattle.sg_changes.specs.Changes.{Change, Put, part_of}
 use Rattle.sg_changes.specs.Told.{tops, tops_of}
 use Rattle.sg_changes.specs.declared.spot.Selection.{Selection}
@@ -32,14 +31,14 @@ use Rattle.sg_states.specs.Seen.{seen}
 use Rattle.sg_states.specs.States.{State, replaced}
 use Rattle.sg_states.proofs.Spotted.{settled_seen}
 use Rattle.sg_turns.specs.Puts.{IsPut, MayPut}
-use Rattle.sg_turns.specs.Roots.{times, AreTheRoots, KeepsTree}
+use Rattle.sg_turns.specs.Roots.{times, KeepsTree}
 use Rattle.sg_turns.specs.declared.turns.Turned.{Turned}
 use Rattle.sg_turns.proofs.Hanging.{agree_then, listed_once, listed_root, root_kept}
 use Rattle.sg_buffer.specs.declared.fault.BufferFault.{BufferFault}
 use Rattle.sg_buffer.specs.declared.fault.BufferFault.TheVariants.{NoMemory, Size}
 use Rattle.sg_buffer.specs.Held.{Held, state_of}
 use Rattle.sg_buffer.specs.Buffers.{IsBuffer}
-use Rattle.sg_buffer.proofs.Changing.{Changed, Remembers, changed_closes, changed_held, changed_state}
+use Rattle.sg_buffer.proofs.Changing.{Changed, Remembers, changed_closes, changed_held}
 use Rattle.sg_buffer.proofs.Toggling.{spot_is}
 
 -- a term that fits where another stands

@@ -1,12 +1,11 @@
 -- A buffer after a mark of the selected node is turned.
-use Rattle.std.specs.Prelude.{◌≡◌, ◌≢◌, refl, ℕ, ◌+◌, ◌<◌, ◌≤◌, true, false, List, [], ◌∷◌, take, length, Option, None, Some, option_map, option_and_then, unwrap_or, MatchOption}
-use Rattle.std.proofs.Common.{sym, ap, ◌∙◌, subst, arith}
+use Rattle.std.specs.Prelude.{◌≡◌, ◌≢◌, refl, ℕ, ◌<◌, ◌≤◌, true, false, List, [], Option, None, Some, option_map, option_and_then, unwrap_or, MatchOption}
+use Rattle.std.proofs.Common.{sym, ap, ◌∙◌, subst}
 use Rattle.sg_kinds.specs.Terms.{Term}
 use Rattle.sg_kinds.specs.Places.{Place, sub}
-use Rattle.sg_kinds.specs.declared.spec.Spec.{Spec}
 use Rattle.sg_forest.specs.declared.node_id.NodeId.{NodeId}
 use Rattle.sg_forest.specs.Node as forest
-use Rattle.sg_forest.specs.Trees.{IsLive, IsRoot}
+use Rattle.sg_forest.specs.Trees.{IsRoot}
 use Rattle.sg_groves.specs.declared.kind.Kind.{Kind}
 use Rattle.sg_groves.specs.declared.part.Part.{Part}
 use Rattle.sg_groves.specs.Grove.{Grove, nodes, IsGrove}
@@ -14,8 +13,8 @@ use Rattle.sg_groves.specs.Holds.{Holds, IsPlaced}
 use Rattle.sg_groves.specs.TermAt.{term_at}
 use Rattle.sg_groves.proofs.Held.{part_held}
 use Rattle.sg_changes.specs.Captured.{Captured}
-use Rattle.sg_changes.specs.Changes.{Change, Mark as Marking, marked as marked_term, marks_at, marks_of, part_of}
-use Rattle.sg_changes.specs.Told.{told_past, tops}
+use Rattle.sg_changes.specs.Changes.{Change, Mark as Marking, marked as marked_term, marks_at, marks_of}
+use Rattle.sg_changes.specs.Told.{tops}
 use Rattle.sg_changes.specs.declared.spot.Selection.{Selection}
 use Rattle.sg_changes.specs.declared.spot.Spot.{Spot}
 use Rattle.sg_changes.specs.declared.step.Marks.{Marks}
@@ -25,15 +24,14 @@ use Rattle.sg_changes.proofs.Marking.{part_is}
 use Rattle.sg_changes.proofs.Telling.{agree_past, mark_pushed}
 use Rattle.sg_undo.specs.Timeline.{Timeline}
 use Rattle.sg_unparse.specs.Sheet.{Sheet}
-use Rattle.sg_states.specs.Selections.{alone, path_to, place_in, settled_selection}
+use Rattle.sg_states.specs.Selections.{alone, path_to, settled_selection}
 use Rattle.sg_states.specs.Seen.{seen}
 use Rattle.sg_states.specs.States.{State, marked, remarked, selected_place}
 use Rattle.sg_states.specs.Turned.{turned_in}
-use Rattle.sg_states.specs.Paged.{IsLook}
 use Rattle.sg_states.specs.declared.marks.Mark.{Mark}
 use Rattle.sg_states.proofs.Selecting.{path_back}
 use Rattle.sg_states.proofs.Spotted.{settled_seen}
-use Rattle.sg_turns.specs.Roots.{times, AreTheRoots}
+use Rattle.sg_turns.specs.Roots.{times}
 use Rattle.sg_turns.specs.Turns.{IsTurned, MayTurn}
 use Rattle.sg_turns.specs.declared.marks.Remark.{Remark}
 use Rattle.sg_turns.specs.declared.turns.Turned.{Turned}
@@ -42,7 +40,7 @@ use Rattle.sg_turns.proofs.Hanging.{agree_then, keeps_by, listed_once, listed_ro
 use Rattle.sg_turns.proofs.Values.{nodes_marked, small_marked}
 use Rattle.sg_buffer.specs.Held.{Held, state_of}
 use Rattle.sg_buffer.specs.Buffers.{IsBuffer}
-use Rattle.sg_buffer.proofs.Changing.{Changed, Remembers, changed_closes, changed_held, changed_state}
+use Rattle.sg_buffer.proofs.Changing.{Changed, Remembers, changed_closes, changed_held}
 use Rattle.sg_buffer.proofs.Standing as standing
 
 -- the selected node has marks to turn

@@ -1,5 +1,5 @@
 -- The buffer that is current.
-use Rattle.std.specs.Prelude.{◌≡◌, Option, None, Some, option_map}
+use Rattle.std.specs.Prelude.{◌≡◌, None, Some, option_map}
 use Rattle.std.proofs.Common.{ap, ◌∙◌}
 use Rattle.sg_editor.specs.declared.desk.Named.{Named}
 use Rattle.sg_editor.specs.Editing.{Editing, IsCurrent, IsKept, spec_in, height_in, session_of, told, current_in}

@@ -27,7 +27,7 @@ use Rattle.sg_states.specs.declared.marks.Move.{Move}
 use Rattle.sg_states.specs.declared.marks.Move.TheVariants.{Next, Prev, Up, First, Sibling}
 use Rattle.sg_commands.specs.Turn.{Reads, Turn, becomes, found_or, refused_if, says}
 use Rattle.sg_commands.specs.Turns.{copied_of, enterable, enters, enters_typed, entry_here, is_editable_here, plain_turn, puts, redoes, replaces, turn, types_unless, typing_turn, undoes}
-use Rattle.sg_editor.specs.Ask.{Ask, Readers, Step, ask, barred, fetched, in_current, keeps, loads, longest_file, news, opened, opens, read_in, saved_form, saved_text, shows, switches, taken, turned_at, turned_to}
+use Rattle.sg_editor.specs.Ask.{Readers, Step, ask, barred, fetched, in_current, keeps, loads, longest_file, news, opened, opens, saved_form, saved_text, switches, taken, turned_at, turned_to}
 use Rattle.sg_editor.specs.Ask as asking
 use Rattle.sg_editor.specs.Refused.{IsPointed, Leaves, counted_by}
 use Rattle.sg_editor.specs.Session.{Session, buffer_named, with_load}

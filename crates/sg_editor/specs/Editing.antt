@@ -67,6 +67,7 @@ session_of e = session_in e.kept
 abbrev pub current_in : Kept → Option Named
 current_in k = option_and_then (slice_get k.buffers) k.current
 
+-- a buffer that stands for the current one, with its name, over the specification of the session
 pub record IsCurrent (e : Editing) (b : Held) : Type 0 where
   pub name : Bytes
   pub is : current_of (session_of e) ≡ Some (name, state_of b)

@@ -1,5 +1,5 @@
 -- A term that is built in a grove of its own, and attributed.
-use Rattle.std.specs.Prelude.{◌≡◌, refl, ℕ, List, [], ◌∷◌, Contains, None}
+use Rattle.std.specs.Prelude.{◌≡◌, refl, List, [], ◌∷◌, Contains, None}
 use Rattle.std.proofs.Common.{sym, ◌∙◌, subst, inr}
 use Rattle.sg_kinds.specs.Terms.{Term}
 use Rattle.sg_kinds.specs.Fits.{Fits}

@@ -1,10 +1,9 @@
 -- Trees of steps that go.
-use Rattle.std.specs.Prelude.{◌≡◌, ◌≢◌, ◌↔◌, refl, ℕ, zero, suc, ◌+◌, ◌≤◌, List, [], ◌∷◌, ◌++◌, length, take, Option, None, Some, option_to_list}
-use Rattle.std.proofs.Common.{sym, ap, ◌∙◌, subst, arith, inl, inr, append_assoc, append-nil}
+use Rattle.std.specs.Prelude.{◌≡◌, ◌≢◌, ◌↔◌, refl, ℕ, zero, suc, ◌+◌, ◌≤◌, List, [], ◌∷◌, ◌++◌, length, take, Option, option_to_list}
+use Rattle.std.proofs.Common.{sym, ap, ◌∙◌, subst, arith, append_assoc, append-nil}
 use Rattle.sg_forest.specs.declared.node_id.NodeId.{NodeId}
 use Rattle.sg_forest.specs.Steps.{IsDropped}
 use Rattle.sg_forest.specs.Trees.{IsRoot}
-use Rattle.sg_forest.proofs.Paths.{cases_id}
 use Rattle.sg_pool.proofs.Grown.{grown_same}
 use Rattle.sg_groves.specs.Grove.{Grove, nodes, IsGrove}
 use Rattle.sg_groves.proofs.Ways.{one_way}
@@ -12,7 +11,7 @@ use Rattle.sg_undo.specs.Timeline.{Timeline}
 use Rattle.sg_changes.specs.Told.{hanging, tops, tops_of}
 use Rattle.sg_changes.specs.declared.step.Step.{Step}
 use Rattle.sg_turns.specs.Roots.{times, Drops}
-use Rattle.sg_turns.proofs.Times.{times_append, times_other, times_same, times_one}
+use Rattle.sg_turns.proofs.Times.{times_append, times_other, times_same}
 use Rattle.sg_turns.proofs.Trees.{kept_still, kept_twice}
 
 pub drops_none : (g : Grove) → Drops g g []

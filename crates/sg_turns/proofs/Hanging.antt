@@ -1,10 +1,10 @@
 -- Nodes that hang beside the edited term.
-use Rattle.std.specs.Prelude.{◌≡◌, ◌≢◌, refl, ℕ, suc, ◌+◌, ◌≤◌, List, [], ◌∷◌, ◌++◌, Contains, ⊤}
+use Rattle.std.specs.Prelude.{◌≡◌, ◌≢◌, ℕ, suc, ◌+◌, ◌≤◌, List, [], ◌∷◌, ◌++◌, Contains}
 use Rattle.std.proofs.Common.{sym, ap, ◌∙◌, subst, arith, inl, inr}
 use Rattle.sg_kinds.specs.Terms.{Term}
 use Rattle.sg_forest.specs.declared.node_id.NodeId.{NodeId}
 use Rattle.sg_forest.specs.Trees.{IsRoot}
-use Rattle.sg_forest.proofs.Paths.{cases_id, root_is_live}
+use Rattle.sg_forest.proofs.Paths.{root_is_live}
 use Rattle.sg_groves.specs.Grove.{Grove, nodes, IsGrove}
 use Rattle.sg_groves.specs.Holds.{Holds}
 use Rattle.sg_groves.specs.TermAt.{term_at}
@@ -16,7 +16,7 @@ use Rattle.sg_turns.specs.Roots.{times, AreTheRoots, Drops, KeepsTree}
 use Rattle.sg_turns.specs.Turns.{goes_in, IsOther, KeepsHanging}
 use Rattle.sg_turns.specs.declared.turns.What.{What}
 use Rattle.sg_turns.specs.declared.turns.What.TheVariants.{Tree, Shown}
-use Rattle.sg_turns.proofs.Times.{one_if, times_append, times_cons, times_other, times_same}
+use Rattle.sg_turns.proofs.Times.{times_append, times_cons, times_same}
 use Rattle.sg_turns.proofs.Trees.{holds_at, term_on}
 
 -- lists in which each node stands as often

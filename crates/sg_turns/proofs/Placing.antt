@@ -1,12 +1,11 @@
 -- A term that is built beside the edited one comes into the place of a node.
-use Rattle.std.specs.Prelude.{◌≡◌, ◌≢◌, ◌⊎◌, refl, ℕ, List, [], ◌∷◌, zero, suc, slice_get, Option, None, Some}
+use Rattle.std.specs.Prelude.{◌≡◌, ◌≢◌, refl, ℕ, List, [], ◌∷◌, zero, suc, slice_get, Option, None, Some}
 use Rattle.std.proofs.Common.{sym, ap, ◌∙◌, subst, inl, inr}
 use Rattle.std.proofs.lemmas.Option.{none-some, same_Some}
 use Rattle.sg_kinds.specs.Terms.{Term}
 use Rattle.sg_kinds.specs.Fits.{Fits}
 use Rattle.sg_kinds.specs.Places.{Place, put, sub}
 use Rattle.sg_kinds.specs.declared.spec.Spec.{Spec}
-use Rattle.sg_pool.specs.Pools.{IsGrown}
 use Rattle.sg_eval.specs.declared.journal.Instance.{Instance}
 use Rattle.sg_forest.specs.declared.node_id.NodeId.{NodeId}
 use Rattle.sg_forest.specs.Node as forest
@@ -31,7 +30,7 @@ use Rattle.sg_states.specs.Seen.{seen}
 use Rattle.sg_states.specs.Paged.{IsLook}
 use Rattle.sg_turns.specs.Noted.{Noted}
 use Rattle.sg_turns.specs.Puts.{MayPut, IsPut}
-use Rattle.sg_turns.specs.Roots.{times, AreTheRoots, KeepsTree}
+use Rattle.sg_turns.specs.Roots.{times, KeepsTree}
 use Rattle.sg_turns.specs.Turns.{MayTurn, IsTurned, Notes, NotesSome}
 use Rattle.sg_turns.specs.declared.turns.Turned.{Turned}
 use Rattle.sg_turns.specs.declared.turns.What.TheVariants.{Tree}

@@ -1,13 +1,12 @@
 -- Other marks of a node of the edited term.
-use Rattle.std.specs.Prelude.{◌≡◌, ◌≢◌, ◌↔◌, refl, ℕ, ◌<◌, Bool, List, [], ◌∷◌, ◌++◌, Option, None, Some, slice_get, option_map, option_and_then, unwrap_or, MatchOption}
+use Rattle.std.specs.Prelude.{◌≡◌, ◌≢◌, refl, ℕ, Bool, [], ◌∷◌, None, Some, option_map, unwrap_or}
 use Rattle.std.proofs.Common.{sym, ap, ◌∙◌, subst, inl, inr}
-use Rattle.std.proofs.lemmas.Option.{none-some, same_Some}
-use Rattle.sg_kinds.specs.Values.{Value}
+use Rattle.std.proofs.lemmas.Option.{same_Some}
 use Rattle.sg_kinds.specs.Evaluation.{untyped}
 use Rattle.sg_kinds.specs.Terms.{Term, Leaf, Node}
 use Rattle.sg_kinds.specs.Fits.{Fits}
 use Rattle.sg_kinds.specs.FromScratch.{value_in}
-use Rattle.sg_kinds.specs.Instances.{Site, site_of}
+use Rattle.sg_kinds.specs.Instances.{site_of}
 use Rattle.sg_kinds.specs.Nets.{net_of}
 use Rattle.sg_kinds.specs.Places.{Place, put, sub}
 use Rattle.sg_kinds.specs.Specification.{rules_of}
@@ -22,7 +21,7 @@ use Rattle.sg_forest.proofs.Paths.{cases_id}
 use Rattle.sg_forest.proofs.Shape as shapes
 use Rattle.sg_groves.specs.declared.kind.Kind.{Kind}
 use Rattle.sg_groves.specs.declared.part.Part.{Part}
-use Rattle.sg_groves.specs.Grove.{Grove, nodes, IsGrove, IsLeaf, IsOperation}
+use Rattle.sg_groves.specs.Grove.{Grove, nodes, IsGrove}
 use Rattle.sg_groves.specs.Holds.{Holds}
 use Rattle.sg_groves.specs.IsRight.{IsRight}
 use Rattle.sg_groves.specs.Stored.{number_at, value_there}
@@ -32,7 +31,7 @@ use Rattle.sg_groves.proofs.Ways.{one_way}
 use Rattle.sg_terms.specs.Kept.{ChangesTerms, KeepsTermsWithout}
 use Rattle.sg_terms.specs.Told.{with_scheme, with_elided}
 use Rattle.sg_build.proofs.Roots.{one_phylum}
-use Rattle.sg_changes.specs.Changes.{marked, part_of, with_marks}
+use Rattle.sg_changes.specs.Changes.{marked, with_marks}
 use Rattle.sg_changes.specs.declared.spot.Selection.{Selection}
 use Rattle.sg_changes.specs.declared.step.Marks.{Marks}
 use Rattle.sg_changes.proofs.Marking.{part_is}
@@ -40,7 +39,6 @@ use Rattle.sg_states.specs.Selections.{settled_selection}
 use Rattle.sg_states.specs.Seen.{seen}
 use Rattle.sg_states.specs.Paged.{IsWhole, IsLook}
 use Rattle.sg_states.specs.declared.looks.Look.{Look}
-use Rattle.sg_turns.specs.Roots.{times, AreTheRoots}
 use Rattle.sg_turns.specs.Turns.{MayTurn, IsTurned}
 use Rattle.sg_turns.specs.declared.turns.What.TheVariants.{Shown}
 use Rattle.sg_turns.specs.declared.turns.Turned.{Turned}

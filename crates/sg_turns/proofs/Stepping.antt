@@ -1,7 +1,7 @@
 -- Steps that are undone or done again.
-use Rattle.std.specs.Prelude.{◌≡◌, ◌≢◌, refl, ℕ, ◌+◌, ◌-◌, ◌^◌, ◌<◌, ◌≤◌, min, List, [], ◌∷◌, ◌++◌, Option, None, Some, IsSome, option_map, option_and_then, ⊤}
+use Rattle.std.specs.Prelude.{◌≡◌, ◌≢◌, refl, ℕ, ◌+◌, ◌-◌, ◌^◌, ◌<◌, ◌≤◌, min, [], ◌∷◌, Option, None, Some, IsSome, option_map, option_and_then}
 use Rattle.std.proofs.Common.{sym, ap, ◌∙◌, subst, arith}
-use Rattle.std.proofs.lemmas.Option.{none-some, same_Some}
+use Rattle.std.proofs.lemmas.Option.{none-some}
 use Rattle.sg_kinds.specs.Terms.{Term, Leaf, Node, nodes_of}
 use Rattle.sg_kinds.specs.Fits.{Fits}
 use Rattle.sg_kinds.specs.Sound.{IsSmall}
@@ -24,9 +24,8 @@ use Rattle.sg_build.specs.declared.limits.Counts.{Counts}
 use Rattle.sg_build.proofs.Counted.{nodes_put}
 use Rattle.sg_build.proofs.Placed.{part_nodes}
 use Rattle.sg_build.proofs.Roots.{one_phylum}
-use Rattle.sg_changes.specs.Changes.{Change, marked, marks_at, marks_of, part_of, redone, undone, before_of, after_of}
+use Rattle.sg_changes.specs.Changes.{marked, marks_at, marks_of, part_of, redone, undone, before_of, after_of}
 use Rattle.sg_changes.specs.Told.{HoldsPart, future_change, hanging, hung, past_change}
-use Rattle.sg_changes.specs.declared.spot.Spot.{Spot}
 use Rattle.sg_changes.specs.declared.step.Marks.{Marks}
 use Rattle.sg_changes.specs.declared.step.Step.{Step}
 use Rattle.sg_changes.specs.declared.step.Step.TheVariants.{Replaced, Marked}

@@ -1,28 +1,26 @@
 -- Another tree in the place of a node of the edited term.
-use Rattle.std.specs.Prelude.{◌≡◌, ◌≢◌, ◌⊎◌, ◌↔◌, refl, ℕ, zero, suc, ◌+◌, ◌≤◌, Bool, false, List, [], ◌∷◌, ◌++◌, Option, None, Some, ⊤}
+use Rattle.std.specs.Prelude.{◌≡◌, ◌≢◌, ◌⊎◌, refl, ℕ, zero, suc, ◌+◌, ◌≤◌, false, List, [], ◌∷◌, ◌++◌, Some}
 use Rattle.std.proofs.Common.{sym, ap, ◌∙◌, subst, arith, inl, inr}
 use Rattle.std.proofs.lemmas.Option.{none-some, same_Some}
 use Rattle.sg_kinds.specs.Terms.{Term}
 use Rattle.sg_kinds.specs.Fits.{Fits}
-use Rattle.sg_kinds.specs.Nets.{label_of, phylum_at}
+use Rattle.sg_kinds.specs.Nets.{phylum_at}
 use Rattle.sg_kinds.specs.Places.{Place, put, sub}
 use Rattle.sg_kinds.specs.Specification.{is_inherited}
 use Rattle.sg_kinds.specs.declared.spec.Spec.{Spec}
 use Rattle.sg_forest.specs.declared.node_id.NodeId.{NodeId}
 use Rattle.sg_forest.specs.Node as forest
-use Rattle.sg_forest.specs.Steps.{SameSort}
-use Rattle.sg_forest.specs.Trees.{Climbs, HasRoot, IsBelow, IsChild, IsInside, IsLive, IsRoot}
+use Rattle.sg_forest.specs.Trees.{Climbs, HasRoot, IsChild, IsInside, IsLive, IsRoot}
 use Rattle.sg_forest.proofs.Paths.{cases_id, child_is_live, inside_itself, no_cycle, root_is_live, root_is_no_child}
 use Rattle.sg_groves.specs.declared.kind.Kind.{Kind}
 use Rattle.sg_groves.specs.declared.part.Part.{Part}
-use Rattle.sg_groves.specs.Evaluated.{IsAtOrBelow}
 use Rattle.sg_groves.specs.Grove.{Grove, nodes, IsGrove}
 use Rattle.sg_groves.specs.Holds.{Holds}
 use Rattle.sg_groves.specs.IsRight.{IsRight}
 use Rattle.sg_groves.specs.TermAt.{term_at}
 use Rattle.sg_groves.specs.Unchanged.{OnlyStored}
 use Rattle.sg_groves.proofs.Frames.{only_root, only_was_root}
-use Rattle.sg_groves.proofs.Held.{held_at, held_fits, live_holds, part_held}
+use Rattle.sg_groves.proofs.Held.{held_fits, part_held}
 use Rattle.sg_groves.proofs.Puts.{label_outside}
 use Rattle.sg_groves.proofs.Ways.{one_way}
 use Rattle.sg_terms.specs.Kept.{KeepsTermsNotOver}

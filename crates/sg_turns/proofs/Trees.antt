@@ -1,21 +1,21 @@
 -- Trees that are the same in another grove.
-use Rattle.std.specs.Prelude.{◌≡◌, ◌≢◌, ◌↔◌, refl, ℕ, zero, suc, ◌+◌, ◌≤◌, List, [], ◌∷◌, ◌++◌, Option, None, Some, slice_get, option_map, option_and_then, unwrap_or}
-use Rattle.std.proofs.Common.{sym, ap, ◌∙◌, subst, arith, inl, inr}
-use Rattle.sg_kinds.specs.Values.{Bytes, Value}
+use Rattle.std.specs.Prelude.{◌≡◌, refl, ℕ, List, [], ◌∷◌, Option, None, Some, slice_get, option_map, option_and_then, unwrap_or}
+use Rattle.std.proofs.Common.{sym, ap, ◌∙◌, subst}
+use Rattle.sg_kinds.specs.Values.{Bytes}
 use Rattle.sg_kinds.specs.Evaluation.{untyped}
 use Rattle.sg_kinds.specs.Terms.{Term}
 use Rattle.sg_kinds.specs.Nets.{net_of}
 use Rattle.sg_kinds.specs.FromScratch.{value_in}
-use Rattle.sg_kinds.specs.Instances.{Site, site_of}
+use Rattle.sg_kinds.specs.Instances.{site_of}
 use Rattle.sg_kinds.specs.Specification.{is_inherited, rules_of}
 use Rattle.sg_kinds.specs.Places.{Place}
 use Rattle.sg_kinds.specs.declared.spec.Spec.{Spec}
-use Rattle.sg_pool.specs.Pools.{IsGrown, StandsFor, value_at}
+use Rattle.sg_pool.specs.Pools.{value_at}
 use Rattle.sg_pool.proofs.Grown.{grown_same, grown_twice}
 use Rattle.sg_eval.proofs.Bindings.{stands_later}
 use Rattle.sg_forest.specs.declared.node_id.NodeId.{NodeId}
 use Rattle.sg_forest.specs.Node as forest
-use Rattle.sg_forest.specs.Trees.{Climbs, IsChild, IsInside, IsLive, IsRoot, Lists}
+use Rattle.sg_forest.specs.Trees.{Climbs, IsInside, IsLive, IsRoot, Lists}
 use Rattle.sg_forest.proofs.Paths.{inside_itself}
 use Rattle.sg_forest.proofs.Standing.{Stands-kept}
 use Rattle.sg_groves.specs.declared.kind.Kind.{Kind}

@@ -1,6 +1,6 @@
 -- What a turn makes of the marks of a held node.
-use Rattle.std.specs.Prelude.{◌≡◌, ◌≢◌, refl, ℕ, zero, suc, ◌+◌, ◌%◌, ◌<◌, ◌≤◌, Bool, true, false, not, cond, nat_lt, List, [], ◌∷◌, length, Option, None, Some, All, slice_get, option_and_then, option_map, unwrap_or, IfSome, MatchOption}
-use Rattle.std.proofs.Common.{sym, ap, ◌∙◌, subst, arith, inl, inr}
+use Rattle.std.specs.Prelude.{◌≡◌, ◌≢◌, refl, ℕ, ◌+◌, ◌%◌, ◌<◌, ◌≤◌, Bool, true, false, not, cond, nat_lt, length, Option, None, Some, All, slice_get, option_and_then, option_map, unwrap_or, MatchOption}
+use Rattle.std.proofs.Common.{sym, ap, ◌∙◌, subst, arith}
 use Rattle.std.proofs.lemmas.Option.{none-some}
 use Rattle.sg_kinds.specs.Terms.{Term, Leaf, Node}
 use Rattle.sg_kinds.specs.declared.spec.Operator.{Operator}
@@ -21,7 +21,7 @@ use Rattle.sg_changes.specs.declared.step.Marks.{Marks}
 use Rattle.sg_unparse.specs.Shown.{count_of, scheme_count}
 use Rattle.sg_states.specs.Turned.{marks, turned, turned_in}
 use Rattle.sg_states.specs.declared.marks.Mark.{Mark}
-use Rattle.sg_states.specs.declared.marks.Mark.TheVariants.{Alternate, Elide}
+use Rattle.sg_states.specs.declared.marks.Mark.TheVariants.{Alternate}
 
 abbrev TheNode : Type 0
 TheNode = forest.Node Kind Part

@@ -1,6 +1,6 @@
 -- What the exchange of two trees is as a turn of the edited term.
-use Rattle.std.specs.Prelude.{◌≡◌, ◌≢◌, refl, ℕ, List, [], ◌∷◌, ◌++◌, Result, Ok, Err, OnOk, OnErr}
-use Rattle.std.proofs.Common.{sym, ap, ◌∙◌, subst, inl, inr}
+use Rattle.std.specs.Prelude.{◌≡◌, ◌≢◌, ℕ, List, ◌∷◌}
+use Rattle.std.proofs.Common.{sym, ap, subst, inr}
 use Rattle.sg_kinds.specs.Terms.{Term}
 use Rattle.sg_kinds.specs.Places.{Place, put}
 use Rattle.sg_eval.specs.declared.journal.Instance.{Instance}
@@ -22,7 +22,6 @@ use Rattle.sg_states.specs.Selections.{settled_selection}
 use Rattle.sg_states.specs.Seen.{seen}
 use Rattle.sg_states.specs.Paged.{IsWhole, IsLook}
 use Rattle.sg_states.specs.declared.looks.Look.{Look}
-use Rattle.sg_turns.specs.Noted.{Noted, NotedSome}
 use Rattle.sg_turns.specs.Roots.{AreTheRoots}
 use Rattle.sg_turns.specs.Turns.{MayTurn, IsTurned, Notes, NotesSome}
 use Rattle.sg_turns.specs.declared.turns.What.TheVariants.{Tree}

@@ -1,12 +1,11 @@
 -- Other marks of a node change no value of a term, and neither its nodes nor its depth.
-use Rattle.std.specs.Prelude.{◌≡◌, refl, ℕ, zero, suc, ◌+◌, ◌≤◌, max, List, [], ◌∷◌, ◌++◌, length, map, filter, flat_map, Option, None, Some, slice_get, option_and_then}
+use Rattle.std.specs.Prelude.{◌≡◌, refl, ℕ, zero, suc, ◌+◌, List, [], ◌∷◌, ◌++◌, length, map, filter, flat_map, Option, None, Some, slice_get, option_and_then}
 use Rattle.std.specs.Option.{is_some}
-use Rattle.std.proofs.Common.{sym, ap, ◌∙◌, subst, arith, inl, inr}
+use Rattle.std.proofs.Common.{sym, ap, ◌∙◌, arith, inl, inr}
 use Rattle.std.proofs.lemmas.Option.{none-some, same_Some}
-use Rattle.sg_kinds.specs.Values.{Value}
 use Rattle.sg_kinds.specs.Terms.{Term, Terms, Leaf, Node, NoTerm, AndTerm, terms_of, nodes_of, height_of}
 use Rattle.sg_kinds.specs.Places.{Place, child, sub, put, with_child, with_kid, places_from, places_among, places_in}
-use Rattle.sg_kinds.specs.Nets.{Net, Reference, NodeLabel, label_of, net_of, above}
+use Rattle.sg_kinds.specs.Nets.{Net, Reference, label_of, net_of, above}
 use Rattle.sg_kinds.specs.Instances.{site_of, instances, below, slots_of}
 use Rattle.sg_kinds.specs.FromScratch.{scratch, value_in}
 use Rattle.sg_kinds.specs.Sound.{IsSmall}
@@ -14,10 +13,9 @@ use Rattle.sg_kinds.specs.Specification.{rules_of}
 use Rattle.sg_kinds.specs.declared.spec.Rules.{Rules}
 use Rattle.sg_kinds.specs.declared.spec.Spec.{Spec}
 use Rattle.sg_kinds.proofs.TermLaws.{sub_put_inside, put_sub}
-use Rattle.sg_groves.specs.Evaluated.{IsAtOrBelow}
 use Rattle.sg_groves.proofs.Below.{below_or_not}
 use Rattle.sg_groves.proofs.Puts.{sub_below, label_outside}
-use Rattle.sg_changes.specs.Changes.{marked, part_of, with_marks}
+use Rattle.sg_changes.specs.Changes.{marked, with_marks}
 use Rattle.sg_changes.specs.declared.step.Marks.{Marks}
 use Rattle.sg_changes.proofs.Marking.{part_is}
 use Rattle.sg_build.proofs.Counted.{nodes_put, height_put}

@@ -6,7 +6,7 @@ use Rattle.sg_kinds.specs.declared.spec.Operator.{Operator}
 use Rattle.sg_kinds.specs.declared.spec.Scheme.{Scheme}
 use Rattle.sg_kinds.specs.declared.spec.Spec.{Spec}
 use Rattle.sg_changes.specs.Captured.{captured}
-use Rattle.sg_changes.specs.Changes.{Change, Put, Mark, after_of, before_of}
+use Rattle.sg_changes.specs.Changes.{Change, Put, Mark, after_of}
 use Rattle.sg_changes.specs.declared.spot.Spot.{Spot}
 use Rattle.sg_states.specs.Selections.{alone}
 use Rattle.sg_states.specs.States.{State, begun, marked, redone, replaced, undone}

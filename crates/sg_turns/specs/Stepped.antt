@@ -1,5 +1,5 @@
 -- What it is to undo a step, or to do it again.
-use Rattle.std.specs.Prelude.{◌≡◌, ℕ, List}
+use Rattle.std.specs.Prelude.{◌≡◌, ℕ}
 use Rattle.sg_kinds.specs.Terms.{Term, nodes_of}
 use Rattle.sg_kinds.specs.Sound.{IsSmall}
 use Rattle.sg_kinds.specs.Places.{Place, place_of}

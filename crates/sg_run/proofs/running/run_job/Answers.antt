@@ -3,7 +3,7 @@ use Rattle.sg_eval.specs.Journal.{counted}
 use Rattle.sg_run.specs.declared.words.Job.{Job as Words}
 use Rattle.sg_run.specs.JobView.{job_of}
 use Rattle.sg_told.specs.declared.status.Status.TheVariants.{Usage}
-use Rattle.sg_told.specs.Job.{Job, job}
+use Rattle.sg_told.specs.Job.{job}
 use Rattle.sg_told.specs.Job.Job.{Show, Check, Run, Load}
 use Rattle.sg_told.specs.Output.{job_told}
 use Rattle.sg_told.proofs.Blank.{blank_readers}

@@ -1,16 +1,7 @@
-use Rattle.std.specs.Prelude.{IfOk}
 use Rattle.std.proofs.lemmas.Result.{err_from_is_err_and}
-use Rattle.sg_kinds.specs.Places.{Place, put}
-use Rattle.sg_kinds.specs.Terms.{Term}
 use Rattle.sg_eval.specs.Journal.{now_of}
-use Rattle.sg_forest.specs.Trees.{IsRoot}
-use Rattle.sg_groves.specs.Evaluated.{IsEvaluated}
-use Rattle.sg_groves.specs.Grove.{nodes}
 use Rattle.sg_groves.specs.TermAt.{term_at}
-use Rattle.sg_propagate.specs.Asked.{root_then}
-use Rattle.sg_turns.specs.Turns.{Notes}
-use Rattle.sg_turns.specs.declared.turns.What.TheVariants.{Tree}
-use Rattle.sg_turns.proofs.Swaps.{apart, asked, at_live, inherits, root_is}
+use Rattle.sg_turns.proofs.Swaps.{apart, asked, at_live, inherits}
 use Rattle.sg_turns.proofs.Turning.{Does, swapped_root, swapped_turn, swapped_notes, refused_first, refused_later}
 use Rattle.sg_turns.proofs.turns.exchanged.Goals as goal
 

@@ -1,5 +1,5 @@
-use Rattle.std.specs.Prelude.{ℕ, ◌≤◌, ◌≢◌, ◌∷◌}
-use Rattle.std.proofs.Common.{◌≡◌, subst, sym}
+use Rattle.std.specs.Prelude.{◌≤◌, ◌≢◌, ◌∷◌}
+use Rattle.std.proofs.Common.{subst, sym}
 use Rattle.std.proofs.lemmas.Result.{err_from_is_err_and}
 use Rattle.sg_kinds.specs.Places.{place_of, put}
 use Rattle.sg_eval.specs.Journal.{now_of}

@@ -1,4 +1,4 @@
-use Rattle.std.specs.Prelude.{ℕ, ◌≤◌, ◌≢◌, false, true, ◌∷◌, MatchOption}
+use Rattle.std.specs.Prelude.{◌≤◌, ◌≢◌, false, true, ◌∷◌, MatchOption}
 use Rattle.std.proofs.Common.{◌≡◌, refl, subst, sym}
 use Rattle.std.proofs.lemmas.Result.{err_from_is_err_and}
 use Rattle.sg_forest.specs.declared.node_id.NodeId.{NodeId}
