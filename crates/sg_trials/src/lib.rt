@@ -2,6 +2,8 @@
 #![tactic(auto)]
 
 #[cfg(test)]
+mod again;
+#[cfg(test)]
 mod language;
 #[cfg(test)]
 mod loading;
@@ -9,3 +11,5 @@ mod loading;
 mod plans;
 #[cfg(test)]
 mod records;
+#[cfg(test)]
+mod statements;
