@@ -11,6 +11,7 @@ use sg_outside::MemShelf;
 use sg_replies::Reply;
 use sg_screen::Message;
 use sg_script::{Command, read};
+use std::alloc::Global;
 use std::process::Abort;
 
 /// Whether a journal has room for what any command notes.
@@ -93,26 +94,40 @@ fn play(
             assert!(rt; block.as_slice() == *wanted, "another block");
         }
     }
-    // of a fetch for which there was no memory the reply says that it failed, or there is none
+    // `save` and `load` ask once each, and once more where a reply found no memory
     assert!(rt; (2..=3).contains(&replies.len()), "other replies");
 }
 
-/// An editor of the language, and a shelf without files, if there is memory.
-fn opened(rt: &HostRuntime) -> Option<(Editor, MemShelf)> {
-    let alloc = rt.alloc();
+/// An editor of the language, if there is memory.
+fn opened(alloc: Global) -> Option<Editor> {
     let loaded = load(alloc, language()).ok()?;
-    let editor = Editor::new(alloc, loaded, 80, 24).ok()?;
-    let shelf = MemShelf::new(alloc, Vec::new(alloc), Vec::new(alloc)).ok()?;
-    Some((editor, shelf))
+    Editor::new(alloc, loaded, 80, 24).ok()
+}
+
+/// An editor of the language. Where there is no memory it is made again.
+fn editor(rt: &(impl Abort + AllocGlobal)) -> Editor {
+    match opened(rt.alloc()) {
+        Some(editor) => editor,
+        None => opened(rt.alloc()).expect(rt, "memory"),
+    }
+}
+
+/// A shelf without files. Where there is no memory it is made again.
+fn shelf(rt: &(impl Abort + AllocGlobal)) -> MemShelf {
+    let alloc = rt.alloc();
+    match MemShelf::new(alloc, Vec::new(alloc), Vec::new(alloc)) {
+        Ok(shelf) => shelf,
+        Err(_) => {
+            let shelf = MemShelf::new(alloc, Vec::new(alloc), Vec::new(alloc));
+            shelf.ok().expect(rt, "memory")
+        }
+    }
 }
 
 #[test]
 fn a_command_without_memory_is_given_again(rt: HostRuntime) {
-    let desk = match opened(&rt) {
-        Some(desk) => desk,
-        None => opened(&rt).expect(&rt, "memory"),
-    };
-    let (mut editor, mut shelf) = desk;
+    let mut editor = editor(&rt);
+    let mut shelf = shelf(&rt);
     let mut journal = Journal::new(&rt);
     play(&rt, &mut editor, &mut shelf, &mut journal);
 }

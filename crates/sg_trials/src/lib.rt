@@ -1,4 +1,4 @@
-//! Trials over accepted specifications: what their records hold, and their plans.
+//! Trials over accepted specifications: what their records hold, their plans, and commands that are given again.
 #![tactic(auto)]
 
 #[cfg(test)]
