@@ -28,13 +28,13 @@ def main():
         more = {"REFUSE": str(log), "LD_PRELOAD": str(made)}
         with (base / "output").open("wb") as output:
             done = subprocess.run([program, test], cwd=here, stdout=output, env={**os.environ, **more}, check=False)
-        *tried, (_, _, count, *_) = rows_of(log / "log")
+        *tried, (zero, _, count, *_) = rows_of(log / "log")
     told = Counter(row[1] for row in tried)
     print(f"{test}: status {done.returncode}; {count} allocations, {len(tried)} refused, {told[0]} passed")
     for number, status, *_ in tried:
         if status:
             print(f"allocation {number}: status {status}")
-    sys.exit(done.returncode != 0 or told[0] != count)
+    sys.exit(done.returncode != 0 or zero != 0 or count == 0 or told[0] != count)
 
 
 if __name__ == "__main__":

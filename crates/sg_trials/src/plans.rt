@@ -90,5 +90,6 @@ fn assert_plans(rt: &(impl Abort + AllocGlobal), plans: &Plans) {
 #[test]
 fn plans_of_a_language_of_two_visits(rt: HostRuntime) {
     let loaded = loaded(&rt, language());
-    assert_plans(&rt, &loaded.plans);
+    let plans = loaded.plans.copy(rt.alloc()).expect(&rt, "a copy");
+    assert_plans(&rt, &plans);
 }
