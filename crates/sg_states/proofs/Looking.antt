@@ -1,5 +1,5 @@
 -- What is seen of a held term is what the definitions say of the term.
-use Rattle.std.specs.Prelude.{◌≡◌, ◌↔◌, refl, ℕ, ◌<◌, ◌≤◌, Bool, true, false, not, ◌&&◌, ◌||◌, ◌==◌, cond, if◌then◌else◌, nat_eq, nat_le, nat_lt, min, bytes_eq, List, [], ◌∷◌, Option, Some, None, IsTrue, option_map}
+use Rattle.std.specs.Prelude.{◌≡◌, ◌↔◌, refl, ℕ, zero, suc, ◌<◌, ◌≤◌, Bool, true, false, not, ◌&&◌, ◌||◌, ◌==◌, cond, if◌then◌else◌, nat_eq, nat_le, nat_lt, min, bytes_eq, List, [], ◌∷◌, Option, Some, None, IsTrue, option_map}
 use Rattle.std.specs.Option.{option_map_or}
 use Rattle.std.specs.List.{AllByRecursion}
 use Rattle.std.proofs.Common.{sym, ap, ◌∙◌, subst, arith}
@@ -60,6 +60,21 @@ count_told spec t path count r v a b leads selected is = is ∙ ap (λ z. cond (
     by : (a : Bool) → IsTrue a ↔ (v ≡ place_of path) → a ≡ bytes_eq v (place_of path)
     by true h = sym (ap (λ z. bytes_eq z (place_of path)) (h.0 refl) ∙ bytes_itself (place_of path))
     by false h = sym (differ v (place_of path) (λ e. false≢true (h.1 e)))
+
+-- no run is settled to none, and one node to one
+none_settled : (n : ℕ) (a b : Bool) → n ≡ cond (a && (b && false)) 0 n
+none_settled n false b = refl
+none_settled n true true = refl
+none_settled n true false = refl
+
+one_settled : (n : ℕ) (a : Bool) → n ≡ cond a n n
+one_settled n true = refl
+one_settled n false = refl
+
+pub few_settled : (spec : Spec) (t : Term) (u v : Place) (n : ℕ) → n ≤ 1 → 1 ≡ settled_count spec t u v n
+few_settled spec t u v zero few = none_settled 1 (bytes_eq v u) (rests spec t v)
+few_settled spec t u v (suc zero) few = one_settled 1 (bytes_eq v u && is_selection spec t v 1)
+few_settled spec t u v (suc (suc n)) few = absurd (omega (arith, few))
 
 module _ (g : Grove) (is : IsGrove g) (root : NodeId) (t : Term) where
   -- a node of the tree is told by its place

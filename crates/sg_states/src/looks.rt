@@ -87,6 +87,9 @@ fn count_at(terms: &Terms, root: NodeId, path: &[u32], count: usize, n: NodeId) 
     ensures { (t : Term) (v : Place) → IsPlaced terms.now root t v n → rests terms.now.spec t v ≡ true
         → result ≡ settled_count terms.now.spec t (place_of path.now) v count }
 {
+    if count <= 1 {
+        return 1;
+    }
     if leads_to(terms, root, path, n) && is_selection(terms, n, count) {
         count
     } else {

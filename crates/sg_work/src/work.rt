@@ -45,11 +45,12 @@ impl Work {
         Ok(())
     }
 
-    /// Whether a slot of a node has another value.
+    /// Whether a slot of a node has another value. Where nothing is noted yet, as on the way down to the new subterm,
+    /// no look-up is made.
     pub fn is_noted(&self, node: NodeId, slot: u32) -> bool
         ensures { IsTrue result ↔ Contains self.now.changed (node.key, slot) }
     {
-        self.changed.contains(&(node.key, slot))
+        !self.changed.is_empty() && self.changed.contains(&(node.key, slot))
     }
 
     /// Makes a node active. Without memory nothing changes.

@@ -1,9 +1,13 @@
 use Rattle.std.proofs.Common.{refl, true, false, sym, ap}
 use Rattle.std.specs.Prelude.{cond}
+use Rattle.sg_kinds.specs.Places.{place_of}
 use Rattle.sg_states.specs.Selections.{is_selection}
-use Rattle.sg_states.proofs.Looking.{count_told}
+use Rattle.sg_states.proofs.Looking.{count_told, few_settled}
 use Rattle.sg_states.proofs.looks.count_at.Goals as goal
 use Rattle.sg_states.proofs.looks.count_at.Goals.{else-leads_to-via-then-leads_to+else-is_selection, else-leads_to-via-else-leads_to}
+
+pub returns-then-count-le1 : goal.returns-then-count-le1
+returns-then-count-le1 c = λ t v placed rest. few_settled c.args.terms.now.spec t (place_of c.args.path.now) v c.args.count c.if-count-le1.true
 
 pub returns-then-is_selection : goal.returns-then-is_selection
 returns-then-is_selection c = λ t v placed rest.
