@@ -1,4 +1,4 @@
--- A cell behind those that are written.
+-- Cells of one owner behind those that are written.
 use Rattle.std.specs.Prelude.{◌≡◌, refl, ℕ, suc, ◌+◌, ◌-◌, ◌<◌, ◌≤◌, Bool, true, false, min, if◌then◌else◌, List, [], ◌∷◌, ◌++◌, length, map, take, slice_get, Option, Some, None, MatchOption}
 use Rattle.std.specs.List.{All}
 use Rattle.std.specs.List.Sorted.{IsNonDecreasingBy}
@@ -13,7 +13,7 @@ use Rattle.sg_kinds.specs.Places.{Place}
 use Rattle.sg_forest.specs.declared.node_id.NodeId.{NodeId}
 use Rattle.sg_unparse.specs.Cells.{Mark, Writes, as_they_are, cells_in}
 use Rattle.sg_unparse.specs.Page.{all_cells, cells_of, is_cut, is_newline, spans_behind}
-use Rattle.sg_unparse.specs.Sheet.{IsKept, kept_cells, starts_from, owner_in, no_node}
+use Rattle.sg_unparse.specs.Sheet.{IsKept, cells_from, kept_cells, starts_from, owner_in, no_node}
 use Rattle.sg_unparse.specs.Written.{HoldsMarks, Wrote, Owns, by_node, on_page}
 use Rattle.sg_unparse.specs.declared.page.Run.{Run}
 use Rattle.sg_unparse.specs.declared.page.Span.{Span}
@@ -27,13 +27,13 @@ record AreRuns (text : Bytes) (runs : List Run) : Type 0 where
   rising : IsNonDecreasingBy (λ (r : Run). r.from) runs
   within : All (λ (r : Run). r.from ≤ length text) runs
 
--- runs of which the last one says whose the next cell is
+-- runs of which the last one says whose the next cells are
 record AreOwned (text : Bytes) (old new : List Run) (owner : NodeId) : Type 0 where
   begins : MatchOption (slice_get new 0) ⊥ (λ (r : Run). r.from ≡ 0)
   rising : IsNonDecreasingBy (λ (r : Run). r.from) new
   within : All (λ (r : Run). r.from ≤ length text) new
   before : (k : ℕ) → k < length text → owner_in no_node new k ≡ owner_in no_node old k
-  here : owner_in no_node new (length text) ≡ owner
+  behind : (k : ℕ) → length text ≤ k → owner_in no_node new k ≡ owner
 
 begun : (o : Option Run) (x : Run) (P : Type 0) → MatchOption o P (λ (r : Run). r.from ≡ 0) → o ≡ Some x → MatchOption o ⊥ (λ (r : Run). r.from ≡ 0)
 begun None x P h e = absurd (let IsNone : Option Run → Type 0 = λ o. elim o [ None ↦ Unit {0} | Some y ↦ ⊥ ] in subst IsNone e tt)
@@ -53,7 +53,7 @@ owned text old new owner h (inl p) = subst (λ rs. AreOwned text old rs owner) (
   rising = h.rising;
   within = h.within;
   before = λ k l. refl;
-  here = owner_last no_node old (length text) p.0.run some h.within ∙ ap (λ (r : Run). r.owner) (get_or_from_slice_get old (length old - 1) p.0.run p.0.run p.0.there) ∙ p.0.is;
+  behind = λ k m. owner_last no_node old k p.0.run some (λ i d l. (let g = h.within i d l in omega (arith, g, m))) ∙ ap (λ (r : Run). r.owner) (get_or_from_slice_get old (length old - 1) p.0.run p.0.run p.0.there) ∙ p.0.is;
 })
   where
     some : 0 < length old
@@ -65,10 +65,10 @@ owned text old new owner h (inr e) =
       rising = IsNonDecreasingBy-push (λ (r : Run). r.from) old r h.rising (λ d l. h.within (length old - 1) d (omega (arith, l)));
       within = All-push (λ (r : Run). r.from ≤ length text) old r h.within (omega arith);
       before = λ k l. owner_before no_node old r k l;
-      here = owner_pushed no_node old r (length text) (omega arith) h.within;
+      behind = λ k m. owner_pushed no_node old r k m (λ i d l. (let g = h.within i d l in omega (arith, g, m)));
     })
 
-starts_append : (n : ℕ) (s t : Bytes) → starts_from n (s ++ t) ≡ starts_from n s ++ starts_from (n + length s) t
+pub starts_append : (n : ℕ) (s t : Bytes) → starts_from n (s ++ t) ≡ starts_from n s ++ starts_from (n + length s) t
 starts_append n [] t = (let e : n ≡ n + 0 = omega arith in ap (λ k. starts_from k t) e)
 starts_append n (b ∷ s) t = by (is_newline b) (starts_append (suc n) s t ∙ ap (λ k. starts_from (suc n) s ++ starts_from k t) e)
   where
@@ -79,30 +79,35 @@ starts_append n (b ∷ s) t = by (is_newline b) (starts_append (suc n) s t ∙ a
     by true h = ap (λ xs. suc n ∷ xs) h
     by false h = h
 
--- what is kept with one cell more
-kept_more : (text : Bytes) (old new : List Run) (starts : List ℕ) (spans : List Span) (b : ℕ) (owner : NodeId) → IsKept text old starts spans → AreOwned text old new owner → length text < 1048576 → IsKept (text ++ b ∷ []) new (starts ++ starts_from (length text) (b ∷ [])) spans
-kept_more text old new starts spans b owner h o room = record {
-  small = (let c = length-append text (b ∷ []) in omega (arith, room, c));
-  lines = ap (λ xs. xs ++ starts_from (length text) (b ∷ [])) h.lines ∙ ap (λ k. starts_from 0 text ++ starts_from k (b ∷ [])) zero ∙ sym (starts_append 0 text (b ∷ []));
+-- what is kept with more cells
+kept_more : (text s : Bytes) (old new : List Run) (starts : List ℕ) (spans : List Span) (owner : NodeId) → IsKept text old starts spans → AreOwned text old new owner → length text + length s ≤ 1048576 → IsKept (text ++ s) new (starts ++ starts_from (length text) s) spans
+kept_more text s old new starts spans owner h o room = record {
+  small = (let c = length-append text s in omega (arith, room, c));
+  lines = ap (λ xs. xs ++ starts_from (length text) s) h.lines ∙ ap (λ k. starts_from 0 text ++ starts_from k s) zero ∙ sym (starts_append 0 text s);
   begins = begins (slice_get new 0) o.begins;
   rising = o.rising;
-  within = λ i d l. (let c = length-append text (b ∷ []) in let g = o.within i d l in omega (arith, g, c));
-  ends = λ i d l. (let c = length-append text (b ∷ []) in let g = h.ends i d l in (g.0, omega (arith, g.1, c)));
+  within = λ i d l. (let c = length-append text s in let g = o.within i d l in omega (arith, g, c));
+  ends = λ i d l. (let c = length-append text s in let g = h.ends i d l in (g.0, omega (arith, g.1, c)));
 }
   where
     zero : length text ≡ 0 + length text
     zero = omega arith
 
-    begins : (w : Option Run) → MatchOption w ⊥ (λ (r : Run). r.from ≡ 0) → MatchOption w (text ++ b ∷ [] ≡ []) (λ (r : Run). r.from ≡ 0)
+    begins : (w : Option Run) → MatchOption w ⊥ (λ (r : Run). r.from ≡ 0) → MatchOption w (text ++ s ≡ []) (λ (r : Run). r.from ≡ 0)
     begins None h = absurd h
     begins (Some r) h = h
 
-cells_more : (text : Bytes) (old new : List Run) (b : ℕ) (owner : NodeId) → AreOwned text old new owner → kept_cells (text ++ b ∷ []) new ≡ kept_cells text old ++ (b, owner) ∷ []
-cells_more text old new b owner o =
-    let zero : 0 + length text ≡ length text = omega arith in
-    cells_append 0 (owner_in no_node new) text (b ∷ [])
-    ∙ ap (λ xs. xs ++ (b, owner_in no_node new (0 + length text)) ∷ []) (cells_alike 0 (owner_in no_node new) (owner_in no_node old) text (λ k l. o.before k (omega (arith, l))))
-    ∙ ap (λ x. kept_cells text old ++ (b, x) ∷ []) (ap (owner_in no_node new) zero ∙ o.here)
+-- bytes that a node owns: their marks, how many cells they are, and that no node ends among them
+abbrev pub written : Place → Bytes → List Mark
+written u s = map (λ b. Writes b u) s
+
+pub as_cells : (u : Place) (s : Bytes) → length (all_cells (written u s)) ≡ length s
+as_cells u [] = refl
+as_cells u (b ∷ s) = ap suc (as_cells u s)
+
+pub no_ends : (u : Place) (s : Bytes) (n : ℕ) → spans_behind n (written u s) ≡ []
+no_ends u [] n = refl
+no_ends u (b ∷ s) n = no_ends u s (suc n)
 
 -- the page of marks has as many cells as are kept
 pub kept_length : (at : Place → NodeId) (w : Writer) (marks : List Mark) (m : ℕ) → HoldsMarks at w marks m → length w.text.items ≡ min 1048576 (length (all_cells marks))
@@ -144,30 +149,42 @@ module _ (at : Place → NodeId) where
       let count = counted marks xs in
       full w w.more marks xs m h none (omega (arith, over)) (e ∙ sym (lt-ltb 1048576 (length (all_cells (marks ++ xs))) (omega (arith, over, count))))
 
-  pub put_written : (old new : Writer) (u : Place) (b : ℕ) (owner : NodeId) → at u ≡ owner → length old.text.items < 1048576 → new.text.items ≡ old.text.items ++ b ∷ [] → Owns old.runs.items new.runs.items (length old.text.items) owner → new.starts.items ≡ old.starts.items ++ starts_from (length old.text.items) (b ∷ [])
-      → new.spans.items ≡ old.spans.items → new.margin ≡ old.margin → new.more ≡ old.more → Wrote at old new (as_they_are u (b ∷ []))
-  put_written old new u b owner is room text runs starts spans margin more = record {
+  cells_owned : (n : ℕ) (f : ℕ → NodeId) (u : Place) (s : Bytes) → ((k : ℕ) → n ≤ k → f k ≡ at u) → cells_from n f s ≡ map (by_node at) (all_cells (written u s))
+  cells_owned n f u [] h = refl
+  cells_owned n f u (b ∷ s) h =
+      ap (λ x. (b, x) ∷ cells_from (suc n) f s) (h n (omega arith)) ∙ ap (λ xs. (b, at u) ∷ xs) (cells_owned (suc n) f u s (λ k l. h k (omega (arith, l))))
+
+  cells_more : (text s : Bytes) (old new : List Run) (u : Place) → AreOwned text old new (at u) → kept_cells (text ++ s) new ≡ kept_cells text old ++ map (by_node at) (all_cells (written u s))
+  cells_more text s old new u o =
+      cells_append 0 (owner_in no_node new) text s
+      ∙ ap (λ xs. xs ++ cells_from (0 + length text) (owner_in no_node new) s) (cells_alike 0 (owner_in no_node new) (owner_in no_node old) text (λ k l. o.before k (omega (arith, l))))
+      ∙ ap (λ xs. kept_cells text old ++ xs) (cells_owned (0 + length text) (owner_in no_node new) u s (λ k l. o.behind k (omega (arith, l))))
+
+  pub put_written : (old new : Writer) (u : Place) (s : Bytes) → 0 < length s → length old.text.items + length s ≤ 1048576 → new.text.items ≡ old.text.items ++ s → Owns old.runs.items new.runs.items (length old.text.items) (at u) → new.starts.items ≡ old.starts.items ++ starts_from (length old.text.items) s
+      → new.spans.items ≡ old.spans.items → new.margin ≡ old.margin → new.more ≡ old.more → Wrote at old new (as_they_are u s)
+  put_written old new u s some room text runs starts spans margin more = record {
     behind = λ marks m h.
         let size = kept_length at old marks m h in
-        let few : length (all_cells marks) < 1048576 = omega (arith, size, room) in
-        let count = counted marks (Writes b u ∷ []) in
-        let o = owned old.text.items old.runs.items new.runs.items owner (record { begins = h.kept.begins; rising = h.kept.rising; within = h.kept.within }) runs in
-        let all : cells_of (marks ++ Writes b u ∷ []) ≡ all_cells marks ++ (b, u) ∷ [] = take_all 1048576 (all_cells (marks ++ Writes b u ∷ [])) (omega (arith, few, count)) ∙ all_cells-append marks (Writes b u ∷ []) in
+        let long = as_cells u s in
+        let count = counted marks (written u s) in
+        let all_fit : length (all_cells (marks ++ written u s)) ≤ 1048576 = omega (arith, size, long, count, some, room) in
+        let fit : length (all_cells marks) ≤ 1048576 = omega (arith, count, all_fit) in
+        let o = owned old.text.items old.runs.items new.runs.items (at u) (record { begins = h.kept.begins; rising = h.kept.rising; within = h.kept.within }) runs in
+        let all : cells_of (marks ++ written u s) ≡ all_cells marks ++ all_cells (written u s) = take_all 1048576 (all_cells (marks ++ written u s)) all_fit ∙ all_cells-append marks (written u s) in
         record {
-          kept = kept_is (kept_more old.text.items old.runs.items new.runs.items old.starts.items old.spans.items b owner h.kept o room);
-          cells = ap (λ s. kept_cells s new.runs.items) text
-              ∙ cells_more old.text.items old.runs.items new.runs.items b owner o
-              ∙ ap (λ xs. xs ++ (b, owner) ∷ []) (h.cells ∙ ap (map (by_node at)) (take_all 1048576 (all_cells marks) (omega (arith, few))))
-              ∙ ap (λ x. map (by_node at) (all_cells marks) ++ (b, x) ∷ []) (sym is)
-              ∙ sym (map-append (by_node at) (all_cells marks) ((b, u) ∷ []))
+          kept = kept_is (kept_more old.text.items s old.runs.items new.runs.items old.starts.items old.spans.items (at u) h.kept o room);
+          cells = ap (λ t. kept_cells t new.runs.items) text
+              ∙ cells_more old.text.items s old.runs.items new.runs.items u o
+              ∙ ap (λ xs. xs ++ map (by_node at) (all_cells (written u s))) (h.cells ∙ ap (map (by_node at)) (take_all 1048576 (all_cells marks) fit))
+              ∙ sym (map-append (by_node at) (all_cells marks) (all_cells (written u s)))
               ∙ ap (map (by_node at)) (sym all);
-          spans = spans ∙ h.spans ∙ ap (map (on_page at 1048576)) (sym (spans_stay marks (Writes b u ∷ []) (λ n. refl)));
-          more = more ∙ h.more ∙ le-ltb 1048576 (length (all_cells marks)) (omega (arith, few)) ∙ sym (le-ltb 1048576 (length (all_cells (marks ++ Writes b u ∷ []))) (omega (arith, few, count)));
+          spans = spans ∙ h.spans ∙ ap (map (on_page at 1048576)) (sym (spans_stay marks (written u s) (no_ends u s)));
+          more = more ∙ h.more ∙ le-ltb 1048576 (length (all_cells marks)) fit ∙ sym (le-ltb 1048576 (length (all_cells (marks ++ written u s))) all_fit);
           margin = margin ∙ h.margin;
         };
   }
     where
-      kept_is : IsKept (old.text.items ++ b ∷ []) new.runs.items (old.starts.items ++ starts_from (length old.text.items) (b ∷ [])) old.spans.items → IsKept new.text.items new.runs.items new.starts.items new.spans.items
-      kept_is k = subst (λ s. IsKept s new.runs.items new.starts.items new.spans.items) (sym text)
-          (subst (λ xs. IsKept (old.text.items ++ b ∷ []) new.runs.items xs new.spans.items) (sym starts)
-          (subst (λ ss. IsKept (old.text.items ++ b ∷ []) new.runs.items (old.starts.items ++ starts_from (length old.text.items) (b ∷ [])) ss) (sym spans) k))
+      kept_is : IsKept (old.text.items ++ s) new.runs.items (old.starts.items ++ starts_from (length old.text.items) s) old.spans.items → IsKept new.text.items new.runs.items new.starts.items new.spans.items
+      kept_is k = subst (λ t. IsKept t new.runs.items new.starts.items new.spans.items) (sym text)
+          (subst (λ xs. IsKept (old.text.items ++ s) new.runs.items xs new.spans.items) (sym starts)
+          (subst (λ ss. IsKept (old.text.items ++ s) new.runs.items (old.starts.items ++ starts_from (length old.text.items) s) ss) (sym spans) k))

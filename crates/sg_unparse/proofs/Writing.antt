@@ -1,7 +1,8 @@
 -- What is written one behind another.
-use Rattle.std.specs.Prelude.{◌≡◌, refl, ℕ, suc, ◌+◌, ◌-◌, ◌*◌, ◌<◌, ◌≤◌, ◌⊎◌, Bool, true, false, ◌==◌, nat_lt, min, if◌then◌else◌, List, [], ◌∷◌, ◌++◌, length, map, take, replicate, Result, Ok, Err, OnOk}
+use Rattle.std.specs.Prelude.{◌≡◌, refl, ℕ, ◌+◌, ◌-◌, ◌*◌, ◌<◌, ◌≤◌, ◌⊎◌, Bool, true, false, ◌||◌, ◌==◌, nat_lt, min, if◌then◌else◌, List, [], ◌∷◌, ◌++◌, length, map, take, replicate, Result, Ok, Err, OnOk}
+use Rattle.std.specs.List.{list_any}
 use Rattle.std.proofs.Common.{sym, ap, ◌∙◌, subst, arith, get_or, inl, inr, append_assoc, length-append, add-one}
-use Rattle.std.proofs.lemmas.Bool.{lt-ltb, cases_lt, eq-eqb, ne_eqb}
+use Rattle.std.proofs.lemmas.Bool.{true≢false, lt-ltb, cases_lt, eq-eqb, ne_eqb}
 use Rattle.std.proofs.lemmas.List.{map-append, append-nil, replicate-append-replicate, length-replicate, take_all}
 use Rattle.std.proofs.Math.Seq.{take-suc}
 use Rattle.sg_kinds.specs.Values.{Bytes}
@@ -17,16 +18,7 @@ use Rattle.sg_unparse.specs.declared.page.Span.{Span}
 use Rattle.sg_unparse.specs.Written.{HoldsMarks, Wrote, blanks_of, by_node, on_page}
 use Rattle.sg_unparse.specs.declared.writer.Writer.{Writer}
 use Rattle.sg_unparse.proofs.Streams.{all_cells-append, spans_behind-append, length-all_cells, cells_in-append}
-use Rattle.sg_unparse.proofs.Put.{cut_more, kept_length}
-
--- the cells of bytes, and that no node ends among them
-as_cells : (u : Place) (s : Bytes) → length (all_cells (map (λ b. Writes b u) s)) ≡ length s
-as_cells u [] = refl
-as_cells u (b ∷ s) = ap suc (as_cells u s)
-
-no_ends : (u : Place) (s : Bytes) (n : ℕ) → spans_behind n (map (λ b. Writes b u) s) ≡ []
-no_ends u [] n = refl
-no_ends u (b ∷ s) n = no_ends u s (suc n)
+use Rattle.sg_unparse.proofs.Put.{as_cells, no_ends, cut_more, kept_length}
 
 none_append : (xs ys : List Mark) → ((n : ℕ) → spans_behind n xs ≡ []) → ((n : ℕ) → spans_behind n ys ≡ []) → (n : ℕ) → spans_behind n (xs ++ ys) ≡ []
 none_append xs ys h k n = spans_behind-append n xs ys ∙ ap (λ ss. ss ++ spans_behind (n + cells_in xs) ys) (h n) ∙ k (n + cells_in xs)
@@ -109,6 +101,18 @@ module _ (at : Place → NodeId) where
 
   pub plain_other : (old new : Writer) (u : Place) (b : ℕ) → (b ≡ 10 → ⊥) → Wrote at old new (as_they_are u (b ∷ [])) → Wrote at old new (plain u (b ∷ []))
   plain_other old new u b n w = wrote_as old new (as_they_are u (b ∷ [])) (plain u (b ∷ [])) (λ m. ap (λ (t : Bool). in_turn (if t then newline u else as_they_are u (b ∷ [])) nothing m) (sym (ne_eqb b 10 n))) w
+
+  -- where no byte is 10, a text is written as it is
+  flat : (u : Place) (s : Bytes) → list_any (λ b. b == 10) s ≡ false → (m : ℕ) → as_they_are u s m ≡ plain u s m
+  flat u [] e m = refl
+  flat u (b ∷ s) e m = by (b == 10) e (λ r. flat u s r m)
+    where
+      by : (t : Bool) → (t || list_any (λ b. b == 10) s) ≡ false → (list_any (λ c. c == 10) s ≡ false → as_they_are u s m ≡ plain u s m) → as_they_are u (b ∷ s) m ≡ in_turn (if t then newline u else as_they_are u (b ∷ [])) (plain u s) m
+      by true e rest = absurd (true≢false e)
+      by false e rest = ap (λ (p : List Mark × ℕ). (Writes b u ∷ p.0, p.1)) (rest e)
+
+  pub plain_flat : (old new : Writer) (u : Place) (s : Bytes) → list_any (λ b. b == 10) s ≡ false → Wrote at old new (as_they_are u s) → Wrote at old new (plain u s)
+  plain_flat old new u s e w = wrote_as old new (as_they_are u s) (plain u s) (flat u s e) w
 
   pub more_plain : (old mid new : Writer) (u : Place) (s : Bytes) (b : ℕ) → Wrote at old mid (plain u s) → Wrote at mid new (plain u (b ∷ [])) → Wrote at old new (plain u (s ++ b ∷ []))
   more_plain old mid new u s b v w = wrote_as old new (in_turn (plain u s) (plain u (b ∷ []))) (plain u (s ++ b ∷ [])) (λ m. joined s m) (wrote_turn old mid new (plain u s) (plain u (b ∷ [])) v w)

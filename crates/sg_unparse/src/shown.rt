@@ -4,6 +4,7 @@ ghost use Rattle.sg_kinds.specs.Specification.{has_shape, is_lexical_shape, phyl
 ghost use Rattle.sg_pool.specs.Pools.{value_at};
 ghost use Rattle.sg_unparse.specs.Shown.{fault_text, text_shown, value_text, scheme_of};
 
+use itoa::Buffer;
 use sg_kinds::ids::{OpId, PhylumId, ValueId};
 use sg_kinds::marks::{FaultKind, Shape};
 use sg_kinds::memory::NoMemory;
@@ -102,8 +103,8 @@ pub fn write_value(
             out.extend_from_slice(text)?;
         }
         PoolEntry::Int(n) => {
-            let text = n.to_string(alloc)?;
-            out.extend_from_slice(text.as_bytes())?;
+            let mut digits = Buffer::new();
+            out.extend_from_slice(digits.format(*n).as_bytes())?;
         }
         PoolEntry::Text(text) => write_text(out, spec, p, text.as_slice())?,
         PoolEntry::Tree(_, _) => {}

@@ -59,6 +59,19 @@ fn begin_line(starts: &mut Vec<u32>, at: u32, b: u8) -> Result<(), NoMemory>
     Ok(())
 }
 
+// notes that lines begin behind the newlines of a text
+fn begin_lines(starts: &mut Vec<u32>, at: u32, text: &[u8]) -> Result<(), NoMemory>
+    requires { at + length text.now ≤ 1048576 }
+    ensures { OnOk result (starts.new.items ≡ starts.old.items ++ starts_from at text.now) }
+{
+    let mut next = at;
+    for b in text {
+        begin_line(starts, next, *b)?;
+        next += 1;
+    }
+    Ok(())
+}
+
 impl Writer {
     /// Nothing is written, and the margin is 0.
     pub fn new(alloc: Global) -> Writer
@@ -97,6 +110,22 @@ impl Writer {
         Ok(())
     }
 
+    // writes a text that the page has room for
+    fn fill(&mut self, owner: NodeId, text: &[u8]) -> Result<(), NoMemory>
+        requires { length text.now ≤ 1048576 - length self.old.text.items }
+        ensures { OnOk result ((at : Place → Id) (u : Place) → at u ≡ owner →
+            Wrote at self.old self.new (as_they_are u text.now)) }
+    {
+        if text.is_empty() {
+            return Ok(());
+        }
+        let at = self.text.len() as u32;
+        own(&mut self.runs, at, owner)?;
+        begin_lines(&mut self.starts, at, text)?;
+        self.text.extend_from_slice(text)?;
+        Ok(())
+    }
+
     /// Writes bytes as they are.
     pub fn bytes(&mut self, owner: NodeId, text: &[u8]) -> Result<(), NoMemory>
         ensures { OnOk result ((at : Place → Id) (u : Place) → at u ≡ owner →
@@ -104,6 +133,9 @@ impl Writer {
     {
         if self.more {
             return Ok(());
+        }
+        if text.len() <= PAGE.saturating_sub(self.text.len()) {
+            return self.fill(owner, text);
         }
         for b in text {
             self.put(owner, *b)?;
@@ -163,6 +195,9 @@ impl Writer {
     {
         if self.more {
             return Ok(());
+        }
+        if !text.contains(&b'\n') {
+            return self.bytes(owner, text);
         }
         for b in text {
             self.plain_byte(owner, *b)?;

@@ -1,4 +1,5 @@
 use Rattle.sg_unparse.proofs.Writing.{cut_bytes, bytes_begun, bytes_more, bytes_done}
+use Rattle.std.proofs.Common.{arith}
 use Rattle.sg_unparse.proofs.writer.Writer.bytes.Goals as goal
 
 pub returns-then-self : goal.returns-then-self
@@ -12,3 +13,6 @@ loop-b-preserved c = λ at u is. bytes_more at c.args.self.now c.loop-b.self c.p
 
 pub returns : goal.returns
 returns c = λ at u is. bytes_done at c.args.self.now c.loop-b.self u c.args.text.now c.loop-b.b-index c.loop-b-test.false (c.loop-b.invariant at u is)
+
+pub fill-requires : goal.fill-requires
+fill-requires c = omega (arith, c.if-text-saturating_sub.true, c.saturating_sub.ensures, c.len.ensures, c.args.self.now.text.ok.0)

@@ -1,8 +1,12 @@
-use Rattle.sg_unparse.proofs.Writing.{cut_plain, plain_begun, plain_more, plain_done}
+use Rattle.std.proofs.Common.{sym, ◌∙◌}
+use Rattle.sg_unparse.proofs.Writing.{on_ok, plain_flat, cut_plain, plain_begun, plain_more, plain_done}
 use Rattle.sg_unparse.proofs.writer.Writer.plain.Goals as goal
 
 pub returns-then-self : goal.returns-then-self
 returns-then-self c = λ at u is. cut_plain at c.args.self.now u c.args.text.now c.if-self.true
+
+pub returns-then-not-contains : goal.returns-then-not-contains
+returns-then-not-contains c = on_ok c.bytes.result _ _ (λ f at u is. plain_flat at c.args.self.now c.bytes.new.self u c.args.text.now (sym c.contains.ensures.value ∙ c.if-not-contains.true) (f at u is)) c.bytes.ensures
 
 pub loop-b-init : goal.loop-b-init
 loop-b-init c = λ at u is. plain_begun at c.args.self.now u c.args.text.now

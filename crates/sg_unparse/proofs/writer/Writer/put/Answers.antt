@@ -1,4 +1,4 @@
-use Rattle.std.proofs.Common.{◌≡◌, [], ◌∷◌, ◌++◌, ap, ◌∙◌, subst, length, arith, refl}
+use Rattle.std.proofs.Common.{◌≡◌, [], ◌∷◌, ◌++◌, sym, ap, ◌∙◌, subst, length, arith, refl}
 use Rattle.sg_unparse.specs.Written.{Owns}
 use Rattle.sg_unparse.specs.Sheet.{starts_from}
 use Rattle.sg_unparse.proofs.Put.{full_put, put_written}
@@ -11,6 +11,6 @@ pub returns : goal.returns
 returns c =
     let w = c.args.self.now in
     let len : c.len-at.result ≡ length w.text.items = c.len-at.ensures ∙ w.text.ok.0 in
-    λ at u is. put_written at w _ u c.args.b c.args.owner is (omega (arith, c.if-at-ge-PAGE.false, len)) c.in_ok-push.ensures.items
-    (subst (λ n. Owns w.runs.items c.own.new.runs.items n c.args.owner) len c.in_ok-own.ensures)
+    λ at u is. put_written at w _ u (c.args.b ∷ []) (omega arith) (omega (arith, c.if-at-ge-PAGE.false, len)) c.in_ok-push.ensures.items
+    (subst (λ o. Owns w.runs.items c.own.new.runs.items (length w.text.items) o) (sym is) (subst (λ n. Owns w.runs.items c.own.new.runs.items n c.args.owner) len c.in_ok-own.ensures))
     (c.in_ok-begin_line.ensures ∙ ap (λ n. w.starts.items ++ starts_from n (c.args.b ∷ [])) len) refl refl refl
