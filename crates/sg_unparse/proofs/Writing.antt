@@ -60,10 +60,10 @@ module _ (at : Place → NodeId) where
   }
 
   -- bytes
-  pub more_bytes : (old mid new : Writer) (u : Place) (s : Bytes) (b : ℕ) → Wrote at old mid (as_they_are u s) → Wrote at mid new (as_they_are u (b ∷ [])) → Wrote at old new (as_they_are u (s ++ b ∷ []))
-  more_bytes old mid new u s b v w =
-      wrote_as old new (in_turn (as_they_are u s) (as_they_are u (b ∷ []))) (as_they_are u (s ++ b ∷ []))
-      (λ m. ap (λ xs. (xs, m)) (sym (map-append (λ c. Writes c u) s (b ∷ [])))) (wrote_turn old mid new (as_they_are u s) (as_they_are u (b ∷ [])) v w)
+  pub more_bytes : (old mid new : Writer) (u : Place) (s t : Bytes) → Wrote at old mid (as_they_are u s) → Wrote at mid new (as_they_are u t) → Wrote at old new (as_they_are u (s ++ t))
+  more_bytes old mid new u s t v w =
+      wrote_as old new (in_turn (as_they_are u s) (as_they_are u t)) (as_they_are u (s ++ t))
+      (λ m. ap (λ xs. (xs, m)) (sym (map-append (λ c. Writes c u) s t))) (wrote_turn old mid new (as_they_are u s) (as_they_are u t) v w)
 
   pub cut_bytes : (w : Writer) (u : Place) (s : Bytes) → w.more ≡ true → Wrote at w w (as_they_are u s)
   cut_bytes w u s e = record { behind = λ marks m h. cut_more at w marks (map (λ b. Writes b u) s) m h (no_ends u s) e }
@@ -199,7 +199,7 @@ module _ (at : Place → NodeId) where
   bytes_begun w u s = wrote_as w w nothing (as_they_are u (take 0 s)) (λ m. refl) (wrote_nothing w)
 
   pub bytes_more : (old mid new : Writer) (u : Place) (s : Bytes) (i : ℕ) → i < length s → Wrote at old mid (as_they_are u (take i s)) → Wrote at mid new (as_they_are u (get_or s i 0 ∷ [])) → Wrote at old new (as_they_are u (take (i + 1) s))
-  bytes_more old mid new u s i h v w = subst (λ t. Wrote at old new (as_they_are u t)) (sym (ap (λ k. take k s) (add-one i) ∙ take-suc s i 0 h)) (more_bytes old mid new u (take i s) (get_or s i 0) v w)
+  bytes_more old mid new u s i h v w = subst (λ t. Wrote at old new (as_they_are u t)) (sym (ap (λ k. take k s) (add-one i) ∙ take-suc s i 0 h)) (more_bytes old mid new u (take i s) (get_or s i 0 ∷ []) v w)
 
   pub bytes_done : (old new : Writer) (u : Place) (s : Bytes) (i : ℕ) → length s ≤ i → Wrote at old new (as_they_are u (take i s)) → Wrote at old new (as_they_are u s)
   bytes_done old new u s i h w = subst (λ t. Wrote at old new (as_they_are u t)) (take_all i s h) w
@@ -225,8 +225,8 @@ module _ (at : Place → NodeId) where
   pub blanks_begun : (w : Writer) (u : Place) → Wrote at w w (as_they_are u (replicate 0 32))
   blanks_begun w u = wrote_as w w nothing (as_they_are u (replicate 0 32)) (λ m. refl) (wrote_nothing w)
 
-  pub blanks_more : (old mid new : Writer) (u : Place) (i : ℕ) → Wrote at old mid (as_they_are u (replicate i 32)) → Wrote at mid new (as_they_are u (32 ∷ [])) → Wrote at old new (as_they_are u (replicate (i + 1) 32))
-  blanks_more old mid new u i v w = subst (λ t. Wrote at old new (as_they_are u t)) (replicate-append-replicate i 1 32) (more_bytes old mid new u (replicate i 32) 32 v w)
+  pub blanks_more : (old mid new : Writer) (u : Place) (i k : ℕ) (t : Bytes) → t ≡ replicate k 32 → Wrote at old mid (as_they_are u (replicate i 32)) → Wrote at mid new (as_they_are u t) → Wrote at old new (as_they_are u (replicate (i + k) 32))
+  blanks_more old mid new u i k t e v w = subst (λ s. Wrote at old new (as_they_are u s)) (ap (λ s. replicate i 32 ++ s) e ∙ replicate-append-replicate i k 32) (more_bytes old mid new u (replicate i 32) t v w)
 
   pub blanks_all : (old new : Writer) (u : Place) (count i : ℕ) → count ≡ min old.margin ((1048576 - length old.text.items) + 1) → i ≤ count → count ≤ i → Wrote at old new (as_they_are u (replicate i 32)) → Wrote at old new (blanks_of u)
   blanks_all old new u count i e h l w = (let same : i ≡ count = omega (arith, h, l) in blanks_written old new u count e (subst (λ k. Wrote at old new (as_they_are u (replicate k 32))) same w))

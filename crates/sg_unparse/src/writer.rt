@@ -16,6 +16,9 @@ use std::alloc::Global;
 /// How many cells a page has at most.
 pub const PAGE: usize = 1_048_576;
 
+// blanks, written up to 64 at once
+const BLANKS: [u8; 64] = [b' '; 64];
+
 /// A page while it is written, and the margin in blanks.
 #[derive(Drop)]
 pub struct Writer {
@@ -159,8 +162,9 @@ impl Writer {
         let count = self.blank_count();
         let mut done = 0;
         while done < count {
-            self.put(owner, b' ')?;
-            done += 1;
+            let some = (count - done).min(BLANKS.len());
+            self.bytes(owner, BLANKS.split_at(some).0)?;
+            done += some;
         }
         Ok(())
     }
