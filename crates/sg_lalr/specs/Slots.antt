@@ -1,5 +1,5 @@
 -- The rows of nodes: those that begin productions of one symbol in one state share one.
-use Rattle.std.specs.Prelude.{◌≡◌, ◌↔◌, ℕ, ◌<◌, ◌≤◌, ◌⊎◌, Bool, List, Option, Some, None, slice_index, slice_index_or, slice_set, length}
+use Rattle.std.specs.Prelude.{◌≡◌, ◌↔◌, ℕ, ◌+◌, ◌<◌, ◌≤◌, ◌⊎◌, Bool, List, slice_index, slice_set, length}
 use Rattle.sg_grammar.specs.Grammar.{Grammar}
 use Rattle.sg_sets.specs.Paths.{Linked}
 use Rattle.sg_sets.specs.Rows.{Holds}
@@ -25,20 +25,20 @@ IsOneEach g nodes from to slots = (b c X : ℕ) → from ≤ b → b < to → fr
     → BeginsWith g (node_at nodes b).item X → BeginsWith g (node_at nodes c).item X
     → slice_index slots b ≡ slice_index slots c
 
--- the row of the nodes that begin productions of a symbol, where there is one so far
-abbrev pub row_for : List (Option ℕ) → ℕ → Option ℕ
-row_for at X = slice_index_or at X None
+-- the nodes that begin productions of a symbol have this row, where those from `base` on count
+abbrev pub HasRow : ℕ → List ℕ → ℕ → ℕ → Type 0
+HasRow base at X slot = (base ≤ slot) × (slice_index at X ≡ slot + 1)
 
 -- a node gets a row: the next one where it begins no production, the one of its symbol, or the next one for its symbol
-abbrev pub GetsNext : Grammar → Item → List (Option ℕ) → List (Option ℕ) → ℕ → ℕ → Type 0
+abbrev pub GetsNext : Grammar → Item → List ℕ → List ℕ → ℕ → ℕ → Type 0
 GetsNext g i old new next slot = ((X : ℕ) → BeginsWith g i X → ⊥) × (new ≡ old) × (slot ≡ next)
 
-abbrev pub GetsKnown : Grammar → Item → List (Option ℕ) → List (Option ℕ) → ℕ → Type 0
-GetsKnown g i old new slot = (X : ℕ) × BeginsWith g i X × (row_for old X ≡ Some slot) × (new ≡ old)
+abbrev pub GetsKnown : Grammar → Item → ℕ → List ℕ → List ℕ → ℕ → Type 0
+GetsKnown g i base old new slot = (X : ℕ) × BeginsWith g i X × HasRow base old X slot × (new ≡ old)
 
-abbrev pub GetsFirst : Grammar → Item → List (Option ℕ) → List (Option ℕ) → ℕ → ℕ → Type 0
-GetsFirst g i old new next slot = (X : ℕ) × BeginsWith g i X × (row_for old X ≡ None) × (X < length old)
-    × (new ≡ slice_set old X (Some next)) × (slot ≡ next)
+abbrev pub GetsFirst : Grammar → Item → ℕ → List ℕ → List ℕ → ℕ → ℕ → Type 0
+GetsFirst g i base old new next slot = (X : ℕ) × BeginsWith g i X × (slice_index old X ≤ base) × (X < length old)
+    × (new ≡ slice_set old X (next + 1)) × (slot ≡ next)
 
 -- some node that passes has this row
 abbrev pub OfSome : List ℕ → (ℕ → Type 0) → ℕ → Type 0

@@ -1,7 +1,7 @@
 //! The rows of nodes: those that begin productions of one symbol in one state share one.
-ghost use Rattle.std.specs.Prelude.{◌≡◌, ℕ, suc, ◌<◌, ◌≤◌, ◌⊎◌, None, length, slice_index, IfOk, IfSome, IfNone, OnOk};
+ghost use Rattle.std.specs.Prelude.{◌≡◌, ℕ, suc, ◌+◌, ◌^◌, ◌<◌, ◌≤◌, ◌⊎◌, length, slice_index, IfOk, IfSome, IfNone, OnOk};
 ghost use Rattle.sg_lalr.specs.Lookaheads.{node_at, BeginsWith, IsLaid};
-ghost use Rattle.sg_lalr.specs.Slots.{AreSlots, IsOneEach, row_for, GetsNext, GetsKnown, GetsFirst};
+ghost use Rattle.sg_lalr.specs.Slots.{AreSlots, IsOneEach, GetsNext, GetsKnown, GetsFirst};
 
 use crate::items::Item;
 use crate::layout::Layout;
@@ -32,43 +32,34 @@ fn begun_by(g: &Grammar, item: Item) -> Option<u32>
     }
 }
 
-/// The row of a node, where `at` has for each symbol that of the nodes of its state that begin its productions.
-fn slot_of(g: &Grammar, item: Item, at: &mut Vec<Option<usize>>, next: usize) -> usize
-    requires { length at.old.items ≡ g.now.symbols }
+/// The row of a node, where `at` has for each symbol one more than that of the nodes of its state that begin its
+/// productions, or at most `base` where there is none.
+fn slot_of(g: &Grammar, item: Item, at: &mut Vec<usize>, base: usize, next: usize) -> usize
+    requires count { length at.old.items ≡ g.now.symbols }
+    requires room { next + 1 < 2 ^ 64 }
     ensures count { length at.new.items ≡ g.now.symbols }
     ensures gets { GetsNext g.now item at.old.items at.new.items next result
-        ⊎ (GetsKnown g.now item at.old.items at.new.items result
-        ⊎ GetsFirst g.now item at.old.items at.new.items next result) }
+        ⊎ (GetsKnown g.now item base at.old.items at.new.items result
+        ⊎ GetsFirst g.now item base at.old.items at.new.items next result) }
 {
     let Some(x) = begun_by(g, item) else {
         return next;
     };
-    if let Some(slot) = at[x as usize] {
-        return slot;
+    let known = at[x as usize];
+    if base < known {
+        return known - 1;
     }
-    at[x as usize] = Some(next);
+    at[x as usize] = next + 1;
     next
 }
 
-/// No row for each symbol.
-fn no_rows(alloc: Global, symbols: u32) -> Result<Vec<Option<usize>>, AllocError>
-    ensures count { IfOk result (λ v. length v.items ≡ symbols) }
-    ensures none { IfOk result (λ v. (X : ℕ) → row_for v.items X ≡ None) }
-{
-    let mut rows = Vec::with_capacity(alloc, symbols as usize)?;
-    'rows: while rows.len() < symbols as usize {
-        rows.push(None)?;
-    }
-    Ok(rows)
-}
-
-/// Gives the nodes of a state their rows.
+/// Gives the nodes of a state their rows. What `at` has from earlier states is at most the number of rows so far.
 fn add_state(
-    alloc: Global,
     g: &Grammar,
     nodes: &[Node],
     from: usize,
     to: usize,
+    at: &mut Vec<usize>,
     slots: &mut Slots,
 ) -> Result<(), AllocError>
     requires order { from ≤ to }
@@ -76,14 +67,18 @@ fn add_state(
     requires here { (b c : ℕ) → from ≤ b → b < to → from ≤ c → c < to
         → (node_at nodes.now b).state ≡ (node_at nodes.now c).state }
     requires slots { AreSlots g.now nodes.now from slots.old.of.items slots.old.count }
+    requires symbols { length at.old.items ≡ g.now.symbols }
+    requires past { (X : ℕ) → slice_index at.old.items X ≤ slots.old.count }
     ensures slots { OnOk result (AreSlots g.now nodes.now to slots.new.of.items slots.new.count) }
     ensures one { OnOk result (IsOneEach g.now nodes.now from to slots.new.of.items) }
     ensures keeps { OnOk result ((m : ℕ) → m < from
         → slice_index slots.new.of.items m ≡ slice_index slots.old.of.items m) }
+    ensures symbols { OnOk result (length at.new.items ≡ g.now.symbols) }
+    ensures past { OnOk result ((X : ℕ) → slice_index at.new.items X ≤ slots.new.count) }
 {
-    let mut at = no_rows(alloc, g.symbols())?;
+    let base = slots.count;
     for m in from..to {
-        let slot = slot_of(g, nodes[m].item, &mut at, slots.count);
+        let slot = slot_of(g, nodes[m].item, at, base, slots.count);
         slots.count = slots.count.max(slot + 1);
         slots.of.push(slot)?;
     }
@@ -107,10 +102,11 @@ pub(crate) fn all_slots(
         of: Vec::with_capacity(alloc, layout.nodes.len())?,
         count: 0,
     };
+    let mut at = vec![in alloc; 0; g.symbols() as usize]?;
     for state in 0..cores.len() {
         let from = layout.firsts[state];
         let to = layout.firsts[state + 1];
-        add_state(alloc, g, &layout.nodes, from, to, &mut slots)?;
+        add_state(g, &layout.nodes, from, to, &mut at, &mut slots)?;
     }
     Ok(slots)
 }
