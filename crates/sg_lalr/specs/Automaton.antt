@@ -1,5 +1,5 @@
 -- The automaton, and how much of it was found so far.
-use Rattle.std.specs.Prelude.{◌≡◌, ◌≢◌, ℕ, zero, suc, ◌<◌, ◌≤◌, ◌⊎◌, if◌then◌else◌, nat_eq, List, [], ◌∷◌, ◌++◌, length, slice_index_or, All, AllPairs, Contains}
+use Rattle.std.specs.Prelude.{◌≡◌, ◌≢◌, ◌↔◌, ℕ, zero, suc, ◌<◌, ◌≤◌, ◌⊎◌, if◌then◌else◌, nat_eq, List, [], ◌∷◌, ◌++◌, length, slice_index_or, All, AllPairs, Contains}
 use Rattle.sg_grammar.specs.Grammar.{Grammar}
 use Rattle.sg_lalr.specs.declared.states.Move.{Move}
 use Rattle.sg_lalr.specs.declared.states.Origin.{Origin}
@@ -13,6 +13,14 @@ row_at rows s = slice_index_or rows s []
 -- each symbol's row has the items that have their dot before it, with their dots behind it
 abbrev pub IsSpread : Grammar → List Item → List (List Item) → Type 0
 IsSpread g items rows = (length rows ≡ g.symbols) × ((X : ℕ) → X < g.symbols → row_at rows X ≡ advance g X items)
+
+-- these are the symbols before which some item has its dot, each once
+abbrev pub IsNamed : Grammar → List Item → List ℕ → Type 0
+IsNamed g items symbols = AllPairs ◌≢◌ symbols × ((X : ℕ) → Contains symbols X ↔ HasNext g items X)
+
+-- the same, by their numbers
+abbrev pub IsListed : Grammar → List Item → List ℕ → Type 0
+IsListed g items symbols = AllPairs ◌<◌ symbols × ((X : ℕ) → Contains symbols X ↔ HasNext g items X)
 
 abbrev pub moves_at : List (List Move) → ℕ → List Move
 moves_at moves s = slice_index_or moves s []

@@ -7,7 +7,7 @@ ghost use Rattle.sg_lalr.specs.Automaton.{row_at, start_items, Entered, IsPart, 
 
 use crate::closure::{closure, openings};
 use crate::items::Item;
-use crate::spread::{next_filled, spread};
+use crate::spread::{empty_rows, spread};
 use indexmap::IndexSet;
 use sg_grammar::Grammar;
 use sg_kinds::row::Row;
@@ -89,8 +89,15 @@ fn enter(
 }
 
 impl Automaton {
-    /// Finds the core and the moves of the next state, or answers false where there are too many states.
-    fn expand(&mut self, alloc: Global, g: &Grammar, opens: &Rows) -> Result<bool, AllocError>
+    /// Finds the core and the moves of the next state, or answers false where there are too many states. The rows of
+    /// symbols are empty before and after.
+    fn expand(
+        &mut self,
+        alloc: Global,
+        g: &Grammar,
+        opens: &Rows,
+        rows: &mut Vec<Vec<Item>>,
+    ) -> Result<bool, AllocError>
         requires part { IsPart g.now
             (map (λ k. k.items) self.old.kernels.keys) self.old.cores.items self.old.moves.items self.old.origins.items }
         requires moves { length self.old.moves.items ≡ length self.old.cores.items }
@@ -100,6 +107,8 @@ impl Automaton {
         requires width { opens.now.width ≡ length g.now.rules }
         requires exact { (x q : ℕ) → Holds opens.now.rows x q ↔ Opens g.now.rules x q }
         requires entries { 0 < length g.now.entries }
+        requires rows { length rows.old.items ≡ g.now.symbols }
+        requires empty { (X : ℕ) → row_at (map (λ k. k.items) rows.old.items) X ≡ [] }
         ensures part { IfOk result (λ whole. OnTrue whole
             (IsPart g.now (map
             (λ k. k.items) self.new.kernels.keys) self.new.cores.items self.new.moves.items self.new.origins.items)) }
@@ -109,25 +118,28 @@ impl Automaton {
             ≡ length self.new.cores.items)) }
         ensures few { IfOk result (λ whole. OnTrue whole (length self.new.kernels.keys ≤ MOST_STATES)) }
         ensures full { IfOk result (λ whole. OnFalse whole (Overflows g.now)) }
+        ensures rows { IfOk result (λ whole. OnTrue whole (length rows.new.items ≡ g.now.symbols)) }
+        ensures empty { IfOk result (λ whole. OnTrue whole ((X : ℕ)
+            → row_at (map (λ k. k.items) rows.new.items) X ≡ [])) }
     {
         g.sound();
         let state = self.cores.len();
         let mut core = self.core_of(alloc, g, opens, state)?;
-        let kernels = spread(alloc, g, &core)?;
+        let symbols = spread(alloc, g, &core, rows)?;
         let mut row = Vec::new(alloc);
-        let mut x = next_filled(g, &kernels, 0);
-        'symbols: while x < g.symbols() {
-            let kernel = kernels[x as usize].as_slice();
+        for x in symbols.as_slice() {
+            let symbol = *x;
+            let kernel = rows[symbol as usize].as_slice();
             let origin = Origin {
                 state: state as u32,
-                symbol: x,
+                symbol,
             };
             let Some(target) = enter(alloc, &mut self.kernels, &mut self.origins, kernel, origin)?
             else {
                 return Ok(false);
             };
-            row.push(Move { symbol: x, target })?;
-            x = next_filled(g, &kernels, x + 1);
+            row.push(Move { symbol, target })?;
+            rows[symbol as usize].clear();
         }
         core.shrink_to_fit();
         row.shrink_to_fit();
@@ -190,8 +202,9 @@ pub(crate) fn all_states(alloc: Global, g: &Grammar) -> Result<Option<Automaton>
         origins: Vec::new(alloc),
     };
     add(&mut automaton.kernels, starts(alloc, g)?)?;
+    let mut rows = empty_rows(alloc, g.symbols())?;
     'states: while automaton.cores.len() < automaton.kernels.len() {
-        if !automaton.expand(alloc, g, &opens)? {
+        if !automaton.expand(alloc, g, &opens, &mut rows)? {
             return Ok(None);
         }
     }

@@ -12,5 +12,7 @@ states-init c =
     record {
       part = rw (keys, c.new-2.ensures.items, c.new-3.ensures.items, c.new-4.ensures.items) (part-none c.args.g.now);
       moves = rw (c.new-2.ensures.items, c.new-3.ensures.items) refl;
+      rows = c.in_ok-rows.ensures.count ∙ c.symbols.ensures;
+      empty = c.in_ok-rows.ensures.empty;
       few = omega (arith, long, one);
     }

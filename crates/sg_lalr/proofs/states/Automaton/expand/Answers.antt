@@ -1,14 +1,44 @@
-use Rattle.std.proofs.Common.{◌≡◌, ◌+◌, ◌<◌, ◌∙◌, ◌++◌, ◌∷◌, [], sym, ap, subst, map, length, arith}
-use Rattle.std.proofs.lemmas.List.{length-map, get_or-map}
-use Rattle.sg_lalr.specs.Items.{advance}
-use Rattle.sg_lalr.specs.Automaton.{IsSpread}
+use Rattle.std.proofs.Common.{Vec, Global, ◌≡◌, ℕ, ◌+◌, ◌<◌, ◌∙◌, ◌++◌, ◌∷◌, [], List, sym, ap, subst, map, set, length, get_or, arith}
+use Rattle.std.specs.Prelude.{slice_index}
+use Rattle.std.proofs.lemmas.List.{length-map, get_or-map, get_or_default, get_or_past, map-set}
+use Rattle.sg_grammar.specs.Grammar.{Grammar}
+use Rattle.sg_grammar.specs.WellFormed.{IsWellFormed}
+use Rattle.sg_lalr.specs.Items.{Item, advance}
+use Rattle.sg_lalr.specs.Automaton.{IsListed, IsSpread}
 use Rattle.sg_lalr.proofs.MoveLemmas.{next-within}
-use Rattle.sg_lalr.proofs.SpreadLemmas.{spread-next, spread-least}
-use Rattle.sg_lalr.proofs.PartLemmas.{start-row, more-row, overflow-row, end-row}
+use Rattle.sg_lalr.proofs.SpreadLemmas.{IsLeft, listed-next, listed-least, listed-behind, listed-rises, left-all, left-fewer, left-none}
+use Rattle.sg_lalr.proofs.PartLemmas.{Expanding, start-row, more-row, overflow-row, end-row}
 use Rattle.sg_lalr.proofs.states.Automaton.expand.Goals as goal
 
-pub symbols-init : goal.symbols-init
-symbols-init c =
+-- the list as the loop reads it
+listed-read : (g : Grammar) (core read : List Item) (symbols xs : List ℕ) → read ≡ core → xs ≡ symbols → IsListed g read symbols → IsListed g core xs
+listed-read g core read symbols xs e is h = subst (IsListed g core) (sym is) (subst (λ l. IsListed g l symbols) e h)
+
+-- the row of the symbol at a place is there
+within : (g : Grammar) (core : List Item) (xs : List ℕ) → IsListed g core xs → IsWellFormed g → (k : ℕ) → k < length xs → {long : ℕ} (rows : List (Vec Item Global)) → IsLeft g core xs k (map (λ k. k.items) rows) → long ≡ length rows → slice_index xs k < long
+within g core xs listed formed k l rows left is =
+    let low = next-within g formed core (slice_index xs k) (listed-next g core xs listed k l) in
+    let count = left.count in
+    omega (arith, low, count, length-map rows (λ k. k.items), is)
+
+pub index-requires : goal.index-requires
+index-requires c =
+    let g = c.args.g.now in
+    let core = c.in_ok-core.core.items in
+    let xs = c.as_slice-x-items.result.now in
+    let listed = listed-read g core c.deref.result.now c.in_ok-symbols.symbols.items xs c.deref.ensures.value c.as_slice-x-items.ensures.value c.in_ok-symbols.ensures.listed in
+    within g core xs listed c.sound.ensures c.loop-x.x-index c.loop-x-test.true c.loop-x.rows.items c.loop-x.invariant.left c.loop-x.rows.ok.0
+
+pub index_mut-requires : goal.index_mut-requires
+index_mut-requires c =
+    let g = c.args.g.now in
+    let core = c.in_ok-core.core.items in
+    let xs = c.as_slice-x-items.result.now in
+    let listed = listed-read g core c.deref.result.now c.in_ok-symbols.symbols.items xs c.deref.ensures.value c.as_slice-x-items.ensures.value c.in_ok-symbols.ensures.listed in
+    within g core xs listed c.sound.ensures c.loop-x.x-index c.loop-x-test.true c.loop-x.rows.items c.loop-x.invariant.left c.loop-x.rows.ok.0
+
+pub loop-x-init : goal.loop-x-init
+loop-x-init c =
     let g = c.args.g.now in
     let keys = c.args.self.now.kernels.keys in
     let cores = c.args.self.now.cores in
@@ -19,18 +49,17 @@ symbols-init c =
     let next = c.requires.next in
     let few = c.requires.few in
     let moves = c.requires.moves in
-    let x = c.next_filled-x in
-    let spread : IsSpread g core (map (λ k. k.items) c.deref-2.result.now) =
-    subst (λ l. IsSpread g l (map (λ k. k.items) c.deref-2.result.now)) c.deref.ensures.value (subst (λ ks. IsSpread g c.deref.result.now (map (λ k. k.items) ks)) (sym c.deref-2.ensures.value) c.in_ok-kernels.ensures.spread) in
+    let xs = c.as_slice-x-items.result.now in
+    let listed = listed-read g core c.deref.result.now c.in_ok-symbols.symbols.items xs c.deref.ensures.value c.as_slice-x-items.ensures.value c.in_ok-symbols.ensures.listed in
+    let rows = map (λ k. k.items) c.spread.new.rows.items in
     record {
-      expanding = start-row g cores.items core c.args.self.now.moves.items s here (map (λ k. k.items) keys) c.args.self.now.origins.items c.new-row.result.items x.result c.requires.part (omega (arith, next, here, long)) c.in_ok-core.ensures
-          (λ X h. spread-least g core (map (λ k. k.items) c.deref-2.result.now) 0 x.result x.ensures.within x.ensures.empty spread X (omega arith) h) c.new-row.ensures.items;
-      next = λ l. spread-next g core (map (λ k. k.items) c.deref-2.result.now) x.result l (x.ensures.filled l) spread;
+      expanding = start-row g cores.items core c.args.self.now.moves.items s here (map (λ k. k.items) keys) c.args.self.now.origins.items c.new-row.result.items (get_or xs 0 g.symbols) c.requires.part (omega (arith, next, here, long)) c.in_ok-core.ensures
+          (listed-least g core xs listed) c.new-row.ensures.items;
+      left = left-all g core xs listed c.sound.ensures rows (subst (λ l. IsSpread g l rows) c.deref.ensures.value c.in_ok-symbols.ensures.spread);
       cores = here;
       moves = omega (arith, moves, here);
       state = sym here;
       few = few;
-      within = x.ensures.within;
       short = omega (arith, next, few, here);
     }
 
@@ -39,51 +68,75 @@ returns-in_default-clause-full c =
     let g = c.args.g.now in
     let full = rw c.in_default.is at c.in_ok-target.ensures.full in
     let core = c.in_ok-core.core.items in
-    let keys = c.symbols.self.kernels.keys in
+    let l = c.loop-x in
+    let inv = l.invariant in
+    let keys = l.self.kernels.keys in
     let long : length (map (λ k. k.items) keys) ≡ length keys = length-map keys (λ k. k.items) in
     let count = full.0 in
-    let low : c.symbols.x < g.symbols = omega arith in
-    let rows = c.in_ok-kernels.kernels.items in
-    let all : length rows ≡ g.symbols = c.in_ok-kernels.ensures.count in
-    let spread : IsSpread g core (map (λ k. k.items) rows) = subst (λ l. IsSpread g l (map (λ k. k.items) rows)) c.deref.ensures.value c.in_ok-kernels.ensures.spread in
-    let is : c.as_slice-kernel.result.now ≡ advance g c.symbols.x core = c.as_slice-kernel.ensures.value ∙ ap (λ v. v.items) c.index.ensures ∙ sym (get_or-map (λ k. k.items) rows c.symbols.x c.index.result.now [] (omega (arith, low, all))) ∙ spread.1 c.symbols.x low in
-    overflow-row g c.symbols.self.cores.items core c.symbols.self.moves.items c.len-state.result c.symbols.invariant.cores (map (λ k. k.items) keys) c.symbols.self.origins.items c.symbols.row.items c.as_slice-kernel.result.now c.symbols.x
-    c.symbols.invariant.expanding (c.symbols.invariant.next low) is (long ∙ count) full.1
+    let xs = c.as_slice-x-items.result.now in
+    let listed = listed-read g core c.deref.result.now c.in_ok-symbols.symbols.items xs c.deref.ensures.value c.as_slice-x-items.ensures.value c.in_ok-symbols.ensures.listed in
+    let under = c.loop-x-test.true in
+    let x = slice_index xs l.x-index in
+    let next = listed-next g core xs listed l.x-index under in
+    let low : x < g.symbols = next-within g c.sound.ensures core x next in
+    let rows = l.rows.items in
+    let all : length rows ≡ g.symbols = sym (length-map rows (λ k. k.items)) ∙ inv.left.count in
+    let is : c.as_slice-kernel.result.now ≡ advance g x core = c.as_slice-kernel.ensures.value ∙ ap (λ v. v.items) c.index.ensures ∙ sym (get_or-map (λ k. k.items) rows x c.index.result.now [] (omega (arith, low, all))) ∙ inv.left.left l.x-index (omega arith) under in
+    let expanding = subst (Expanding g (map (λ k. k.items) keys) (l.self.cores.items ++ core ∷ []) l.self.moves.items l.self.origins.items l.row.items c.len-state.result) (get_or_default xs l.x-index g.symbols 0 under) inv.expanding in
+    overflow-row g l.self.cores.items core l.self.moves.items c.len-state.result inv.cores (map (λ k. k.items) keys) l.self.origins.items l.row.items c.as_slice-kernel.result.now x expanding next is (long ∙ count) full.1
 
-pub symbols-preserved : goal.symbols-preserved
-symbols-preserved c =
+pub loop-x-preserved : goal.loop-x-preserved
+loop-x-preserved c =
     let g = c.args.g.now in
     let entered = rw c.in-Some.is at c.in_ok-target.ensures.entered in
     let core = c.in_ok-core.core.items in
-    let next = c.next_filled-x-in-symbols in
-    let low : c.symbols.x < g.symbols = omega arith in
-    let rows = c.in_ok-kernels.kernels.items in
-    let all : length rows ≡ g.symbols = c.in_ok-kernels.ensures.count in
-    let spread : IsSpread g core (map (λ k. k.items) rows) = subst (λ l. IsSpread g l (map (λ k. k.items) rows)) c.deref.ensures.value c.in_ok-kernels.ensures.spread in
-    let read : IsSpread g core (map (λ k. k.items) c.deref-in-symbols.result.now) = subst (λ ks. IsSpread g core (map (λ k. k.items) ks)) (sym c.deref-in-symbols.ensures.value) spread in
-    let is : c.as_slice-kernel.result.now ≡ advance g c.symbols.x core = c.as_slice-kernel.ensures.value ∙ ap (λ v. v.items) c.index.ensures ∙ sym (get_or-map (λ k. k.items) rows c.symbols.x c.index.result.now [] (omega (arith, low, all))) ∙ spread.1 c.symbols.x low in
+    let l = c.loop-x in
+    let inv = l.invariant in
+    let keys = l.self.kernels.keys in
+    let xs = c.as_slice-x-items.result.now in
+    let listed = listed-read g core c.deref.result.now c.in_ok-symbols.symbols.items xs c.deref.ensures.value c.as_slice-x-items.ensures.value c.in_ok-symbols.ensures.listed in
+    let under = c.loop-x-test.true in
+    let x = slice_index xs l.x-index in
+    let next = listed-next g core xs listed l.x-index under in
+    let low : x < g.symbols = next-within g c.sound.ensures core x next in
+    let rows = l.rows.items in
+    let all : length rows ≡ g.symbols = sym (length-map rows (λ k. k.items)) ∙ inv.left.count in
+    let is : c.as_slice-kernel.result.now ≡ advance g x core = c.as_slice-kernel.ensures.value ∙ ap (λ v. v.items) c.index.ensures ∙ sym (get_or-map (λ k. k.items) rows x c.index.result.now [] (omega (arith, low, all))) ∙ inv.left.left l.x-index (omega arith) under in
+    let expanding = subst (Expanding g (map (λ k. k.items) keys) (l.self.cores.items ++ core ∷ []) l.self.moves.items l.self.origins.items l.row.items c.len-state.result) (get_or_default xs l.x-index g.symbols 0 under) inv.expanding in
+    let cleared = map-set (λ v. v.items) rows x c.clear.new.self ∙ ap (set (map (λ v. v.items) rows) x) c.clear.ensures.items in
     record {
-      expanding = more-row g c.symbols.self.cores.items core c.symbols.self.moves.items c.len-state.result c.symbols.invariant.cores (map (λ k. k.items) c.symbols.self.kernels.keys) (map (λ k. k.items) c.enter.new.kernels.keys) c.symbols.self.origins.items c.enter.new.origins.items
-          c.symbols.row.items c.push.new.self.items c.as_slice-kernel.result.now c.symbols.x next.result c.in-Some.target c.symbols.invariant.expanding (c.symbols.invariant.next low)
-          (let b = next.ensures.bound in omega (arith, b))
-          (λ X l h. spread-least g core (map (λ k. k.items) c.deref-in-symbols.result.now) (c.symbols.x + 1) next.result next.ensures.within next.ensures.empty read X (omega (arith, l)) h)
-          is entered c.in_ok-push.ensures.items;
-      next = λ l. spread-next g core (map (λ k. k.items) c.deref-in-symbols.result.now) next.result l (next.ensures.filled l) read;
-      cores = c.symbols.invariant.cores;
-      moves = c.symbols.invariant.moves;
-      state = c.symbols.invariant.state;
+      expanding = more-row g l.self.cores.items core l.self.moves.items c.len-state.result inv.cores (map (λ k. k.items) keys) (map (λ k. k.items) c.enter.new.kernels.keys) l.self.origins.items c.enter.new.origins.items
+          l.row.items c.push.new.self.items c.as_slice-kernel.result.now x (get_or xs (l.x-index + 1) g.symbols) c.in-Some.target expanding next
+          (listed-rises g core xs listed c.sound.ensures l.x-index under) (λ X. listed-behind g core xs listed l.x-index X under) is entered c.in_ok-push.ensures.items;
+      left = subst (IsLeft g core xs (l.x-index + 1)) (sym cleared) (left-fewer g core xs listed c.sound.ensures l.x-index (map (λ v. v.items) rows) under inv.left);
+      cores = inv.cores;
+      moves = inv.moves;
+      state = inv.state;
       few = c.in_ok-target.ensures.few;
-      within = next.ensures.within;
-      short = c.symbols.invariant.short;
+      short = inv.short;
     }
 
 pub returns-clause-part : goal.returns-clause-part
 returns-clause-part c =
     let g = c.args.g.now in
-    let inv = c.symbols.invariant in
+    let l = c.loop-x in
+    let inv = l.invariant in
     let core = c.in_ok-core.core.items in
-    let cores : c.push-2.new.self.items ≡ c.symbols.self.cores.items ++ core ∷ [] = c.in_ok-push-2.ensures.items ∙ ap (λ r. c.symbols.self.cores.items ++ r ∷ []) (c.new.ensures ∙ c.shrink_to_fit.ensures.items) in
-    let moves : c.push-3.new.self.items ≡ c.symbols.self.moves.items ++ c.symbols.row.items ∷ [] = c.in_ok-push-3.ensures.items ∙ ap (λ r. c.symbols.self.moves.items ++ r ∷ []) (c.new-2.ensures ∙ c.shrink_to_fit-2.ensures.items) in
+    let xs = c.as_slice-x-items.result.now in
+    let cores : c.push-2.new.self.items ≡ l.self.cores.items ++ core ∷ [] = c.in_ok-push-2.ensures.items ∙ ap (λ r. l.self.cores.items ++ r ∷ []) (c.new.ensures ∙ c.shrink_to_fit.ensures.items) in
+    let moves : c.push-3.new.self.items ≡ l.self.moves.items ++ l.row.items ∷ [] = c.in_ok-push-3.ensures.items ∙ ap (λ r. l.self.moves.items ++ r ∷ []) (c.new-2.ensures ∙ c.shrink_to_fit-2.ensures.items) in
+    let end : get_or xs l.x-index g.symbols ≡ g.symbols = get_or_past xs l.x-index g.symbols c.loop-x-test.false in
     rw (cores, moves)
-    (end-row g c.symbols.self.cores.items core c.symbols.self.moves.items c.len-state.result inv.cores (map (λ k. k.items) c.symbols.self.kernels.keys) c.symbols.self.origins.items c.symbols.row.items c.symbols.x inv.expanding inv.moves
-    (λ X h. let l = next-within g c.sound.ensures core X h in omega (arith, l)))
+    (end-row g l.self.cores.items core l.self.moves.items c.len-state.result inv.cores (map (λ k. k.items) l.self.kernels.keys) l.self.origins.items l.row.items (get_or xs l.x-index g.symbols) inv.expanding inv.moves
+    (λ X h. let l = next-within g c.sound.ensures core X h in omega (arith, l, end)))
+
+pub returns-clause-rows : goal.returns-clause-rows
+returns-clause-rows c = sym (length-map c.loop-x.rows.items (λ k. k.items)) ∙ c.loop-x.invariant.left.count
+
+pub returns-clause-empty : goal.returns-clause-empty
+returns-clause-empty c =
+    let g = c.args.g.now in
+    let core = c.in_ok-core.core.items in
+    let xs = c.as_slice-x-items.result.now in
+    let listed = listed-read g core c.deref.result.now c.in_ok-symbols.symbols.items xs c.deref.ensures.value c.as_slice-x-items.ensures.value c.in_ok-symbols.ensures.listed in
+    left-none g core xs listed c.sound.ensures c.loop-x.x-index (map (λ k. k.items) c.loop-x.rows.items) c.loop-x-test.false c.loop-x.invariant.left
