@@ -69,7 +69,6 @@ fn slot_text(
 {
     let mut text = Vec::new(alloc);
     write_value(
-        alloc,
         &mut text,
         terms.spec(),
         p,

@@ -12,7 +12,6 @@ use sg_kinds::row::Row;
 use sg_kinds::spec::{Scheme, Spec};
 use sg_pool::entry::PoolEntry;
 use sg_pool::pool::Pool;
-use std::alloc::Global;
 
 // the scheme of a number among those of an operator
 fn scheme_in(schemes: &Row<Scheme>, number: u32) -> Option<&Scheme>
@@ -87,7 +86,6 @@ pub fn write_text(out: &mut Vec<u8>, spec: &Spec, p: PhylumId, text: &[u8]) -> R
 
 /// Writes the value of a number in the pool as a value of a phylum is shown.
 pub fn write_value(
-    alloc: Global,
     out: &mut Vec<u8>,
     spec: &Spec,
     p: PhylumId,

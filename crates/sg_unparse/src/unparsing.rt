@@ -116,7 +116,6 @@ fn type_at(spec: &Spec, op: OpId, o: Occurrence) -> PhylumId
 /// The terms that are shown, and the node in whose place a text is typed, if one is.
 #[derive(Clone, Copy)]
 pub struct Shown<'a> {
-    pub alloc: Global,
     pub terms: &'a Terms,
     pub captured: Option<NodeId>,
     pub text: &'a [u8],
@@ -155,14 +154,7 @@ fn value(
         (plain_text u (value_text shown.now.terms.now.spec p (value_at shown.now.terms.now.pool id)))) }
 {
     room.clear();
-    write_value(
-        shown.alloc,
-        room,
-        shown.terms.spec(),
-        p,
-        shown.terms.pool(),
-        id,
-    )?;
+    write_value(room, shown.terms.spec(), p, shown.terms.pool(), id)?;
     w.plain(owner, room.as_slice())?;
     Ok(())
 }
@@ -426,7 +418,6 @@ pub fn cells(
 {
     terms.facts();
     let shown = Shown {
-        alloc,
         terms,
         captured,
         text,
