@@ -1,17 +1,13 @@
--- Lemmas on left corners, and on what a kernel opens.
-use Rattle.std.proofs.Common.{◌≡◌, ℕ, zero, suc, ◌+◌, ◌<◌, ◌≤◌, ◌⊎◌, inl, inr, Bool, List, [], ◌∷◌, ◌++◌, length, get_or, take, refl, sym, ap, ◌∙◌, subst, arith, Some, None}
-use Rattle.std.specs.Prelude.{◌↔◌, slice_get, Contains}
+-- Lemmas on left corners.
+use Rattle.std.proofs.Common.{◌≡◌, ℕ, zero, suc, ◌+◌, ◌<◌, ◌≤◌, ◌⊎◌, inl, inr, Bool, List, [], ◌∷◌, length, refl, sym, ap, ◌∙◌, subst, arith, Some, None}
+use Rattle.std.specs.Prelude.{◌↔◌, slice_get}
 use Rattle.std.proofs.lemmas.Bool.{cases_lt}
-use Rattle.std.proofs.lemmas.List.{take_more}
-use Rattle.std.proofs.lemmas.List.Elements.{Contains-push, Contains-push_cases, Contains-append_left}
 use Rattle.std.proofs.lemmas.Option.{slice_get_within, same_Some, none-some}
 use Rattle.sg_grammar.specs.declared.grammar.Production.{Production}
-use Rattle.sg_grammar.specs.Grammar.{Grammar}
 use Rattle.sg_sets.specs.Members.{Has}
 use Rattle.sg_sets.specs.Rows.{Holds, row_of}
 use Rattle.sg_sets.specs.Paths.{Leads, Path, IsTransitive}
-use Rattle.sg_lalr.specs.Items.{Item, symbol_of}
-use Rattle.sg_lalr.specs.Closure.{HasLeft, LeadsTo, Corner, same, further, Opens, OpensAt}
+use Rattle.sg_lalr.specs.Closure.{HasLeft, LeadsTo, Corner, same, further, Opens}
 
 -- row a has gained the numbers below n that pass
 abbrev pub Gained : List (List Bool) → List (List Bool) → ℕ → ℕ → (ℕ → Type 0) → Type 0
@@ -132,47 +128,6 @@ module _ (rules : List Production) (start closed : List (List Bool)) (leads : (x
   corner-holds _ _ (further a b c X r corner is first left) =
       transitive a b c (corner-holds a b corner) (contains b c ((leads b c).1 (slice_get_within rules b r is, inr (r, X, is, first, left))))
 
--- what one item more opens
-abbrev pub OpenedBy : Grammar → List Bool → List Bool → List Item → Type 0
-OpenedBy g old now items = (q : ℕ) → Has now q ↔ (Has old q ⊎ ((i : Item) × Contains items i × OpensAt g i q))
-
-pub opened-more : (g : Grammar) (old now next : List Bool) (kernel : List Item) (n X : ℕ) (i : Item) → n < length kernel → i ≡ get_or kernel n i → symbol_of g i ≡ Some X → OpenedBy g old now (take n kernel) → ((q : ℕ) → Has next q ↔ (Has now q ⊎ Opens g.rules X q)) → OpenedBy g old next (take (n + 1) kernel)
-opened-more g old now next kernel n X i low is reads o gains q =
-    let more : take (n + 1) kernel ≡ take n kernel ++ i ∷ [] = take_more kernel n i low ∙ ap (λ j. take n kernel ++ j ∷ []) (sym is) in (
-      λ h. elim ((gains q).0 h) [
-        | inl was ↦ elim ((o q).0 was) [
-          | inl older ↦ inl older
-          | inr by ↦ inr (by.0, subst (λ l. Contains l by.0) (sym more) (Contains-append_left (take n kernel) (i ∷ []) by.0 by.1), by.2)
-        ]
-        | inr opens ↦ inr (i, subst (λ l. Contains l i) (sym more) (Contains-push (take n kernel) i), (X, reads, opens))
-      ],
-      λ h. elim h [
-        | inl older ↦ (gains q).1 (inl ((o q).1 (inl older)))
-        | inr by ↦ elim (Contains-push_cases (take n kernel) i by.0 (subst (λ l. Contains l by.0) more by.1)) [
-          | inl before ↦ (gains q).1 (inl ((o q).1 (inr (by.0, before, by.2))))
-          | inr itself ↦
-              let symbol : by.2.0 ≡ X = same_Some by.2.0 X (sym by.2.1 ∙ ap (symbol_of g) (sym itself) ∙ reads) in
-              (gains q).1 (inr (subst (λ Y. Opens g.rules Y q) symbol by.2.2))
-        ]
-      ],
-    )
-
-pub opened-same : (g : Grammar) (old now : List Bool) (kernel : List Item) (n : ℕ) (i : Item) → n < length kernel → i ≡ get_or kernel n i → symbol_of g i ≡ None → OpenedBy g old now (take n kernel) → OpenedBy g old now (take (n + 1) kernel)
-opened-same g old now kernel n i low is reads o q =
-    let more : take (n + 1) kernel ≡ take n kernel ++ i ∷ [] = take_more kernel n i low ∙ ap (λ j. take n kernel ++ j ∷ []) (sym is) in (
-      λ h. elim ((o q).0 h) [
-        | inl older ↦ inl older
-        | inr by ↦ inr (by.0, subst (λ l. Contains l by.0) (sym more) (Contains-append_left (take n kernel) (i ∷ []) by.0 by.1), by.2)
-      ],
-      λ h. elim h [
-        | inl older ↦ (o q).1 (inl older)
-        | inr by ↦ elim (Contains-push_cases (take n kernel) i by.0 (subst (λ l. Contains l by.0) more by.1)) [
-          | inl before ↦ (o q).1 (inr (by.0, before, by.2))
-          | inr itself ↦ absurd (none-some by.2.0 (sym reads ∙ ap (symbol_of g) itself ∙ by.2.1))
-        ]
-      ],
-    )
-
 -- each symbol's row has what the first n productions of it open
 abbrev pub Opening : List Production → List (List Bool) → ℕ → Type 0
 Opening rules rows n = (x q : ℕ) → Holds rows x q ↔ ((a : ℕ) × (a < n) × HasLeft rules x a × Corner rules a q)
@@ -197,11 +152,4 @@ pub opening-all : (rules : List Production) (rows : List (List Bool)) (n : ℕ) 
 opening-all rules rows n all o x q = (
   λ h. (let p = (o x q).0 h in (p.0, p.2, p.3)),
   λ h. (o x q).1 (h.0, (let l = HasLeft-within rules x h.0 h.1 in omega (arith, l, all)), h.1, h.2),
-)
-
--- a set that gains the row of a symbol gains what it opens
-pub opened-row : (rules : List Production) (rows : List (List Bool)) (old now row : List Bool) (X : ℕ) → row ≡ row_of rows X → ((x q : ℕ) → Holds rows x q ↔ Opens rules x q) → ((q : ℕ) → Has now q ↔ (Has old q ⊎ Has row q)) → (q : ℕ) → Has now q ↔ (Has old q ⊎ Opens rules X q)
-opened-row rules rows old now row X is exact joins q = (
-  λ h. elim ((joins q).0 h) [ inl was ↦ inl was | inr new ↦ inr ((exact X q).0 (subst (λ s. Has s q) is new)) ],
-  λ h. elim h [ inl was ↦ (joins q).1 (inl was) | inr new ↦ (joins q).1 (inr (subst (λ s. Has s q) (sym is) ((exact X q).1 new))) ],
 )

@@ -2,6 +2,7 @@ pub mod LeastLemmas
 pub mod ProductiveLemmas
 pub mod CornerLemmas
 pub mod RisingLemmas
+pub mod OpeningLemmas
 pub mod MergeLemmas
 pub mod ClosureLemmas
 pub mod MoveLemmas

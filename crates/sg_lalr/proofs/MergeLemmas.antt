@@ -1,195 +1,166 @@
 -- Lemmas on the merging of a kernel with the productions that it opens.
-use Rattle.std.proofs.Common.{◌≡◌, ℕ, zero, suc, ◌+◌, ◌<◌, ◌≤◌, ◌⊎◌, inl, inr, Bool, List, [], ◌∷◌, ◌++◌, length, get_or, take, drop, refl, sym, ap, ◌∙◌, subst, arith}
+use Rattle.std.proofs.Common.{◌≡◌, ℕ, zero, suc, ◌+◌, ◌<◌, ◌≤◌, ◌⊎◌, inl, inr, List, [], ◌∷◌, ◌++◌, length, get_or, take, drop, refl, sym, ap, ◌∙◌, subst, arith}
 use Rattle.std.specs.Prelude.{◌↔◌, Contains, All, AllPairs}
 use Rattle.std.proofs.lemmas.Bool.{cases_lt}
 use Rattle.std.proofs.lemmas.List.{drop_more, take_more, take-append-drop, drop_all}
 use Rattle.std.proofs.lemmas.List.Elements.{Contains-push, Contains-push_cases, Contains-append_left, Contains-append_right, Contains-append_cases, All-contains}
-use Rattle.sg_sets.specs.Members.{Has}
 use Rattle.sg_lalr.specs.Items.{Item, item, Before, IsRising}
 use Rattle.sg_lalr.specs.Closure.{IsOpened}
 use Rattle.sg_lalr.proofs.RisingLemmas.{Contains-front, Contains-behind, Contains-cons, Contains-nil, pairs-append, pairs-cons, pairs-nil, pairs-drop, pairs-head}
 
--- how far a merge has come: productions below n are opened, the kernel is kept up to a place, and what is left of it begins with production m
-pub record Merged (set : List Bool) (kernel items : List Item) (at n m : ℕ) : Type 0 where
+-- how far a merge has come: the first k productions are opened, the kernel is kept up to a place, and what is left of both comes later
+pub record Merged (opened : List ℕ) (kernel items : List Item) (at k : ℕ) : Type 0 where
   pub rising : IsRising items
   pub before : (i j : Item) → Contains items i → Contains (drop at kernel) j → Before i j
-  pub has : (i : Item) → Contains items i ↔ (Contains (take at kernel) i ⊎ IsOpened n set i)
-  pub below : (i : Item) → Contains items i → i.production < n
-  pub rest : (j : Item) → Contains (drop at kernel) j → m ≤ j.production
+  pub has : (i : Item) → Contains items i ↔ (Contains (take at kernel) i ⊎ IsOpened (take k opened) i)
+  pub below : (i : Item) (q : ℕ) → Contains items i → Contains (drop k opened) q → i.production < q
   pub within : at ≤ length kernel
 
-Contains-dropped : (n : ℕ) (xs : List Item) (i : Item) → Contains (drop n xs) i → Contains xs i
-Contains-dropped zero xs i c = c
-Contains-dropped (suc n) [] i c = c
-Contains-dropped (suc n) (x ∷ xs) i c = Contains-behind x xs i (Contains-dropped n xs i c)
+Contains-dropped : {X : Type 0} (n : ℕ) (xs : List X) (x : X) → Contains (drop n xs) x → Contains xs x
+Contains-dropped zero xs x c = c
+Contains-dropped (suc n) [] x c = c
+Contains-dropped (suc n) (y ∷ xs) x c = Contains-behind y xs x (Contains-dropped n xs x c)
 
-pub merged-none : (set : List Bool) (kernel : List Item) → Merged set kernel [] 0 0 0
-merged-none set kernel = record {
+pub merged-none : (opened : List ℕ) (kernel : List Item) → Merged opened kernel [] 0 0
+merged-none opened kernel = record {
   rising = pairs-nil Before;
   before = λ i j c. absurd (Contains-nil i c);
-  has = λ i. (λ c. absurd (Contains-nil i c), λ h. elim h [ inl c ↦ absurd (Contains-nil i c) | inr o ↦ absurd (let l = o.0 in omega (arith, l)) ]);
-  below = λ i c. absurd (Contains-nil i c);
-  rest = λ j c. omega arith;
+  has = λ i. (λ c. absurd (Contains-nil i c), λ h. elim h [ inl c ↦ absurd (Contains-nil i c) | inr o ↦ absurd (Contains-nil i.production o.1) ]);
+  below = λ i q c. absurd (Contains-nil i c);
   within = omega arith;
 }
 
-opened-next : (set : List Bool) (n : ℕ) (i : Item) → IsOpened n set i → IsOpened (n + 1) set i
-opened-next set n i o = let l = o.0 in (omega (arith, l), o.1, o.2)
+-- what is left of a list at a place, and what comes before it
+module _ {X : Type 0} (xs : List X) (at : ℕ) (x : X) (low : at < length xs) (is : x ≡ get_or xs at x) where
+  split : drop at xs ≡ x ∷ drop (at + 1) xs
+  split = drop_more xs at x low ∙ ap (λ y. y ∷ drop (at + 1) xs) (sym is)
 
-opened-cases : (set : List Bool) (n : ℕ) (i : Item) → IsOpened (n + 1) set i → (i ≡ item n 0) ⊎ IsOpened n set i
-opened-cases set n i o = elim (cases_lt i.production n) [
-  | inl low ↦ inr (low, o.1, o.2)
-  | inr high ↦
-      let l = o.0 in
-      let p : i.production ≡ n = omega (arith, l, high) in
-      inl (λ k. record { production = p k; dot = o.1 k })
-]
+  more : take (at + 1) xs ≡ take at xs ++ x ∷ []
+  more = take_more xs at x low ∙ ap (λ y. take at xs ++ y ∷ []) (sym is)
 
-pub merged-opened : (set : List Bool) (kernel items : List Item) (at n rules : ℕ) → n < rules → All (λ (i : Item). i.production < rules → 0 < i.dot) kernel → Has set n → Merged set kernel items at n n → Merged set kernel (items ++ item n 0 ∷ []) at (n + 1) n
-merged-opened set kernel items at n rules low dots has m = record {
-  rising = pairs-append Before items (item n 0 ∷ []) m.rising (pairs-cons Before (item n 0) [] (λ y c. absurd (Contains-nil y c)) (pairs-nil Before)) (λ x y c d. elim (Contains-cons (item n 0) [] y d) [ inl e ↦ subst (Before x) e (inl (m.below x c)) | inr none ↦ absurd (Contains-nil y none) ]);
-  before = λ i j c d. elim (Contains-push_cases items (item n 0) i c) [
-    | inl old ↦ m.before i j old d
-    | inr e ↦ subst (λ x. Before x j) e (ahead j d)
-  ];
-  has = λ i. (
-    λ c. elim (Contains-push_cases items (item n 0) i c) [
-      | inl old ↦ elim ((m.has i).0 old) [ inl k ↦ inl k | inr o ↦ inr (opened-next set n i o) ]
-      | inr e ↦ inr (subst (IsOpened (n + 1) set) e (omega arith, refl, has))
-    ],
-    λ h. elim h [
-      | inl k ↦ Contains-append_left items (item n 0 ∷ []) i ((m.has i).1 (inl k))
-      | inr o ↦ elim (opened-cases set n i o) [
-        | inl e ↦ subst (Contains (items ++ item n 0 ∷ [])) (sym e) (Contains-push items (item n 0))
-        | inr old ↦ Contains-append_left items (item n 0 ∷ []) i ((m.has i).1 (inr old))
-      ]
-    ],
-  );
-  below = λ i c. elim (Contains-push_cases items (item n 0) i c) [
-    | inl old ↦ (let l = m.below i old in omega (arith, l))
-    | inr e ↦ subst (λ (x : Item). x.production < n + 1) e (omega arith)
-  ];
-  rest = m.rest;
-  within = m.within;
-}
-  where
-    ahead : (j : Item) → Contains (drop at kernel) j → Before (item n 0) j
-    ahead = λ j d. elim (cases_lt n j.production) [
-      | inl less ↦ inl less
-      | inr more ↦
-          let l = m.rest j d in
-          let p : n ≡ j.production = omega (arith, l, more) in
-          inr (p, All-contains (λ (i : Item). i.production < rules → 0 < i.dot) kernel j dots (Contains-dropped at kernel j d) (omega (arith, p, low)))
-    ]
+  front : Contains (drop at xs) x
+  front = subst (λ l. Contains l x) (sym split) (Contains-front x (drop (at + 1) xs))
 
-pub merged-passed : (set : List Bool) (kernel items : List Item) (at n : ℕ) → (Has set n → ⊥) → Merged set kernel items at n n → Merged set kernel items at (n + 1) n
-merged-passed set kernel items at n none m = record {
-  rising = m.rising;
-  before = m.before;
-  has = λ i. (
-    λ c. elim ((m.has i).0 c) [ inl k ↦ inl k | inr o ↦ inr (opened-next set n i o) ],
-    λ h. elim h [
-      | inl k ↦ (m.has i).1 (inl k)
-      | inr o ↦ elim (opened-cases set n i o) [
-        | inl e ↦ absurd (none (subst (λ (x : Item). Has set x.production) e o.2))
-        | inr old ↦ (m.has i).1 (inr old)
-      ]
-    ],
-  );
-  below = λ i c. let l = m.below i c in omega (arith, l);
-  rest = m.rest;
-  within = m.within;
-}
+  later : (y : X) → Contains (drop (at + 1) xs) y → Contains (drop at xs) y
+  later y d = subst (λ l. Contains l y) (sym split) (Contains-behind x (drop (at + 1) xs) y d)
 
-split-at : (kernel : List Item) (at : ℕ) (x : Item) → at < length kernel → x ≡ get_or kernel at x → drop at kernel ≡ x ∷ drop (at + 1) kernel
-split-at kernel at x low is = drop_more kernel at x low ∙ ap (λ y. y ∷ drop (at + 1) kernel) (sym is)
+  first-or : (y : X) → Contains (drop at xs) y → (x ≡ y) ⊎ Contains (drop (at + 1) xs) y
+  first-or y d = Contains-cons x (drop (at + 1) xs) y (subst (λ l. Contains l y) split d)
 
-pub merged-kept : (set : List Bool) (kernel items : List Item) (at n : ℕ) (x : Item) → at < length kernel → x ≡ get_or kernel at x → x.production ≡ n → IsRising kernel → Merged set kernel items at (n + 1) n → Merged set kernel (items ++ x ∷ []) (at + 1) (n + 1) n
-merged-kept set kernel items at n x low is here up m = record {
-  rising = pairs-append Before items (x ∷ []) m.rising (pairs-cons Before x [] (λ y c. absurd (Contains-nil y c)) (pairs-nil Before)) (λ a y c d. elim (Contains-cons x [] y d) [ inl e ↦ subst (Before a) e (m.before a x c front) | inr none ↦ absurd (Contains-nil y none) ]);
+  above : (R : X → X → Type 0) → AllPairs R xs → (y : X) → Contains (drop (at + 1) xs) y → R x y
+  above R up = pairs-head R x (drop (at + 1) xs) (subst (AllPairs R) split (pairs-drop R at xs up))
+
+  taken-old : (y : X) → Contains (take at xs) y → Contains (take (at + 1) xs) y
+  taken-old y c = subst (λ l. Contains l y) (sym more) (Contains-append_left (take at xs) (x ∷ []) y c)
+
+  taken-new : Contains (take (at + 1) xs) x
+  taken-new = subst (λ l. Contains l x) (sym more) (Contains-push (take at xs) x)
+
+  taken-cases : (y : X) → Contains (take (at + 1) xs) y → Contains (take at xs) y ⊎ (x ≡ y)
+  taken-cases y c = Contains-push_cases (take at xs) x y (subst (λ l. Contains l y) more c)
+
+pushed-rising : (items : List Item) (x : Item) → IsRising items → ((i : Item) → Contains items i → Before i x) → IsRising (items ++ x ∷ [])
+pushed-rising items x up last = pairs-append Before items (x ∷ []) up (pairs-cons Before x [] (λ y c. absurd (Contains-nil y c)) (pairs-nil Before)) (λ a y c d. elim (Contains-cons x [] y d) [ inl e ↦ subst (Before a) e (last a c) | inr none ↦ absurd (Contains-nil y none) ])
+
+-- an item of the kernel before the next production
+pub merged-kept : (opened : List ℕ) (kernel items : List Item) (at k : ℕ) (x : Item) (p : ℕ) → at < length kernel → x ≡ get_or kernel at x → k < length opened → p ≡ get_or opened k p → x.production < p → AllPairs ◌<◌ opened → IsRising kernel → Merged opened kernel items at k → Merged opened kernel (items ++ x ∷ []) (at + 1) k
+merged-kept opened kernel items at k x p low is here next first apart up m = record {
+  rising = pushed-rising items x m.rising (λ i c. m.before i x c (front kernel at x low is));
   before = λ i j c d. elim (Contains-push_cases items x i c) [
-    | inl old ↦ m.before i j old (later j d)
-    | inr e ↦ subst (λ y. Before y j) e (pairs-head Before x (drop (at + 1) kernel) (subst (AllPairs Before) split (pairs-drop Before at kernel up)) j d)
+    | inl old ↦ m.before i j old (later kernel at x low is j d)
+    | inr e ↦ subst (λ y. Before y j) e (above kernel at x low is Before up j d)
   ];
   has = λ i. (
     λ c. elim (Contains-push_cases items x i c) [
-      | inl old ↦ elim ((m.has i).0 old) [ inl k ↦ inl (subst (λ l. Contains l i) (sym more) (Contains-append_left (take at kernel) (x ∷ []) i k)) | inr o ↦ inr o ]
-      | inr e ↦ inl (subst (Contains (take (at + 1) kernel)) e (subst (λ l. Contains l x) (sym more) (Contains-push (take at kernel) x)))
+      | inl old ↦ elim ((m.has i).0 old) [ inl t ↦ inl (taken-old kernel at x low is i t) | inr o ↦ inr o ]
+      | inr e ↦ inl (subst (Contains (take (at + 1) kernel)) e (taken-new kernel at x low is))
     ],
     λ h. elim h [
-      | inl k ↦ elim (Contains-push_cases (take at kernel) x i (subst (λ l. Contains l i) more k)) [
+      | inl t ↦ elim (taken-cases kernel at x low is i t) [
         | inl old ↦ Contains-append_left items (x ∷ []) i ((m.has i).1 (inl old))
         | inr e ↦ subst (Contains (items ++ x ∷ [])) e (Contains-push items x)
       ]
       | inr o ↦ Contains-append_left items (x ∷ []) i ((m.has i).1 (inr o))
     ],
   );
-  below = λ i c. elim (Contains-push_cases items x i c) [
-    | inl old ↦ m.below i old
-    | inr e ↦ subst (λ (y : Item). y.production < n + 1) e (omega (arith, here))
+  below = λ i q c d. elim (Contains-push_cases items x i c) [
+    | inl old ↦ m.below i q old d
+    | inr e ↦ subst (λ (y : Item). y.production < q) e (elim (first-or opened k p here next q d) [
+      | inl same ↦ subst (λ n. x.production < n) same first
+      | inr behind ↦ (let l = above opened k p here next ◌<◌ apart q behind in omega (arith, l, first))
+    ])
   ];
-  rest = λ j d. m.rest j (later j d);
   within = omega (arith, low);
 }
-  where
-    split : drop at kernel ≡ x ∷ drop (at + 1) kernel
-    split = split-at kernel at x low is
 
-    more : take (at + 1) kernel ≡ take at kernel ++ x ∷ []
-    more = take_more kernel at x low ∙ ap (λ y. take at kernel ++ y ∷ []) (sym is)
+-- what is left of the kernel is of the next production or later ones
+pub rest-from : (kernel : List Item) (at : ℕ) (x : Item) (p : ℕ) → at < length kernel → x ≡ get_or kernel at x → p ≤ x.production → IsRising kernel → (j : Item) → Contains (drop at kernel) j → p ≤ j.production
+rest-from kernel at x p low is high up j d = elim (first-or kernel at x low is j d) [
+  | inl e ↦ subst (λ (y : Item). p ≤ y.production) e high
+  | inr r ↦ elim (above kernel at x low is Before up j r) [ inl l ↦ omega (arith, l, high) | inr l ↦ (let e = l.0 in omega (arith, e, high)) ]
+]
 
-    front : Contains (drop at kernel) x
-    front = subst (λ l. Contains l x) (sym split) (Contains-front x (drop (at + 1) kernel))
+pub rest-none : (kernel : List Item) (at p : ℕ) → length kernel ≤ at → (j : Item) → Contains (drop at kernel) j → p ≤ j.production
+rest-none kernel at p high j d = absurd (Contains-nil j (subst (λ l. Contains l j) (drop_all at kernel high) d))
 
-    later : (j : Item) → Contains (drop (at + 1) kernel) j → Contains (drop at kernel) j
-    later = λ j d. subst (λ l. Contains l j) (sym split) (Contains-behind x (drop (at + 1) kernel) j d)
-
--- the next of the kernel is of a later production
-pub merged-next : (set : List Bool) (kernel items : List Item) (at n : ℕ) (x : Item) → at < length kernel → x ≡ get_or kernel at x → (x.production ≡ n → ⊥) → IsRising kernel → Merged set kernel items at (n + 1) n → Merged set kernel items at (n + 1) (n + 1)
-merged-next set kernel items at n x low is other up m = record {
-  rising = m.rising;
-  before = m.before;
-  has = m.has;
-  below = m.below;
-  within = m.within;
-  rest = λ j d. elim (Contains-cons x (drop (at + 1) kernel) j (subst (λ l. Contains l j) split d)) [
-    | inl e ↦ subst (λ (y : Item). n + 1 ≤ y.production) e above
-    | inr r ↦ elim (pairs-head Before x (drop (at + 1) kernel) (subst (AllPairs Before) split (pairs-drop Before at kernel up)) j r) [ inl l ↦ omega (arith, l, above) | inr l ↦ (let e = l.0 in omega (arith, e, above)) ]
+pub merged-opened : (opened : List ℕ) (kernel items : List Item) (at k p : ℕ) → k < length opened → p ≡ get_or opened k p → AllPairs ◌<◌ opened → All (λ (i : Item). Contains opened i.production → 0 < i.dot) kernel → ((j : Item) → Contains (drop at kernel) j → p ≤ j.production)
+    → Merged opened kernel items at k → Merged opened kernel (items ++ item p 0 ∷ []) at (k + 1)
+merged-opened opened kernel items at k p here next apart dots rest m = record {
+  rising = pushed-rising items (item p 0) m.rising (λ i c. inl (m.below i p c (front opened k p here next)));
+  before = λ i j c d. elim (Contains-push_cases items (item p 0) i c) [
+    | inl old ↦ m.before i j old d
+    | inr e ↦ subst (λ x. Before x j) e (ahead j d)
   ];
+  has = λ i. (
+    λ c. elim (Contains-push_cases items (item p 0) i c) [
+      | inl old ↦ elim ((m.has i).0 old) [ inl t ↦ inl t | inr o ↦ inr (o.0, taken-old opened k p here next i.production o.1) ]
+      | inr e ↦ inr (subst (IsOpened (take (k + 1) opened)) e (refl, taken-new opened k p here next))
+    ],
+    λ h. elim h [
+      | inl t ↦ Contains-append_left items (item p 0 ∷ []) i ((m.has i).1 (inl t))
+      | inr o ↦ elim (taken-cases opened k p here next i.production o.1) [
+        | inl old ↦ Contains-append_left items (item p 0 ∷ []) i ((m.has i).1 (inr (o.0, old)))
+        | inr e ↦
+            let begins : item p 0 ≡ i = λ n. record { production = e n; dot = sym o.0 n } in
+            subst (Contains (items ++ item p 0 ∷ [])) begins (Contains-push items (item p 0))
+      ]
+    ],
+  );
+  below = λ i q c d. elim (Contains-push_cases items (item p 0) i c) [
+    | inl old ↦ m.below i q old (later opened k p here next q d)
+    | inr e ↦ subst (λ (x : Item). x.production < q) e (above opened k p here next ◌<◌ apart q d)
+  ];
+  within = m.within;
 }
   where
-    split : drop at kernel ≡ x ∷ drop (at + 1) kernel
-    split = split-at kernel at x low is
+    ahead : (j : Item) → Contains (drop at kernel) j → Before (item p 0) j
+    ahead = λ j d. elim (cases_lt p j.production) [
+      | inl less ↦ inl less
+      | inr near ↦
+          let l = rest j d in
+          let same : p ≡ j.production = omega (arith, l, near) in
+          let there = Contains-dropped k opened p (front opened k p here next) in
+          inr (same, All-contains (λ (i : Item). Contains opened i.production → 0 < i.dot) kernel j dots (Contains-dropped at kernel j d) (subst (Contains opened) same there))
+    ]
 
-    above : n + 1 ≤ x.production
-    above = let l = m.rest x (subst (λ l. Contains l x) (sym split) (Contains-front x (drop (at + 1) kernel))) in elim (cases_lt n x.production) [ inl a ↦ omega (arith, a) | inr b ↦ absurd (other (omega (arith, l, b))) ]
+pub merged-rising : (opened : List ℕ) (kernel items : List Item) (at k : ℕ) → IsRising kernel → Merged opened kernel items at k → IsRising (items ++ drop at kernel)
+merged-rising opened kernel items at k up m = pairs-append Before items (drop at kernel) m.rising (pairs-drop Before at kernel up) m.before
 
--- nothing of the kernel is left
-pub merged-done : (set : List Bool) (kernel items : List Item) (at n : ℕ) → length kernel ≤ at → Merged set kernel items at (n + 1) n → Merged set kernel items at (n + 1) (n + 1)
-merged-done set kernel items at n high m = record {
-  rising = m.rising;
-  before = m.before;
-  has = m.has;
-  below = m.below;
-  within = m.within;
-  rest = λ j d. absurd (Contains-nil j (subst (λ l. Contains l j) (drop_all at kernel high) d));
-}
-
-pub merged-rising : (set : List Bool) (kernel items : List Item) (at n m : ℕ) → IsRising kernel → Merged set kernel items at n m → IsRising (items ++ drop at kernel)
-merged-rising set kernel items at n m up g = pairs-append Before items (drop at kernel) g.rising (pairs-drop Before at kernel up) g.before
-
-pub merged-has : (set : List Bool) (kernel items : List Item) (at n m : ℕ) → Merged set kernel items at n m → (i : Item) → Contains (items ++ drop at kernel) i ↔ (Contains kernel i ⊎ IsOpened n set i)
-merged-has set kernel items at n m g i = (
+pub merged-has : (opened : List ℕ) (kernel items : List Item) (at k : ℕ) → take k opened ≡ opened → Merged opened kernel items at k → (i : Item) → Contains (items ++ drop at kernel) i ↔ (Contains kernel i ⊎ IsOpened opened i)
+merged-has opened kernel items at k all m i = (
   λ c. elim (Contains-append_cases items (drop at kernel) i c) [
-    | inl a ↦ elim ((g.has i).0 a) [ inl k ↦ inl (whole (Contains-append_left (take at kernel) (drop at kernel) i k)) | inr o ↦ inr o ]
+    | inl a ↦ elim ((m.has i).0 a) [
+      | inl t ↦ inl (whole (Contains-append_left (take at kernel) (drop at kernel) i t))
+      | inr o ↦ inr (o.0, subst (λ l. Contains l i.production) all o.1)
+    ]
     | inr b ↦ inl (whole (Contains-append_right (take at kernel) (drop at kernel) i b))
   ],
   λ h. elim h [
-    | inl k ↦ elim (Contains-append_cases (take at kernel) (drop at kernel) i (subst (λ l. Contains l i) (sym (take-append-drop at kernel)) k)) [
-      | inl a ↦ Contains-append_left items (drop at kernel) i ((g.has i).1 (inl a))
+    | inl t ↦ elim (Contains-append_cases (take at kernel) (drop at kernel) i (subst (λ l. Contains l i) (sym (take-append-drop at kernel)) t)) [
+      | inl a ↦ Contains-append_left items (drop at kernel) i ((m.has i).1 (inl a))
       | inr b ↦ Contains-append_right items (drop at kernel) i b
     ]
-    | inr o ↦ Contains-append_left items (drop at kernel) i ((g.has i).1 (inr o))
+    | inr o ↦ Contains-append_left items (drop at kernel) i ((m.has i).1 (inr (o.0, subst (λ l. Contains l i.production) (sym all) o.1)))
   ],
 )
   where

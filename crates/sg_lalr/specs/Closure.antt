@@ -1,5 +1,5 @@
 -- The closure of a list of items: with an item it has the beginnings of the productions of the symbol behind its dot.
-use Rattle.std.specs.Prelude.{◌≡◌, ◌↔◌, ℕ, zero, ◌+◌, ◌<◌, ◌⊎◌, Bool, List, Some, slice_get, length, All, Contains}
+use Rattle.std.specs.Prelude.{◌≡◌, ◌≢◌, ◌↔◌, ℕ, zero, ◌+◌, ◌<◌, ◌⊎◌, Bool, List, [], Some, slice_get, slice_index_or, length, All, AllPairs, Contains}
 use Rattle.sg_grammar.specs.declared.grammar.Production.{Production}
 use Rattle.sg_grammar.specs.Grammar.{Grammar, symbol_at}
 use Rattle.sg_sets.specs.Members.{Has}
@@ -41,12 +41,22 @@ Opens rules X q = (a : ℕ) × HasLeft rules X a × Corner rules a q
 abbrev pub OpensAt : Grammar → Item → ℕ → Type 0
 OpensAt g i q = (X : ℕ) × (symbol_of g i ≡ Some X) × Opens g.rules X q
 
+-- for each symbol the productions that begin because of it
+pub record AreOpenings (g : Grammar) (lists : List (List ℕ)) : Type 0 where
+  pub count : length lists ≡ g.symbols
+  pub exact : (X q : ℕ) → Contains (slice_index_or lists X []) q ↔ Opens g.rules X q
+
+-- the numbers of the set, each once
+pub record AreOpened (there : List Bool) (opened : List ℕ) : Type 0 where
+  pub apart : AllPairs ◌≢◌ opened
+  pub exact : (q : ℕ) → Contains opened q ↔ Has there q
+
 -- a list from which a state is made: its items begin no production but those of the entries
 pub record IsKernel (g : Grammar) (kernel : List Item) : Type 0 where
   pub rising : IsRising kernel
   pub within : All (InRange g) kernel
   pub dots : All (λ (i : Item). i.production < length g.rules → 0 < i.dot) kernel
 
--- the beginning of a production of the set
-abbrev pub IsOpened : ℕ → List Bool → Item → Type 0
-IsOpened rules set i = (i.production < rules) × (i.dot ≡ 0) × Has set i.production
+-- the beginning of one of these productions
+abbrev pub IsOpened : List ℕ → Item → Type 0
+IsOpened productions i = (i.dot ≡ 0) × Contains productions i.production

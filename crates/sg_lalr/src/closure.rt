@@ -1,9 +1,9 @@
 //! Closures of lists of items.
-ghost use Rattle.std.specs.Prelude.{◌≡◌, ℕ, ◌<◌, ◌↔◌, ◌⊎◌, length, slice_get, All, IfOk, Contains};
+ghost use Rattle.std.specs.Prelude.{◌≡◌, ◌≢◌, ◌^◌, ℕ, ◌<◌, ◌≤◌, ◌↔◌, ◌⊎◌, length, map, slice_get, All, AllPairs, IfOk, OnOk, Contains};
 ghost use Rattle.sg_sets.specs.Members.{Has};
 ghost use Rattle.sg_sets.specs.Rows.{Holds};
 ghost use Rattle.sg_lalr.specs.Items.{Item, IsRising};
-ghost use Rattle.sg_lalr.specs.Closure.{HasLeft, LeadsTo, Corner, Opens, OpensAt, InRange, IsOpened, IsKernel, IsClosure};
+ghost use Rattle.sg_lalr.specs.Closure.{HasLeft, LeadsTo, Corner, Opens, OpensAt, AreOpenings, AreOpened, InRange, IsOpened, IsKernel, IsClosure};
 
 use crate::items::Item;
 use crate::moves::symbol_of;
@@ -59,8 +59,8 @@ fn corners(alloc: Global, rules: &[Production]) -> Result<Relation, AllocError>
     Ok(relation)
 }
 
-/// For each symbol the productions that begin because of it behind a dot.
-pub(crate) fn openings(alloc: Global, g: &Grammar) -> Result<Rows, AllocError>
+/// For each symbol the row of the productions that begin because of it behind a dot.
+fn opening_rows(alloc: Global, g: &Grammar) -> Result<Rows, AllocError>
     ensures count { IfOk result (λ r. length r.rows ≡ g.now.symbols) }
     ensures width { IfOk result (λ r. r.width ≡ length g.now.rules) }
     ensures exact { IfOk result (λ r. (x q : ℕ) → Holds r.rows x q ↔ Opens g.now.rules x q) }
@@ -75,50 +75,96 @@ pub(crate) fn openings(alloc: Global, g: &Grammar) -> Result<Rows, AllocError>
     Ok(opens)
 }
 
-/// Puts the productions that begin because of the items of a kernel into the set.
-fn open_all(g: &Grammar, opens: &Rows, kernel: &[Item], set: &mut BitSet)
-    requires count { length opens.now.rows ≡ g.now.symbols }
-    requires width { opens.now.width ≡ length g.now.rules }
-    requires set { length set.old ≡ length g.now.rules }
-    requires exact { (x q : ℕ) → Holds opens.now.rows x q ↔ Opens g.now.rules x q }
-    requires within { All (InRange g.now) kernel.now }
-    ensures width { length set.new ≡ length set.old }
-    ensures gains { (q : ℕ) → Has set.new q ↔ (Has set.old q
-        ⊎ ((i : Item) × Contains kernel.now i × OpensAt g.now i q)) }
+/// The numbers of a set.
+fn members(alloc: Global, set: &BitSet) -> Result<Vec<u32>, AllocError>
+    requires { length set.now ≤ 2 ^ 30 }
+    ensures { IfOk result (λ v. (q : ℕ) → Contains v.items q ↔ Has set.now q) }
 {
-    for item in kernel {
-        if let Some(x) = symbol_of(g, *item) {
-            set.union(opens.row(x as usize));
+    let mut numbers = Vec::new(alloc);
+    for q in 0..set.width() as u32 {
+        if set.contains(q as usize) {
+            numbers.push(q)?;
         }
     }
+    Ok(numbers)
 }
 
-/// The items of a kernel and the beginnings of the productions of a set, in their order.
-fn merge(
+/// For each symbol the productions that begin because of it behind a dot. Of a terminal these are none.
+pub(crate) fn openings(alloc: Global, g: &Grammar) -> Result<Vec<Vec<u32>>, AllocError>
+    ensures { IfOk result (λ v. AreOpenings g.now (map (λ l. l.items) v.items)) }
+{
+    g.sound();
+    let rows = opening_rows(alloc, g)?;
+    let mut lists = Vec::with_capacity(alloc, g.symbols() as usize)?;
+    for x in 0..g.symbols() {
+        lists.push(if x < g.terminals() {
+            Vec::new(alloc)
+        } else {
+            members(alloc, rows.row(x as usize))?
+        })?;
+    }
+    Ok(lists)
+}
+
+/// Puts those of some productions that are not in the set into it, and behind the others.
+fn open(list: &[u32], there: &mut BitSet, opened: &mut Vec<u32>) -> Result<(), AllocError>
+    requires within { All (λ q. q < length there.old) list.now }
+    requires opened { AreOpened there.old opened.old.items }
+    ensures width { length there.new ≡ length there.old }
+    ensures opened { OnOk result (AreOpened there.new opened.new.items) }
+    ensures gains { OnOk result ((q : ℕ) → Has there.new q ↔ (Has there.old q ⊎ Contains list.now q)) }
+{
+    for p in list {
+        if there.insert(*p as usize) {
+            opened.push(*p)?;
+        }
+    }
+    Ok(())
+}
+
+/// The productions that begin because of the items of a kernel, each once.
+fn open_all(
     alloc: Global,
-    rules: u32,
-    opened: &BitSet,
+    g: &Grammar,
+    opens: &[Vec<u32>],
     kernel: &[Item],
-) -> Result<Vec<Item>, AllocError>
+) -> Result<Vec<u32>, AllocError>
+    requires opens { AreOpenings g.now (map (λ l. l.items) opens.now) }
+    requires within { All (InRange g.now) kernel.now }
+    ensures apart { IfOk result (λ v. AllPairs ◌≢◌ v.items) }
+    ensures exact { IfOk result (λ v. (q : ℕ)
+        → Contains v.items q ↔ ((i : Item) × Contains kernel.now i × OpensAt g.now i q)) }
+{
+    let mut there = BitSet::new(alloc, g.rules().len())?;
+    let mut opened = Vec::new(alloc);
+    for item in kernel {
+        if let Some(x) = symbol_of(g, *item) {
+            open(&opens[x as usize], &mut there, &mut opened)?;
+        }
+    }
+    Ok(opened)
+}
+
+/// The items of a kernel and the beginnings of productions, in their order.
+fn merge(alloc: Global, opened: &[u32], kernel: &[Item]) -> Result<Vec<Item>, AllocError>
+    requires opened { AllPairs ◌<◌ opened.now }
     requires rising { IsRising kernel.now }
-    requires dots { All (λ i. i.production < rules → 0 < i.dot) kernel.now }
+    requires dots { All (λ i. Contains opened.now i.production → 0 < i.dot) kernel.now }
     ensures rising { IfOk result (λ v. IsRising v.items) }
     ensures has { IfOk result (λ v. (i : Item) → Contains v.items i
-        ↔ (Contains kernel.now i ⊎ IsOpened rules opened.now i)) }
+        ↔ (Contains kernel.now i ⊎ IsOpened opened.now i)) }
 {
-    let mut items = Vec::with_capacity(alloc, kernel.len())?;
+    let mut items = Vec::with_capacity(alloc, opened.len() + kernel.len())?;
     let mut at = 0;
-    'productions: for p in 0..rules {
-        if opened.contains(p as usize) {
-            items.push(Item {
-                production: p,
-                dot: 0,
-            })?;
-        }
-        'kept: while at < kernel.len() && kernel[at].production == p {
+    'opened: for p in opened {
+        'kept: while at < kernel.len() && kernel[at].production < *p {
             items.push(kernel[at])?;
             at += 1;
         }
+        items.push(Item {
+            production: *p,
+            dot: 0,
+        })?;
     }
     items.extend_from_slice(&kernel[at..])?;
     Ok(items)
@@ -128,18 +174,15 @@ fn merge(
 pub(crate) fn closure(
     alloc: Global,
     g: &Grammar,
-    opens: &Rows,
+    opens: &[Vec<u32>],
     kernel: &[Item],
 ) -> Result<Vec<Item>, AllocError>
-    requires count { length opens.now.rows ≡ g.now.symbols }
-    requires width { opens.now.width ≡ length g.now.rules }
-    requires exact { (x q : ℕ) → Holds opens.now.rows x q ↔ Opens g.now.rules x q }
+    requires opens { AreOpenings g.now (map (λ l. l.items) opens.now) }
     requires kernel { IsKernel g.now kernel.now }
     ensures { IfOk result (λ v. IsClosure g.now kernel.now v.items) }
 {
-    g.sound();
-    let mut opened = BitSet::new(alloc, g.rules().len())?;
-    open_all(g, opens, kernel, &mut opened);
-    let items = merge(alloc, g.rules().len() as u32, &opened, kernel)?;
+    let mut opened = open_all(alloc, g, opens, kernel)?;
+    opened.sort()?;
+    let items = merge(alloc, &opened, kernel)?;
     Ok(items)
 }

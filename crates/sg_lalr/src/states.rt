@@ -1,8 +1,7 @@
 //! The states of the automaton, found by breadth in the order of symbols.
 ghost use Rattle.std.specs.Prelude.{◌≡◌, ℕ, ◌<◌, ◌≤◌, ◌++◌, ◌∷◌, [], suc, ◌↔◌, length, map, Contains, IfOk, OnOk, IfSome, IfNone};
 ghost use Rattle.std.specs.Bool.{OnTrue, OnFalse};
-ghost use Rattle.sg_sets.specs.Rows.{Holds};
-ghost use Rattle.sg_lalr.specs.Closure.{Opens, IsClosure};
+ghost use Rattle.sg_lalr.specs.Closure.{AreOpenings, IsClosure};
 ghost use Rattle.sg_lalr.specs.Automaton.{row_at, start_items, Entered, IsPart, IsWhole, Overflows};
 
 use crate::closure::{closure, openings};
@@ -11,7 +10,6 @@ use crate::spread::{empty_rows, spread};
 use indexmap::IndexSet;
 use sg_grammar::Grammar;
 use sg_kinds::row::Row;
-use sg_sets::Rows;
 use std::alloc::{AllocError, Global};
 
 /// The most states.
@@ -95,7 +93,7 @@ impl Automaton {
         &mut self,
         alloc: Global,
         g: &Grammar,
-        opens: &Rows,
+        opens: &[Vec<u32>],
         rows: &mut Vec<Vec<Item>>,
     ) -> Result<bool, AllocError>
         requires part { IsPart g.now
@@ -103,9 +101,7 @@ impl Automaton {
         requires moves { length self.old.moves.items ≡ length self.old.cores.items }
         requires next { length self.old.cores.items < length self.old.kernels.keys }
         requires few { length self.old.kernels.keys ≤ MOST_STATES }
-        requires count { length opens.now.rows ≡ g.now.symbols }
-        requires width { opens.now.width ≡ length g.now.rules }
-        requires exact { (x q : ℕ) → Holds opens.now.rows x q ↔ Opens g.now.rules x q }
+        requires opens { AreOpenings g.now (map (λ l. l.items) opens.now) }
         requires entries { 0 < length g.now.entries }
         requires rows { length rows.old.items ≡ g.now.symbols }
         requires empty { (X : ℕ) → row_at (map (λ k. k.items) rows.old.items) X ≡ [] }
@@ -153,15 +149,13 @@ impl Automaton {
         &self,
         alloc: Global,
         g: &Grammar,
-        opens: &Rows,
+        opens: &[Vec<u32>],
         state: usize,
     ) -> Result<Vec<Item>, AllocError>
         requires part { IsPart g.now
             (map (λ k. k.items) self.now.kernels.keys) self.now.cores.items self.now.moves.items self.now.origins.items }
         requires there { state < length self.now.kernels.keys }
-        requires count { length opens.now.rows ≡ g.now.symbols }
-        requires width { opens.now.width ≡ length g.now.rules }
-        requires exact { (x q : ℕ) → Holds opens.now.rows x q ↔ Opens g.now.rules x q }
+        requires opens { AreOpenings g.now (map (λ l. l.items) opens.now) }
         ensures { IfOk result (λ core. IsClosure g.now
             (row_at (map (λ k. k.items) self.now.kernels.keys) state) core.items) }
     {

@@ -1,48 +1,47 @@
-use Rattle.std.proofs.Common.{◌≡◌, ◌+◌, ◌++◌, ◌⊎◌, sym, ap, ◌∙◌, drop, subst, arith, get_or}
-use Rattle.std.proofs.lemmas.List.{get_or_default, take_rest}
-use Rattle.std.proofs.lemmas.Bool.{both_ways}
+use Rattle.std.proofs.Common.{◌≡◌, ◌+◌, ◌++◌, ◌⊎◌, ◌≤◌, sym, ap, ◌∙◌, drop, subst, arith, get_or}
+use Rattle.std.proofs.lemmas.List.{get_or_default, take_rest, take_all}
 use Rattle.std.specs.Prelude.{◌↔◌, Contains}
 use Rattle.sg_lalr.specs.Items.{Item, item, IsRising}
 use Rattle.sg_lalr.specs.Closure.{IsOpened}
-use Rattle.sg_lalr.proofs.MergeLemmas.{Merged, merged-opened, merged-passed, merged-kept, merged-next, merged-done, merged-rising, merged-has}
+use Rattle.sg_lalr.proofs.MergeLemmas.{Merged, merged-opened, merged-kept, rest-from, rest-none, merged-rising, merged-has}
 use Rattle.sg_lalr.proofs.closure.merge.Goals as goal
-use Rattle.sg_lalr.proofs.closure.merge.Goals.{then-contains+in_ok-push, else-contains, then-kept-test+else-kernel-at, else-kept-test}
-
-pub kept-init : goal.kept-init
-kept-init c = elim c.if-contains.branch [
-  | then-contains+in_ok-push w ↦ rw w.items-is
-      (subst (λ l. Merged c.args.opened.now c.args.kernel.now l c.productions.at (c.productions.p + 1) c.productions.p) (sym w.in_ok-push.ensures.items)
-      (merged-opened c.args.opened.now c.args.kernel.now c.productions.items.items c.productions.at c.productions.p c.args.rules c.productions-test.true c.requires.dots (c.contains.ensures.0 w.if-contains.true) c.productions.invariant))
-  | else-contains w ↦ rw w.items-is
-      (merged-passed c.args.opened.now c.args.kernel.now c.productions.items.items c.productions.at c.productions.p (λ h. both_ways c.contains.result w.if-contains.false (c.contains.ensures.1 h)) c.productions.invariant)
-]
+use Rattle.sg_lalr.proofs.closure.merge.Goals.{then-kept-test+else-kernel-at, else-kept-test}
 
 pub kept-preserved : goal.kept-preserved
 kept-preserved c =
-    let x : Item = get_or c.args.kernel.now c.kept.at (item 0 0) in
-    let is : x ≡ get_or c.args.kernel.now c.kept.at x = get_or_default c.args.kernel.now c.kept.at (item 0 0) x c.kept-test.true in
-    subst (λ l. Merged c.args.opened.now c.args.kernel.now l (c.kept.at + 1) (c.productions.p + 1) c.productions.p) (sym c.in_ok-push-2.ensures.items)
-    (merged-kept c.args.opened.now c.args.kernel.now c.kept.items.items c.kept.at c.productions.p x c.kept-test.true is c.if-kernel-at.true c.requires.rising c.kept.invariant)
+    let opened = c.args.opened.now in
+    let kernel = c.args.kernel.now in
+    let k = c.opened.p-index in
+    let x : Item = get_or kernel c.kept.at (item 0 0) in
+    let p = get_or opened k 0 in
+    subst (λ l. Merged opened kernel l (c.kept.at + 1) k) (sym c.in_ok-push.ensures.items)
+    (merged-kept opened kernel c.kept.items.items c.kept.at k x p c.kept-test.true (get_or_default kernel c.kept.at (item 0 0) x c.kept-test.true) c.opened-test.true (get_or_default opened k 0 p c.opened-test.true) c.if-kernel-at.true c.requires.opened c.requires.rising c.kept.invariant)
 
-pub productions-preserved : goal.productions-preserved
-productions-preserved c = elim c.kept-test.branch [
-  | then-kept-test+else-kernel-at w ↦
-      let x : Item = get_or c.args.kernel.now c.kept.at (item 0 0) in
-      let is : x ≡ get_or c.args.kernel.now c.kept.at x = get_or_default c.args.kernel.now c.kept.at (item 0 0) x w.kept-test.true in
-      merged-next c.args.opened.now c.args.kernel.now c.kept.items.items c.kept.at c.productions.p x w.kept-test.true is w.if-kernel-at.false c.requires.rising c.kept.invariant
-  | else-kept-test w ↦ merged-done c.args.opened.now c.args.kernel.now c.kept.items.items c.kept.at c.productions.p w.kept-test.false c.kept.invariant
-]
+pub opened-preserved : goal.opened-preserved
+opened-preserved c =
+    let opened = c.args.opened.now in
+    let kernel = c.args.kernel.now in
+    let k = c.opened.p-index in
+    let p = get_or opened k 0 in
+    let rest : (j : Item) → Contains (drop c.kept.at kernel) j → p ≤ j.production = elim c.kept-test.branch [
+      | then-kept-test+else-kernel-at w ↦
+          let x : Item = get_or kernel c.kept.at (item 0 0) in
+          rest-from kernel c.kept.at x p w.kept-test.true (get_or_default kernel c.kept.at (item 0 0) x w.kept-test.true) (let f = w.if-kernel-at.false in omega (arith, f)) c.requires.rising
+      | else-kept-test w ↦ rest-none kernel c.kept.at p w.kept-test.false
+    ] in
+    subst (λ l. Merged opened kernel l c.kept.at (k + 1)) (sym c.in_ok-push-2.ensures.items)
+    (merged-opened opened kernel c.kept.items.items c.kept.at k p c.opened-test.true (get_or_default opened k 0 p c.opened-test.true) c.requires.opened c.requires.dots rest c.kept.invariant)
 
 pub returns-clause-rising : goal.returns-clause-rising
 returns-clause-rising c =
-    let all : c.extend_from_slice.new.self.items ≡ c.productions.items.items ++ drop c.productions.at c.args.kernel.now = c.in_ok-extend_from_slice.ensures.items ∙ ap (λ l. c.productions.items.items ++ l) (take_rest c.args.kernel.now c.productions.at) in
-    subst IsRising (sym all)
-    (merged-rising c.args.opened.now c.args.kernel.now c.productions.items.items c.productions.at c.productions.p c.productions.p c.requires.rising c.productions.invariant)
+    let kernel = c.args.kernel.now in
+    let all : c.extend_from_slice.new.self.items ≡ c.opened.items.items ++ drop c.opened.at kernel = c.in_ok-extend_from_slice.ensures.items ∙ ap (λ l. c.opened.items.items ++ l) (take_rest kernel c.opened.at) in
+    subst IsRising (sym all) (merged-rising c.args.opened.now kernel c.opened.items.items c.opened.at c.opened.p-index c.requires.rising c.opened.invariant)
 
 pub returns-clause-has : goal.returns-clause-has
 returns-clause-has c =
-    let all : c.extend_from_slice.new.self.items ≡ c.productions.items.items ++ drop c.productions.at c.args.kernel.now = c.in_ok-extend_from_slice.ensures.items ∙ ap (λ l. c.productions.items.items ++ l) (take_rest c.args.kernel.now c.productions.at) in
-    let end : c.productions.p ≡ c.args.rules = omega arith in
-    subst (λ l. (i : Item) → Contains l i ↔ (Contains c.args.kernel.now i ⊎ IsOpened c.args.rules c.args.opened.now i)) (sym all)
-    (subst (λ n. (i : Item) → Contains (c.productions.items.items ++ drop c.productions.at c.args.kernel.now) i ↔ (Contains c.args.kernel.now i ⊎ IsOpened n c.args.opened.now i)) end
-    (merged-has c.args.opened.now c.args.kernel.now c.productions.items.items c.productions.at c.productions.p c.productions.p c.productions.invariant))
+    let kernel = c.args.kernel.now in
+    let opened = c.args.opened.now in
+    let all : c.extend_from_slice.new.self.items ≡ c.opened.items.items ++ drop c.opened.at kernel = c.in_ok-extend_from_slice.ensures.items ∙ ap (λ l. c.opened.items.items ++ l) (take_rest kernel c.opened.at) in
+    subst (λ l. (i : Item) → Contains l i ↔ (Contains kernel i ⊎ IsOpened opened i)) (sym all)
+    (merged-has opened kernel c.opened.items.items c.opened.at c.opened.p-index (take_all c.opened.p-index opened (let f = c.opened-test.false in omega (arith, f))) c.opened.invariant)

@@ -1,9 +1,11 @@
-use Rattle.std.proofs.Common.{◌≡◌, ℕ, ◌⊎◌, length, take}
-use Rattle.std.specs.Prelude.{◌↔◌, Contains}
-use Rattle.sg_sets.specs.Members.{Has}
-use Rattle.sg_lalr.specs.Items.{Item}
-use Rattle.sg_lalr.specs.Closure.{OpensAt}
+use Rattle.std.proofs.Common.{◌≡◌, length, take}
+use Rattle.sg_lalr.specs.Closure.{AreOpened}
+use Rattle.sg_lalr.proofs.OpeningLemmas.{OpenedBy}
 use Rattle.sg_lalr.proofs.closure.open_all.Given as goal
 
 abbrev pub invariant-loop-item : goal.invariant-loop-item
-invariant-loop-item l = (length l.set ≡ length l.initial.set) × ((q : ℕ) → Has l.set q ↔ (Has l.initial.set q ⊎ ((i : Item) × Contains (take l.item-index l.kernel) i × OpensAt l.g i q)))
+invariant-loop-item l = record {
+  width : length l.there ≡ length l.g.rules;
+  opened : AreOpened l.there l.opened.items;
+  exact : OpenedBy l.g l.there (take l.item-index l.kernel);
+}

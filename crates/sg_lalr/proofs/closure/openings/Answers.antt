@@ -1,25 +1,34 @@
-use Rattle.std.proofs.Common.{◌≡◌, ℕ, ◌<◌, length, get_or, ap, ◌∙◌, subst, refl, arith, Some}
-use Rattle.std.specs.Prelude.{◌↔◌, slice_get}
-use Rattle.std.proofs.lemmas.Option.{slice_get_read}
-use Rattle.sg_sets.specs.Rows.{Holds}
-use Rattle.sg_lalr.specs.Closure.{Corner}
-use Rattle.sg_lalr.proofs.CornerLemmas.{opening-more, opening-all}
+use Rattle.std.proofs.Common.{ℕ, ◌+◌, sym, ap, ◌∙◌, subst, arith, map}
+use Rattle.std.specs.Prelude.{◌↔◌, Contains}
+use Rattle.std.proofs.lemmas.List.{map_push}
+use Rattle.sg_sets.specs.Members.{Has}
+use Rattle.sg_lalr.specs.Closure.{Opens}
+use Rattle.sg_lalr.proofs.OpeningLemmas.{OpeningsTo, openings-more, openings-terminal, openings-all}
 use Rattle.sg_lalr.proofs.closure.openings.Goals as goal
+use Rattle.sg_lalr.proofs.closure.openings.Goals.{then-x-terminals, else-x-terminals+in_ok-members}
 
-pub loop-a-preserved : goal.loop-a-preserved
-loop-a-preserved c =
+pub loop-x-preserved : goal.loop-x-preserved
+loop-x-preserved c =
     let g = c.args.g.now in
-    let l = c.loop-a in
-    let r = c.index-rules-a.result in
-    let low : l.a < length g.rules = (let t = c.loop-a-test.true in let same = ap length c.rules-rules.ensures in omega (arith, t, same)) in
-    let is : slice_get g.rules l.a ≡ Some r = slice_get_read g.rules (length g.rules) l.a r refl low (c.index-rules-a.is ∙ ap (λ rs. get_or rs l.a r) c.rules-rules.ensures) in
-    let shape = c.union_row.ensures.shape in
-    record {
-      count = shape.count ∙ l.invariant.count;
-      width = shape.width ∙ l.invariant.width;
-      each = opening-more g.rules c.in_ok-corners.corners l.opens.rows c.union_row.new.self.rows l.a r c.successors.result.now is c.successors.ensures.row
-          (subst (λ rs. (x y : ℕ) → Holds c.in_ok-corners.corners x y ↔ Corner rs x y) c.rules-rules.ensures c.in_ok-corners.ensures.exact) c.union_row.ensures.joins l.invariant.each;
-    }
+    let x = c.loop-x.x in
+    let new = c.if-x-terminals.push in
+    let exact = c.in_ok-rows.ensures.exact in
+    let each : (q : ℕ) → Contains new.items q ↔ Opens g.rules x q = elim c.if-x-terminals.branch [
+      | then-x-terminals w ↦
+          let less = w.if-x-terminals.true in
+          let all = c.terminals.ensures in
+          openings-terminal g x new.items c.sound.ensures (omega (arith, less, all)) (ap (λ v. v.items) w.push-is ∙ w.new.ensures.items)
+      | else-x-terminals+in_ok-members w ↦ subst (λ l. (q : ℕ) → Contains l q ↔ Opens g.rules x q) (sym (ap (λ v. v.items) w.push-is)) (λ q. (
+        λ h. (exact x q).0 (subst (λ s. Has s q) w.row.ensures.row ((w.in_ok-members.ensures q).0 h)),
+        λ o. (w.in_ok-members.ensures q).1 (subst (λ s. Has s q) (sym w.row.ensures.row) ((exact x q).1 o)),
+      ))
+    ] in
+    subst (λ l. OpeningsTo g l (x + 1)) (sym (ap (map (λ k. k.items)) c.in_ok-push.ensures.items ∙ map_push (λ k. k.items) c.loop-x.lists.items new))
+    (openings-more g (map (λ k. k.items) c.loop-x.lists.items) x new.items each c.loop-x.invariant)
 
-pub returns-clause-exact : goal.returns-clause-exact
-returns-clause-exact c = opening-all c.args.g.now.rules c.loop-a.opens.rows c.loop-a.a (let t = c.loop-a-test.false in let same = ap length c.rules-rules.ensures in omega (arith, t, same)) c.loop-a.invariant.each
+pub returns : goal.returns
+returns c =
+    let past = c.loop-x-test.false in
+    let within = c.loop-x.auto.x-end in
+    let end = c.symbols-x-end.ensures in
+    openings-all c.args.g.now (map (λ k. k.items) c.loop-x.lists.items) c.loop-x.x c.sound.ensures (omega (arith, past, within, end)) c.loop-x.invariant

@@ -1,10 +1,6 @@
-use Rattle.std.proofs.Common.{◌≡◌, length}
-use Rattle.sg_lalr.proofs.CornerLemmas.{Opening}
+use Rattle.std.proofs.Common.{map}
+use Rattle.sg_lalr.proofs.OpeningLemmas.{OpeningsTo}
 use Rattle.sg_lalr.proofs.closure.openings.Given as goal
 
-abbrev pub invariant-loop-a : goal.invariant-loop-a
-invariant-loop-a l = record {
-  count : length l.opens.rows ≡ l.g.symbols;
-  width : l.opens.width ≡ length l.g.rules;
-  each : Opening l.g.rules l.opens.rows l.a;
-}
+abbrev pub invariant-loop-x : goal.invariant-loop-x
+invariant-loop-x l = OpeningsTo l.g (map (λ k. k.items) l.lists.items) l.x
