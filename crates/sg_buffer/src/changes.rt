@@ -78,8 +78,9 @@ impl Buffer {
     }
 
     /// Puts a term in the place of the subterm at a path of the term, whose phylum it fits, and selects what is given,
-    /// settled. `Size` says exactly that the whole term would be over a limit, with its counts; nothing changes then, and
-    /// nothing is evaluated. Without memory nothing changes but the pool, and some of the equations may be evaluated.
+    /// settled. `Size` says exactly that the whole term would be over a limit, with its counts; nothing changes then,
+    /// and nothing is evaluated. Without memory nothing changes but the pool, and some of the equations may be
+    /// evaluated.
     pub fn replace(
         &mut self,
         at: &Path,
@@ -185,9 +186,9 @@ impl Buffer {
         Ok(())
     }
 
-    /// Undoes the newest change: the old subterm or marks, the selection and the window's first line are back. No text is
-    /// being typed. False exactly where there is no change to undo, and nothing changes then. Without memory nothing changes
-    /// but the pool, and some of the equations may be evaluated.
+    /// Undoes the newest change: the old subterm or marks, the selection and the window's first line are back. No text
+    /// is being typed. False exactly where there is no change to undo, and nothing changes then. Without memory nothing
+    /// changes but the pool, and some of the equations may be evaluated.
     pub fn undo(
         &mut self,
         plans: &Plans,
@@ -238,8 +239,8 @@ impl Buffer {
     }
 
     /// Does the next change of the future again: its new subterm or marks, the selection and the window's first line
-    /// after it are back. No text is being typed. False exactly where there is no change to do again, and nothing changes
-    /// then. Without memory nothing changes but the pool, and some of the equations may be evaluated.
+    /// after it are back. No text is being typed. False exactly where there is no change to do again, and nothing
+    /// changes then. Without memory nothing changes but the pool, and some of the equations may be evaluated.
     pub fn redo(
         &mut self,
         plans: &Plans,

@@ -197,8 +197,9 @@ impl Editor {
         }
     }
 
-    /// Does a command, and says what came of it. It calls the shelf at most once, and its reply comes behind the others;
-    /// what is evaluated is noted in the journal. Without memory the session is as it was, and a part may be noted.
+    /// Does a command, and says what came of it. It calls the shelf at most once, and its reply comes behind the
+    /// others; what is evaluated is noted in the journal. Without memory the session is as it was, and a part may be
+    /// noted.
     pub fn step<S: Shelf>(
         &mut self,
         command: &Command,

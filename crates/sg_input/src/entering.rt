@@ -143,8 +143,8 @@ fn entered(
 }
 
 /// What becomes of a text from an entry, a place among the entries of the specification: the value that its nonterminal
-/// derives, or the first thing that is wrong with the text. All bytes are looked at first, then all tokens are found, and
-/// then they are parsed.
+/// derives, or the first thing that is wrong with the text. All bytes are looked at first, then all tokens are found,
+/// and then they are parsed.
 pub fn enter(
     alloc: Global,
     lexemes: &Lexemes,

@@ -25,8 +25,8 @@ use sg_patterns::InToken;
 use sg_pool::pool::Pool;
 use std::alloc::Global;
 
-/// What a parse reads: the tables and the evaluator of a specification, the place of one of its entries, and a text with
-/// its tokens.
+/// What a parse reads: the tables and the evaluator of a specification, the place of one of its entries, and a text
+/// with its tokens.
 #[derive(Drop)]
 pub(crate) struct Reading<'a> {
     pub alloc: Global,
@@ -47,8 +47,8 @@ pub(crate) struct Stacks {
     pub made: MadeTerms,
 }
 
-/// What a step comes to: it goes on before this token, the tokens are at their end and accepted, or the next token cannot
-/// stand there.
+/// What a step comes to: it goes on before this token, the tokens are at their end and accepted, or the next token
+/// cannot stand there.
 pub(crate) enum Step {
     On(usize),
     Accepted,
@@ -87,7 +87,8 @@ impl<'a> Reading<'a> {
     pub(crate) fn action(&self, stacks: &Stacks, at: usize) -> Action
         requires ready { IsReady self.now }
         requires driven { DrivenTo self.now at stacks.now.states.items stacks.now.results.items stacks.now.pool }
-        ensures { IsAction self.now.tables.now (slice_index stacks.now.states.items (length stacks.now.states.items - 1))
+        ensures { IsAction self.now.tables.now
+            (slice_index stacks.now.states.items (length stacks.now.states.items - 1))
             (next_of self.now at) result }
     {
         self.tables.sound();
@@ -173,7 +174,8 @@ impl Stacks {
         ensures numbers { OnOk result (All (λ id. id < length self.new.pool) self.new.results.items) }
         ensures values { OnOk result (map (value_at self.new.pool) self.new.results.items
             ≡ map (value_at self.old.pool) (take from self.old.results.items)
-            ++ made_of reading.now.evaluator.now made (map (value_at self.old.pool) (drop from self.old.results.items))) }
+            ++ made_of reading.now.evaluator.now made (map (value_at self.old.pool)
+            (drop from self.old.results.items))) }
         ensures made { AreMade reading.now.evaluator.now self.new.made self.new.pool }
     {
         match made {

@@ -219,7 +219,8 @@ fn link_node(
 ) -> Result<(), AllocError>
     requires there { a < length layout.now.nodes.items }
     requires whole { IsWhole g.now
-        (map (λ k. k.items) automaton.now.kernels.keys) automaton.now.cores.items automaton.now.moves.items automaton.now.origins.items }
+        (map (λ k. k.items) automaton.now.kernels.keys) automaton.now.cores.items automaton.now.moves.items
+        automaton.now.origins.items }
     requires laid { IsLaid automaton.now.cores.items layout.now.nodes.items layout.now.firsts.items }
     requires nullable { IsNullable g.now begins.now.nullable }
     requires count { length begins.now.firsts.rows ≡ g.now.symbols }
@@ -285,7 +286,8 @@ pub(crate) fn all_lookaheads(
     requires productive { AllProductive g.now }
     requires entry { 0 < length g.now.entries }
     requires whole { IsWhole g.now
-        (map (λ k. k.items) automaton.now.kernels.keys) automaton.now.cores.items automaton.now.moves.items automaton.now.origins.items }
+        (map (λ k. k.items) automaton.now.kernels.keys) automaton.now.cores.items automaton.now.moves.items
+        automaton.now.origins.items }
     ensures laid { IfOk result (λ l. IsLaid automaton.now.cores.items l.layout.nodes.items l.layout.firsts.items) }
     ensures count { IfOk result (λ l. length l.rows.rows ≡ length l.layout.nodes.items) }
     ensures width { IfOk result (λ l. l.rows.width ≡ g.now.terminals) }

@@ -53,11 +53,13 @@ fn describe(
     requires productive { AllProductive g.now }
     requires entry { 0 < length g.now.entries }
     requires whole { IsWhole g.now
-        (map (λ k. k.items) automaton.now.kernels.keys) automaton.now.cores.items automaton.now.moves.items automaton.now.origins.items }
+        (map (λ k. k.items) automaton.now.kernels.keys) automaton.now.cores.items automaton.now.moves.items
+        automaton.now.origins.items }
     requires laid { IsLaid automaton.now.cores.items looks.now.layout.nodes.items looks.now.layout.firsts.items }
     requires exact { AreLookaheads g.now automaton.now.moves.items looks.now.layout.nodes.items looks.now.rows.rows }
     requires state { state < length automaton.now.cores.items }
-    requires clear { IsClearBelow g.now looks.now.layout.nodes.items looks.now.layout.firsts.items looks.now.rows.rows state }
+    requires clear { IsClearBelow g.now looks.now.layout.nodes.items looks.now.layout.firsts.items looks.now.rows.rows
+        state }
     requires clashes { Clashes g.now looks.now.layout.nodes.items looks.now.rows.rows
         (slice_index looks.now.layout.firsts.items state)
         (slice_index looks.now.layout.firsts.items (suc state)) terminal }
@@ -91,7 +93,8 @@ pub(crate) fn least_conflict(
     requires productive { AllProductive g.now }
     requires entry { 0 < length g.now.entries }
     requires whole { IsWhole g.now
-        (map (λ k. k.items) automaton.now.kernels.keys) automaton.now.cores.items automaton.now.moves.items automaton.now.origins.items }
+        (map (λ k. k.items) automaton.now.kernels.keys) automaton.now.cores.items automaton.now.moves.items
+        automaton.now.origins.items }
     requires laid { IsLaid automaton.now.cores.items looks.now.layout.nodes.items looks.now.layout.firsts.items }
     requires count { length looks.now.rows.rows ≡ length looks.now.layout.nodes.items }
     requires width { looks.now.rows.width ≡ g.now.terminals }

@@ -97,7 +97,8 @@ impl Automaton {
         rows: &mut Vec<Vec<Item>>,
     ) -> Result<bool, AllocError>
         requires part { IsPart g.now
-            (map (λ k. k.items) self.old.kernels.keys) self.old.cores.items self.old.moves.items self.old.origins.items }
+            (map (λ k. k.items) self.old.kernels.keys) self.old.cores.items self.old.moves.items
+            self.old.origins.items }
         requires moves { length self.old.moves.items ≡ length self.old.cores.items }
         requires next { length self.old.cores.items < length self.old.kernels.keys }
         requires few { length self.old.kernels.keys ≤ MOST_STATES }
@@ -153,7 +154,8 @@ impl Automaton {
         state: usize,
     ) -> Result<Vec<Item>, AllocError>
         requires part { IsPart g.now
-            (map (λ k. k.items) self.now.kernels.keys) self.now.cores.items self.now.moves.items self.now.origins.items }
+            (map (λ k. k.items) self.now.kernels.keys) self.now.cores.items self.now.moves.items
+            self.now.origins.items }
         requires there { state < length self.now.kernels.keys }
         requires opens { AreOpenings g.now (map (λ l. l.items) opens.now) }
         ensures { IfOk result (λ core. IsClosure g.now

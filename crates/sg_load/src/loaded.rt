@@ -32,7 +32,8 @@ impl Model for Loaded {
 
     ghost Value = { Contents };
 
-    ghost coded = { contents_code spec_type.the_row.coded plans_type.the_row.coded tables_type.the_row.coded lexemes_type.the_row.coded };
+    ghost coded = { contents_code spec_type.the_row.coded plans_type.the_row.coded tables_type.the_row.coded
+        lexemes_type.the_row.coded };
 
     ghost view = { λ l. contents l.spec l.plans l.tables l.lexemes };
 

@@ -46,7 +46,8 @@ impl FileLog {
 
     // Reads the log from its newest file, so the time grows with the log.
     pub fn get(&self, name: &str) -> Option<&[u8]>
-        ensures { MatchOption result (map.get self.now name.now ≡ None) (λ bytes. map.get self.now name.now ≡ Some bytes.now) }
+        ensures { MatchOption result (map.get self.now name.now ≡ None)
+            (λ bytes. map.get self.now name.now ≡ Some bytes.now) }
     {
         for file in &self.log {
             if name == file.name.as_str() {

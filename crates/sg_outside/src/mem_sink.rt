@@ -72,8 +72,10 @@ impl Sink for MemSink {
     fn put(&mut self, piece: &[u8]) -> Result<(), SinkError>
         ensures ok { OnOk result (self.new.written ≡ self.old.written ++ piece.now) }
         ensures sure { OnOk result (cut_of self.old.fails self.new.puts ≡ None) }
-        ensures cut { IsErrOf result SinkError.Failed → IsSomeAnd (cut_of self.old.fails self.new.puts) (λ m. self.new.written ≡ self.old.written ++ take m piece.now) }
-        ensures failed { IsErrOf result SinkError.Failed → CutShort (Some self.old.written) (Some self.new.written) piece.now }
+        ensures cut { IsErrOf result SinkError.Failed → IsSomeAnd (cut_of self.old.fails self.new.puts)
+            (λ m. self.new.written ≡ self.old.written ++ take m piece.now) }
+        ensures failed { IsErrOf result SinkError.Failed
+            → CutShort (Some self.old.written) (Some self.new.written) piece.now }
         ensures memory { IsErrOf result SinkError.NoMemory → self.new.written ≡ self.old.written }
         ensures fails { self.new.fails ≡ self.old.fails }
         ensures puts { self.new.puts ≡ raised self.old.puts }

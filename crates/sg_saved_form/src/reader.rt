@@ -281,7 +281,8 @@ impl Reader {
     /// Takes a byte behind a name that stands alone.
     fn feed_flag(&mut self, kind: Kind) -> Result<bool, NoMemory>
         ensures { (os : List Open) (bs : Bytes) → Reads self.old (machine.Name os bs)
-            → IfOk result (λ more. Fed (machine.feed_flag os (machine.flag_of (words.keyword_of bs)) kind) more self.new) }
+            → IfOk result
+            (λ more. Fed (machine.feed_flag os (machine.flag_of (words.keyword_of bs)) kind) more self.new) }
     {
         let Some(flag) = flag_of(keyword_of(self.name.as_slice())) else {
             return Ok(false);

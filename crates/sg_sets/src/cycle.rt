@@ -90,7 +90,8 @@ impl Relation {
     ) -> Result<Vec<usize>, AllocError>
         requires layers { AreLayers (Holds self.now) start (length self.now) layers.items }
         requires apart { IsApart (Holds self.now) start start (length layers.items) }
-        ensures { IfOk result (λ c. (via : List ℕ) × (c.items ≡ start ∷ via) × IsLeastWay (Holds self.now) start start (length layers.items) via) }
+        ensures { IfOk result (λ c. (via : List ℕ) × (c.items ≡ start ∷ via)
+            × IsLeastWay (Holds self.now) start start (length layers.items) via) }
     {
         let mut way = Vec::new(alloc);
         way.push(start)?;

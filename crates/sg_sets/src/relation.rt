@@ -118,7 +118,8 @@ impl Relation {
     /// Relates `a` to `b` where `a` is related to `k` and `k` to `b`.
     fn close_through(&mut self, k: usize)
         requires { k < length self.old }
-        ensures through { (a b : ℕ) → Holds self.new a b ↔ (Holds self.old a b ⊎ (Holds self.old a k × Holds self.old k b)) }
+        ensures through { (a b : ℕ) → Holds self.new a b ↔ (Holds self.old a b
+            ⊎ (Holds self.old a k × Holds self.old k b)) }
         ensures size { length self.new ≡ length self.old }
     {
         for a in 0..self.size() {

@@ -117,7 +117,8 @@ impl Rows {
     pub fn join_row(&mut self, from: usize, to: usize) -> bool
         requires from_row { from < length self.old.rows }
         requires to_row { to < length self.old.rows }
-        ensures joins { (x y : ℕ) → Holds self.new.rows x y ↔ (Holds self.old.rows x y ⊎ ((x ≡ to) × Holds self.old.rows from y)) }
+        ensures joins { (x y : ℕ) → Holds self.new.rows x y ↔ (Holds self.old.rows x y
+            ⊎ ((x ≡ to) × Holds self.old.rows from y)) }
         ensures grows { OnTrue result (all_missing self.new.rows < all_missing self.old.rows) }
         ensures stays { OnFalse result (self.new ≡ self.old) }
         ensures shape { SameShape self.old self.new }
@@ -150,7 +151,8 @@ impl Rows {
     /// no row changes.
     pub fn flow(&mut self, links: &[(usize, usize)])
         requires { All (AreRows self.old.rows) links.now }
-        ensures flows { (x y : ℕ) → Holds self.new.rows x y ↔ ((s : ℕ) × Holds self.old.rows s y × Reaches (Linked links.now) s x) }
+        ensures flows { (x y : ℕ) → Holds self.new.rows x y ↔ ((s : ℕ) × Holds self.old.rows s y
+            × Reaches (Linked links.now) s x) }
         ensures shape { SameShape self.old self.new }
     {
         let mut was = self.filled();
@@ -230,7 +232,8 @@ impl Rows {
         requires from_row { from < length self.old.rows }
         requires to_row { to < length self.old.rows }
         requires flagged { HasPassed self.old.rows from to ⊎ (IsFresh was.now from ⊎ IsFresh fresh.old from) }
-        ensures gains { (x y : ℕ) → Holds self.new.rows x y → Holds self.old.rows x y ⊎ ((x ≡ to) × Holds self.old.rows from y) }
+        ensures gains { (x y : ℕ) → Holds self.new.rows x y
+            → Holds self.old.rows x y ⊎ ((x ≡ to) × Holds self.old.rows from y) }
         ensures keeps { (x y : ℕ) → Holds self.old.rows x y → Holds self.new.rows x y }
         ensures passed { HasPassed self.new.rows from to }
         ensures grows { OnTrue result (all_missing self.new.rows < all_missing self.old.rows) }

@@ -1,5 +1,6 @@
-//! A script whose commands are given again where they find no memory. With all memory each command prints its block. Where one
-//! growth is refused, the screen is as before the command, and the same command, given again, prints its block.
+//! A script whose commands are given again where they find no memory. With all memory each command prints its block.
+//! Where one growth is refused, the screen is as before the command, and the same command, given again, prints its
+//! block.
 ghost use Rattle.std.specs.Prelude.{◌<◌, ◌^◌, IsTrue};
 ghost use Rattle.sg_eval.specs.Journal.{counted};
 

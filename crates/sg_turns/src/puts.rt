@@ -56,9 +56,9 @@ pub fn spot_at(
     })
 }
 
-/// Puts a term in the place of a node of the edited term, where the whole stays in the limits, and looks at it then; the
-/// subtree that stood there hangs. Where memory is wanting each node is as before, and only the pool and the journal may
-/// have grown.
+/// Puts a term in the place of a node of the edited term, where the whole stays in the limits, and looks at it then;
+/// the subtree that stood there hangs. Where memory is wanting each node is as before, and only the pool and the
+/// journal may have grown.
 pub fn put_term(
     alloc: Global,
     terms: &mut Terms,

@@ -100,8 +100,8 @@ fn turned_at(
     }
 }
 
-/// Undoes a step in the edited term, and looks at it as before the step. Where memory is wanting each node is as before,
-/// and only the pool and the journal may have grown.
+/// Undoes a step in the edited term, and looks at it as before the step. Where memory is wanting each node is as
+/// before, and only the pool and the journal may have grown.
 pub fn step_back(
     alloc: Global,
     terms: &mut Terms,

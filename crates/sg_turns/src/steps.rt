@@ -36,8 +36,8 @@ fn forget_future(terms: &mut Terms, history: &mut History<Step>)
     }
 }
 
-/// Makes a step the newest of the past, which keeps as many as its room, and drops the trees of the future and of the step
-/// that falls off.
+/// Makes a step the newest of the past, which keeps as many as its room, and drops the trees of the future and of the
+/// step that falls off.
 pub fn remember(terms: &mut Terms, history: &mut History<Step>, step: Step)
     requires roots { (n : Id) → times n (tops (step ∷ history.old.past) history.old.future) ≢ 0
         → IsRoot (nodes terms.old) n }

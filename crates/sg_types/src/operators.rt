@@ -108,7 +108,8 @@ fn pair_of(names: &Names, of: &Option<PhylumId>) -> Option<Pair>
 
 // the first mismatch of `==`, whose place is the right operand
 fn at_equal(names: &Names, left: &Found, right: &Found) -> Option<Position>
-    ensures { result ≡ spec.at_equal names.now left.now.of right.now.of right.now.place left.now.mismatch right.now.mismatch }
+    ensures { result ≡ spec.at_equal names.now left.now.of right.now.of right.now.place left.now.mismatch
+        right.now.mismatch }
 {
     let own = unless(do_agree(names, &left.of, &right.of), right.place);
     earlier(left.mismatch, earlier(own, right.mismatch))
@@ -116,7 +117,8 @@ fn at_equal(names: &Names, left: &Found, right: &Found) -> Option<Position>
 
 // the first mismatch of `::`, by the list that is the right operand
 fn at_cons(names: &Names, pair: &Option<Pair>, left: &Found, right: &Found) -> Option<Position>
-    ensures { result ≡ spec.at_cons names.now pair.now left.now.of left.now.place right.now.place left.now.mismatch right.now.mismatch }
+    ensures { result ≡ spec.at_cons names.now pair.now left.now.of left.now.place right.now.place left.now.mismatch
+        right.now.mismatch }
 {
     match pair {
         Some((_, element)) => earlier(where_wanted(names, &Some(*element), left), right.mismatch),
@@ -126,7 +128,8 @@ fn at_cons(names: &Names, pair: &Option<Pair>, left: &Found, right: &Found) -> O
 
 // the first mismatch of an operator between operands
 fn at_infix(names: &Names, sign: Infix, left: &Found, right: &Found) -> Option<Position>
-    ensures { result ≡ spec.at_infix names.now sign left.now.of right.now.of left.now.place right.now.place left.now.mismatch right.now.mismatch }
+    ensures { result ≡ spec.at_infix names.now sign left.now.of right.now.of left.now.place right.now.place
+        left.now.mismatch right.now.mismatch }
 {
     match sign {
         Infix::Equal | Infix::Unequal => at_equal(names, left, right),

@@ -29,7 +29,8 @@ impl<S> Model for History<S> {
     ghost view = { λ h. timeline h.past.items h.future.items h.past.capacity };
 
     // each future step came from the past, so both fit the room of one
-    ghost invariant = { λ h. (h.past.capacity ≡ h.future.capacity) × (length h.past.items + length h.future.items ≤ h.past.capacity) };
+    ghost invariant = { λ h. (h.past.capacity ≡ h.future.capacity)
+        × (length h.past.items + length h.future.items ≤ h.past.capacity) };
 }
 
 impl<S: Drop> History<S> {

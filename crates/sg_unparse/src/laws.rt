@@ -35,7 +35,8 @@ pub fn unparsed_nodes_end()
         (u : Place) (t : Term) (m : ℕ) → ends_of (unparsed spec value typed u t m).0 ≡ unparsed_places spec typed u t }
     ensures regions { (spec : Spec) (value : Reference Place → Value) (typed : Place → Option Bytes)
         (u : Place) (t : Term) (m : ℕ) (v : Place) →
-        is_some (region_of (unparsed spec value typed u t m).0 v) ≡ list_any (bytes_eq v) (unparsed_places spec typed u t) }
+        is_some (region_of (unparsed spec value typed u t m).0 v)
+        ≡ list_any (bytes_eq v) (unparsed_places spec typed u t) }
 {}
 
 /// A cell stands in the span of a node exactly where its owner is the node or one below it.
@@ -48,14 +49,16 @@ pub fn spans_hold_what_is_owned()
 /// A node begins in the position behind the page of what is written before it.
 pub fn nodes_begin_behind_what_is_before()
     ensures { (spec : Spec) (value : Reference Place → Value) (typed : Place → Option Bytes)
-        (u : Place) (t : Term) (m : ℕ) (v : Place) (r : Region) → region_of (unparsed spec value typed u t m).0 v ≡ Some r →
+        (u : Place) (t : Term) (m : ℕ) (v : Place) (r : Region)
+        → region_of (unparsed spec value typed u t m).0 v ≡ Some r →
         r.first ≡ position_behind (cells_of (before v (unparsed spec value typed u t m).0)) }
 {}
 
 /// What is typed at a node, or below it, changes nothing that is written before it, so the node begins in one position
 /// whatever is typed there.
 pub fn typing_moves_nothing_before()
-    ensures written { (spec : Spec) (value : Reference Place → Value) (typed others : Place → Option Bytes) (v : Place) →
+    ensures written { (spec : Spec) (value : Reference Place → Value)
+        (typed others : Place → Option Bytes) (v : Place) →
         AreTypedAlike v typed others → (u : Place) (t : Term) (m : ℕ) →
         before v (unparsed spec value typed u t m).0 ≡ before v (unparsed spec value others u t m).0 }
     ensures begins { (spec : Spec) (value : Reference Place → Value) (typed others : Place → Option Bytes) (v : Place) →

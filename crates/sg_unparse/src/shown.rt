@@ -15,7 +15,8 @@ use sg_pool::pool::Pool;
 
 // the scheme of a number among those of an operator
 fn scheme_in(schemes: &Row<Scheme>, number: u32) -> Option<&Scheme>
-    ensures { MatchOption result (slice_get schemes.now (number % length schemes.now) ≡ None) (λ s. slice_get schemes.now (number % length schemes.now) ≡ Some s.now) }
+    ensures { MatchOption result (slice_get schemes.now (number % length schemes.now) ≡ None)
+        (λ s. slice_get schemes.now (number % length schemes.now) ≡ Some s.now) }
 {
     let count = schemes.len();
     if count == 0 {
@@ -27,7 +28,8 @@ fn scheme_in(schemes: &Row<Scheme>, number: u32) -> Option<&Scheme>
 /// The scheme of a number of an operator, where numbers are counted round; None exactly where there is no such operator
 /// or it has no scheme.
 pub fn scheme_of(spec: &Spec, op: OpId, number: u32) -> Option<&Scheme>
-    ensures { MatchOption result (scheme_of spec.now op number ≡ None) (λ s. scheme_of spec.now op number ≡ Some s.now) }
+    ensures { MatchOption result (scheme_of spec.now op number ≡ None)
+        (λ s. scheme_of spec.now op number ≡ Some s.now) }
 {
     match spec.ops.place(op.number) {
         Some(operator) => scheme_in(&operator.schemes, number),
