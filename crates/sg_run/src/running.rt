@@ -10,8 +10,8 @@ ghost use Rattle.sg_told.specs.Job.{job};
 ghost use Rattle.sg_told.specs.Told.{joined};
 ghost use Rattle.sg_told.specs.Output.{told, with_spec, shown, checked, performed, first_command};
 ghost use Rattle.sg_told.specs.Reading.{Reading, IsRight, IsRightFor};
-ghost use Rattle.sg_told.specs.World.{world_of, WroteCounted, WholeBlocks};
-ghost use Rattle.sg_told.specs.Parts.{Ends, Played};
+ghost use Rattle.sg_told.specs.World.{world_of, WholeBlocks};
+ghost use Rattle.sg_told.specs.Parts.{Ends, Played, Stopped};
 ghost use Rattle.sg_told.specs.Causes.{IsReadOf, IsRead, LastFailed, SecondFetched, IsSpecRefused, IsNoScript, IsAccepted};
 
 use crate::Status;
@@ -199,6 +199,11 @@ fn run_to_end<S: Shelf, K: Sink>(
         → Ends (world_of S.files S.faults S.calls shelf.old K.written K.faults K.puts sink.old (counted journal.old))
         (told (map string_bytes words.now) r result.replies.items) result.replies.items result.status
         (world_of S.files S.faults S.calls shelf.new K.written K.faults K.puts sink.new (counted journal.new)) }
+    ensures stopped { (r : Reading) → IsRightFor (job (map string_bytes words.now)) result.replies.items r
+        → IsCut result.status → Stopped result.status
+        (world_of S.files S.faults S.calls shelf.old K.written K.faults K.puts sink.old (counted journal.old))
+        (world_of S.files S.faults S.calls shelf.new K.written K.faults K.puts sink.new (counted journal.new))
+        (told (map string_bytes words.now) r) result.replies.items }
 {
     let mut replies = Vec::new(alloc);
     let status = match run_job(alloc, words, shelf, sink, journal, &mut replies) {
@@ -227,7 +232,8 @@ pub fn run<S: Shelf, K: Sink>(
         result.replies.items result.status
         (world_of S.files S.faults S.calls shelf.new K.written K.faults K.puts sink.new (counted journal.new)) }
 
-    // What was written and evaluated, at an end of its own and after it was cut short.
+    // What was written and evaluated, at an end of its own and after it was cut short. Then no reply came past the
+    // block at which that happened: after a put that failed the shelf is not called again.
     ensures output { (r : Reading) → IsRightFor (job (map string_bytes words.now)) result.replies.items r
         → IsEnd result.status → K.written sink.new ≡ appended (K.written sink.old)
         (joined (told (map string_bytes words.now) r result.replies.items).blocks) }
@@ -241,10 +247,10 @@ pub fn run<S: Shelf, K: Sink>(
         → IsEnd result.status → counted journal.new ≡ counted journal.old + sum
         (told (map string_bytes words.now) r result.replies.items).evs }
     ensures cut_short { (r : Reading) → IsRightFor (job (map string_bytes words.now)) result.replies.items r
-        → IsCut result.status → WroteCounted result.status
+        → IsCut result.status → Stopped result.status
         (world_of S.files S.faults S.calls shelf.old K.written K.faults K.puts sink.old (counted journal.old))
         (world_of S.files S.faults S.calls shelf.new K.written K.faults K.puts sink.new (counted journal.new))
-        (told (map string_bytes words.now) r result.replies.items) }
+        (told (map string_bytes words.now) r) result.replies.items }
     ensures after_memory { (r : Reading) → IsRightFor (job (map string_bytes words.now)) result.replies.items r
         → result.status ≡ Status.Memory → WholeBlocks (K.written sink.old) (K.written sink.new)
         (told (map string_bytes words.now) r result.replies.items).blocks }

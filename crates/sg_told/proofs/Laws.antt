@@ -64,21 +64,21 @@ wrote_front_after old between new xs ys k e p w = record {
 sum-take : (xs ys : List ℕ) (k : ℕ) → sum (take (length xs + k) (xs ++ ys)) ≡ sum xs + sum (take k ys)
 sum-take xs ys k = ap sum (take-append-add xs ys k) ∙ sum-append xs (take k ys)
 
-wrote_counted_after : (old between new : World) (t u : Told) (got : List Reply) (status : Status) → Goes old t got between → WroteCounted status between new u
-    → WroteCounted status old new (before t u)
+pub wrote_counted_after : (old between new : World) (t u : Told) (got : List Reply) (status : Status) → Goes old t got between → (c : WroteCounted status between new u)
+    → (w : WroteCounted status old new (before t u)) × (w.k ≡ length t.blocks + c.k)
 wrote_counted_after old between new t u got status p c =
     let least = c.least in let most = c.most in
     let here : sum (take (length t.blocks + c.k) (t.evs ++ u.evs)) ≡ sum t.evs + sum (take c.k u.evs) = rw p.each (sum-take t.evs u.evs c.k) in
     let next : sum (take (length t.blocks + c.k + 1) (t.evs ++ u.evs)) ≡ sum t.evs + sum (take (c.k + 1) u.evs) =
     rw p.each (subst (λ (n : ℕ). sum (take n (t.evs ++ u.evs)) ≡ sum t.evs + sum (take (c.k + 1) u.evs)) (sym (add_assoc (length t.evs) c.k 1)) (sum-take t.evs u.evs (c.k + 1))) in
-    record {
+    (record {
       k = length t.blocks + c.k;
       within = omega (arith, c.within, length-append t.blocks u.blocks);
       memory = λ is. wrote_whole_after old between new t.blocks u.blocks c.k p.output p.puts (c.memory is);
       fault = λ is. wrote_front_after old between new t.blocks u.blocks c.k p.output p.puts (c.fault is);
       least = omega (arith, least, here, p.evaluated);
       most = omega (arith, most, next, p.evaluated);
-    }
+    }, refl)
 
 -- the run goes on over t, and ends in u
 pub goes_and_ends : (old between new : World) (t u : Told) (got more : List Reply) (status : Status) → Goes old t got between → Ends between u more status new
@@ -89,7 +89,7 @@ goes_and_ends old between new t u got more status p q = record {
       ∙ ap (λ (n : ℕ). tallied n old.sink.puts) (sym (length-append t.blocks u.blocks));
   evaluated = λ is. let e = q.evaluated is in omega (arith, p.evaluated, e, sum-append t.evs u.evs);
   finished = q.finished;
-  cut = λ is. wrote_counted_after old between new t u got status p (q.cut is);
+  cut = λ is. (wrote_counted_after old between new t u got status p (q.cut is)).0;
   taken = omega (arith, p.taken, q.taken, length-append got more);
   served = served_then_or_one_more old.shelf between.shelf new.shelf t.requests u.requests got more p.answered p.served q.served;
   calls = λ is. calls_then (length got) (length more) old.shelf.calls between.shelf.calls new.shelf.calls p.served.calls (q.calls is)

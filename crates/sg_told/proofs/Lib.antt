@@ -1,4 +1,5 @@
 pub mod Laws
+pub mod Past
 pub mod Fronts
 pub mod Endings
 pub mod Requests

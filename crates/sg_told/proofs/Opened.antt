@@ -109,6 +109,7 @@ passed_into f g h rb ra old new same p = record {
   replies = p.replies;
   goes = p.goes;
   law = λ more. p.law more ∙ ap (λ (t : Told). before p.so_far t) (same more);
+  none_past = p.none_past;
 }
 
 -- the commands of the script that was fetched

@@ -1,5 +1,5 @@
 -- One part of a run after another, and a request to the shelf within a run
-use Rattle.std.proofs.Common.{◌≡◌, ℕ, List, [], ◌∷◌, ◌++◌, Bool, refl, sym, ap, ◌∙◌, subst, arith, if◌then◌else◌, append-nil, append_assoc}
+use Rattle.std.proofs.Common.{◌≡◌, ℕ, List, [], ◌∷◌, ◌++◌, length, Bool, refl, sym, ap, ◌∙◌, subst, arith, if◌then◌else◌, append-nil, append_assoc, length-append}
 use Rattle.sg_outside.proofs.Tally.{tallied-zero}
 use Rattle.sg_replies.specs.declared.reply.Reply.{Reply}
 use Rattle.sg_replies.specs.Requests.{Request}
@@ -7,16 +7,27 @@ use Rattle.sg_replies.specs.Calls.{ShelfState, Replied, Unanswered}
 use Rattle.sg_replies.proofs.Laws.{served_one, none_or_one_more, unanswered_one_more}
 use Rattle.sg_told.specs.declared.status.Status.{Status}
 use Rattle.sg_told.specs.declared.status.Status.TheVariants.{Memory}
+use Rattle.sg_told.specs.Statuses.{IsCut}
 use Rattle.sg_told.specs.Told.{Told, before, unfinished, taking, asked}
 use Rattle.sg_told.specs.Output.{whole_file}
 use Rattle.sg_told.specs.Opening.{IsFetched}
 use Rattle.sg_told.specs.World.{SinkState, World, world}
-use Rattle.sg_told.specs.Parts.{Ends, Passed, Played}
-use Rattle.sg_told.proofs.Laws.{appended-nil, goes_on, goes_and_ends, before-before, before_nothing, nothing}
+use Rattle.sg_told.specs.Parts.{Ends, NonePast, Stopped, Passed, Played}
+use Rattle.sg_told.proofs.Laws.{appended-nil, goes_on, goes_and_ends, wrote_counted_after, before-before, before_nothing, nothing}
+use Rattle.sg_told.proofs.Past.{past_nothing, past_one, past_after, stopped_as}
 use Rattle.sg_told.proofs.Endings.{ends_memory}
 
+-- no reply
+pub played_nothing : (f : List Reply → Told) (rb ra : List Reply) (status : Status) (old new : World) → ra ≡ rb → Ends old (f []) [] status new → Played f rb ra status old new
+played_nothing f rb ra status old new none e = record {
+  got = [];
+  replies = none ∙ sym (append-nil rb);
+  ends = e;
+  stopped = λ is. record { counted = e.cut is; none_past = past_nothing (e.cut is).k f };
+}
+
 pub played_at : (f : List Reply → Told) (rs : List Reply) (status : Status) (old new : World) → Ends old (f []) [] status new → Played f rs rs status old new
-played_at f rs status old new e = record { got = []; replies = sym (append-nil rs); ends = e }
+played_at f rs status old new e = played_nothing f rs rs status old new refl e
 
 -- the run goes on as next, and ends there
 pub played_after : (f next : List Reply → Told) (rb rm ra : List Reply) (old between new : World) (status : Status)
@@ -26,6 +37,11 @@ played_after f next rb rm ra old between new status p q = record {
   replies = q.replies ∙ ap (λ (rs : List Reply). rs ++ q.got) p.replies ∙ append_assoc rb p.got q.got;
   ends = let ends = goes_and_ends old between new p.so_far (next q.got) p.got q.got status p.goes q.ends in
       subst (λ (t : Told). Ends old t (p.got ++ q.got) status new) (sym (p.law q.got)) ends;
+  stopped = λ is.
+      let s = q.stopped is in
+      let w = wrote_counted_after old between new p.so_far (next q.got) p.got status p.goes s.counted in
+      stopped_as status old new (before p.so_far (next q.got)) f (p.got ++ q.got) (p.law q.got) w.0
+      (subst (λ (k : ℕ). NonePast k f (p.got ++ q.got)) (sym w.1) (past_after f next p.so_far s.counted.k p.got q.got p.none_past p.law s.none_past));
 }
 
 -- the run goes on as g, and then as h
@@ -37,6 +53,8 @@ passed_after f g h rb rm ra old between new p q = record {
   replies = q.replies ∙ ap (λ (rs : List Reply). rs ++ q.got) p.replies ∙ append_assoc rb p.got q.got;
   goes = goes_on old between new p.so_far q.so_far p.got q.got p.goes q.goes;
   law = λ more. ap f (append_assoc p.got q.got more) ∙ p.law (q.got ++ more) ∙ ap (λ (v : Told). before p.so_far v) (q.law more) ∙ before-before p.so_far q.so_far (h more);
+  none_past = subst (λ (k : ℕ). NonePast k f (p.got ++ q.got)) (sym (length-append p.so_far.blocks q.so_far.blocks))
+      (past_after f g p.so_far (length q.so_far.blocks) p.got q.got p.none_past p.law q.none_past);
 }
 
 -- nothing has happened yet
@@ -56,6 +74,7 @@ passed_start f rs w = record {
     sink_later = omega arith;
   };
   law = λ more. sym (before_nothing (f more));
+  none_past = past_nothing (length nothing.blocks) f;
 }
 
 -- the shelf replied
@@ -76,25 +95,22 @@ passed_reply q next reply rb ra shelf shelf' sink n r e = record {
     sink_later = omega arith;
   };
   law = λ more. ap (λ (b : Bool). if b then before (taking q) (next reply more) else unfinished q) r.kind;
+  none_past = past_one (length (taking q).blocks) (asked q next) reply (omega arith);
 }
 
 -- the shelf had no memory
 pub no_reply : (q : Request) (next : Reply → List Reply → Told) (rb ra : List Reply) (shelf shelf' : ShelfState) (sink : SinkState) (n : ℕ)
     → ra ≡ rb → Unanswered shelf shelf' → Played (asked q next) rb ra Memory (world shelf sink n) (world shelf' sink n)
-no_reply q next rb ra shelf shelf' sink n e u = record {
-  got = [];
-  replies = e ∙ sym (append-nil rb);
-  ends = ends_memory shelf shelf' sink n n (unfinished q) [] refl (unanswered_one_more q shelf shelf' u) (omega arith) (omega arith);
-}
+no_reply q next rb ra shelf shelf' sink n e u =
+    played_nothing (asked q next) rb ra Memory (world shelf sink n) (world shelf' sink n) e
+    (ends_memory shelf shelf' sink n n (unfinished q) [] refl (unanswered_one_more q shelf shelf' u) (omega arith) (omega arith))
 
 -- there was no memory to ask
 pub not_asked : (q : Request) (next : Reply → List Reply → Told) (rb ra : List Reply) (shelf : ShelfState) (sink : SinkState) (n : ℕ) → ra ≡ rb
     → Played (asked q next) rb ra Memory (world shelf sink n) (world shelf sink n)
-not_asked q next rb ra shelf sink n e = record {
-  got = [];
-  replies = e ∙ sym (append-nil rb);
-  ends = ends_memory shelf shelf sink n n (unfinished q) [] refl (none_or_one_more (q ∷ []) shelf (omega arith)) (omega arith) (omega arith);
-}
+not_asked q next rb ra shelf sink n e =
+    played_nothing (asked q next) rb ra Memory (world shelf sink n) (world shelf sink n) e
+    (ends_memory shelf shelf sink n n (unfinished q) [] refl (none_or_one_more (q ∷ []) shelf (omega arith)) (omega arith) (omega arith))
 
 -- the one reply more to the fetch of a file, and what follows it
 pub passed_fetched : (name : List ℕ) (next : Reply → List Reply → Told) (rb ra : List Reply) (shelf shelf' : ShelfState) (sink sink' : SinkState) (n : ℕ) (f : IsFetched name rb ra shelf shelf')
@@ -115,14 +131,15 @@ played_fetched name next rb ra shelf shelf' old new n m status f ends =
 pub played_as : (f : List Reply → Told) (rb ra : List Reply) (status other : Status) (old new : World) → other ≡ status → Played f rb ra status old new → Played f rb ra other old new
 played_as f rb ra status other old new e p = subst (λ (s : Status). Played f rb ra s old new) (sym e) p
 
--- no reply
-pub played_nothing : (f : List Reply → Told) (rb ra : List Reply) (status : Status) (old new : World) → ra ≡ rb → Ends old (f []) [] status new → Played f rb ra status old new
-played_nothing f rb ra status old new none e = record { got = []; replies = none ∙ sym (append-nil rb); ends = e }
-
 -- all replies
 pub ends_whole : (f : List Reply → Told) (ra : List Reply) (status ended : Status) (old new : World) → Played f [] ra status old new → ended ≡ status → Ends old (f ra) ra ended new
 ends_whole f ra status ended old new p is =
     subst (λ (s : Status). Ends old (f ra) ra s new) (sym is) (subst (λ (rs : List Reply). Ends old (f rs) rs status new) (sym p.replies) p.ends)
+
+pub stopped_whole : (f : List Reply → Told) (ra : List Reply) (status ended : Status) (old new : World) → Played f [] ra status old new → ended ≡ status → IsCut ended
+    → Stopped ended old new f ra
+stopped_whole f ra status ended old new p is =
+    subst (λ (s : Status). IsCut s → Stopped s old new f ra) (sym is) (subst (λ (rs : List Reply). IsCut status → Stopped status old new f rs) (sym p.replies) p.stopped)
 
 -- the same, after replies that are known
 pub played_from : (f : List Reply → Told) (rb rs ra : List Reply) (status : Status) (old new : World) → rb ≡ rs → Played f rb ra status old new → Played f rs ra status old new

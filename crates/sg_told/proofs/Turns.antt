@@ -23,8 +23,9 @@ use Rattle.sg_told.specs.Opening.{IsQuiet}
 use Rattle.sg_told.specs.Told.{Told, before, unfinished, taking}
 use Rattle.sg_told.specs.Session.{Desk, telling, turn, asks, session}
 use Rattle.sg_told.specs.World.{SinkState, World, world}
-use Rattle.sg_told.specs.Parts.{Ends, Passed, Played}
+use Rattle.sg_told.specs.Parts.{Ends, NonePast, Passed, Played}
 use Rattle.sg_told.proofs.Endings.{one_block, nothing_first, refused_whole, first_front, ends_memory, ends_unput, ends_done}
+use Rattle.sg_told.proofs.Past.{past_nothing, past_one, stopped_as}
 use Rattle.sg_told.proofs.Requests.{played_after, played_at}
 
 -- the block of a command
@@ -66,6 +67,12 @@ steps_length : (a : Ask) (got : List Reply) (out : Step) → Comes a got out →
 steps_length (Tells step) got out (none, is) = ap length (sym none)
 steps_length (Asks request answer) got out (reply, is_reply, kind, is) = ap length (sym is_reply)
 
+-- the reply to a command's request comes before its block
+comes_past : (d : Desk) (next : editor.Session → List Reply → Told) (a : Ask) (got : List Reply) (out : Step) (k : ℕ) → Comes a got out → NonePast k (turn d next a) got
+comes_past d next (Tells step) got out k (none, is) = subst (λ (g : List Reply). NonePast k (turn d next (Tells step)) g) (sym none) (past_nothing k (turn d next (Tells step)))
+comes_past d next (Asks request answer) got out k (reply, is_reply, kind, is) =
+    subst (λ (g : List Reply). NonePast k (turn d next (Asks request answer)) g) (sym is_reply) (past_one k (turn d next (Asks request answer)) reply (omega arith))
+
 -- the block that an editor shows is that of the step which it took
 pub block_of_step : (spec : Spec) (w h : ℕ) (s t : editor.Session) (m n : Message) (ev count : ℕ) → s ≡ t → m ≡ n → ev ≡ count → screen spec w h s m ev ≡ screen spec w h t n count
 block_of_step spec w h s t m n ev count a b c = λ i. screen spec w h (a i) (b i) (c i)
@@ -95,6 +102,7 @@ command_passed d s c e said now rb ra shelf shelf' old new n m stepped put puts 
         sink_later = later;
       };
       law = turn_law d (λ x more. session d x commands more) (asks d s c) stepped.got stepped.step stepped.comes;
+      none_past = comes_past d (λ x more. session d x commands more) (asks d s c) stepped.got stepped.step 1 stepped.comes;
     })
 
 -- a request more without a reply
@@ -143,7 +151,13 @@ command_unput d s c e said now rb ra shelf shelf' old new n m status stepped is_
       | inr p ↦ refused_whole old new (block_of d out) u.blocks (memory is).0 p
     ])
     (λ is. first_front old new (block_of d out) u.blocks (subst (λ (b : List ℕ). CutShort old.written new.written b) block (fault is).0) (fault is).1) (λ is. (fault is).2) later (omega (arith, counts, many)) in
-    record { got = stepped.got; replies = stepped.replies; ends = subst (λ (t : Told). Ends (world shelf old n) t stepped.got status (world shelf' new m)) (sym law) ends }
+    record {
+      got = stepped.got;
+      replies = stepped.replies;
+      ends = subst (λ (t : Told). Ends (world shelf old n) t stepped.got status (world shelf' new m)) (sym law) ends;
+      stopped = λ is. stopped_as status (world shelf old n) (world shelf' new m) told (turn d next (asks d s c)) stepped.got law (ends.cut is)
+          (comes_past d next (asks d s c) stepped.got out (ends.cut is).k stepped.comes);
+    }
 
 -- what is left to tell where a command was cut short
 record Short (shelf : ShelfState) (t : Told) (got : List Reply) (shelf' : ShelfState) (entries : ℕ) : Type 0 where
@@ -184,6 +198,15 @@ turn_short d next (Asks request answer) got now shelf shelf' quiet (inr (reply, 
       most = omega (arith, few);
     })) served
 
+cut_past : (d : Desk) (next : editor.Session → List Reply → Told) (a : Ask) (got : List Reply) (now : List Instance) (k : ℕ) → IsCutShort d.spec a got now
+    → NonePast k (turn d next a) got
+cut_past d next (Tells step) got now k (none, some) =
+    subst (λ (g : List Reply). NonePast k (turn d next (Tells step)) g) (sym none) (past_nothing k (turn d next (Tells step)))
+cut_past d next (Asks request answer) got now k (inl (none, nothing)) =
+    subst (λ (g : List Reply). NonePast k (turn d next (Asks request answer)) g) (sym none) (past_nothing k (turn d next (Asks request answer)))
+cut_past d next (Asks request answer) got now k (inr (reply, is_reply, kind, some)) =
+    subst (λ (g : List Reply). NonePast k (turn d next (Asks request answer)) g) (sym is_reply) (past_one k (turn d next (Asks request answer)) reply (omega arith))
+
 -- a command was cut short
 pub command_cut : (d : Desk) (s : editor.Session) (c : Command) (now : List Instance) (rb ra : List Reply) (shelf shelf' : ShelfState) (sink : SinkState) (n m : ℕ)
     → Interrupted d.spec (asks d s c) now rb ra shelf shelf' → m ≡ n + length now
@@ -193,10 +216,13 @@ command_cut d s c now rb ra shelf shelf' sink n m cut counts commands =
     let short : Short shelf (turn d next (asks d s c) cut.got) cut.got shelf' (length now) =
     turn_short d next (asks d s c) cut.got now shelf shelf' (session_quiet d commands) cut.cut cut.served in
     let most = short.most in
+    let ends : Ends (world shelf sink n) (turn d next (asks d s c) cut.got) cut.got Memory (world shelf' sink m) =
+    ends_memory shelf shelf' sink n m (turn d next (asks d s c) cut.got) cut.got short.taken short.served (omega (arith, counts)) (omega (arith, counts, most)) in
     record {
       got = cut.got;
       replies = cut.replies;
-      ends = ends_memory shelf shelf' sink n m (turn d next (asks d s c) cut.got) cut.got short.taken short.served (omega (arith, counts)) (omega (arith, counts, most));
+      ends = ends;
+      stopped = λ is. record { counted = ends.cut is; none_past = cut_past d next (asks d s c) cut.got now (ends.cut is).k cut.cut };
     }
 
 -- the next command

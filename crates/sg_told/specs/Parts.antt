@@ -1,5 +1,5 @@
 -- The parts of a run
-use Rattle.std.specs.Prelude.{◌≡◌, ◌≢◌, ◌≤◌, ℕ, ◌+◌, List, ◌++◌, length, sum, Some}
+use Rattle.std.specs.Prelude.{◌≡◌, ◌≢◌, ◌≤◌, ℕ, ◌+◌, List, [], ◌∷◌, ◌++◌, length, sum, Some}
 use Rattle.sg_outside.specs.Count.{Rose, tallied}
 use Rattle.sg_outside.specs.Sink.{CutShort, appended}
 use Rattle.sg_replies.specs.declared.reply.Reply.{Reply}
@@ -9,6 +9,15 @@ use Rattle.sg_told.specs.declared.status.Status.TheVariants.{Memory, SinkFault}
 use Rattle.sg_told.specs.Statuses.{IsEnd, IsCut}
 use Rattle.sg_told.specs.Told.{Told, before as before_told, joined}
 use Rattle.sg_told.specs.World.{SinkState, World, WroteCounted}
+
+-- no reply came past the block that follows the first k: without the last one f tells no more than these
+abbrev pub NonePast : ℕ → (List Reply → Told) → List Reply → Type 0
+NonePast k f got = (front : List Reply) (last : Reply) → got ≡ front ++ last ∷ [] → length (f front).blocks ≤ k
+
+-- the run was cut short in what f tells by these replies, none of which came later
+pub record Stopped (status : Status) (old new : World) (f : List Reply → Told) (got : List Reply) : Type 0 where
+  pub counted : WroteCounted status old new (f got)
+  pub none_past : NonePast counted.k f got
 
 -- the run went on over t, which took these replies
 pub record Goes (old : World) (t : Told) (got : List Reply) (new : World) : Type 0 where
@@ -41,12 +50,14 @@ pub record Passed (f next : List Reply → Told) (before after : List Reply) (ol
   pub replies : after ≡ before ++ got
   pub goes : Goes old so_far got new
   pub law : (more : List Reply) → f (got ++ more) ≡ before_told so_far (next more)
+  pub none_past : NonePast (length so_far.blocks) f got
 
 -- the replies grew by some that f takes, and the run ended so
 pub record Played (f : List Reply → Told) (before after : List Reply) (status : Status) (old new : World) : Type 0 where
   pub got : List Reply
   pub replies : after ≡ before ++ got
   pub ends : Ends old (f got) got status new
+  pub stopped : IsCut status → Stopped status old new f got
 
 -- a text that ends the run with this status was put, once, and so the run ended
 pub record Finished (status : Status) (bytes : List ℕ) (old : SinkState) (ended : Status)
