@@ -1,20 +1,22 @@
 -- Lemmas on the productions of a symbol, and on the nodes that begin them.
-use Rattle.std.proofs.Common.{◌≡◌, ℕ, ◌+◌, ◌<◌, ◌≤◌, inl, inr, List, [], ◌∷◌, ◌++◌, length, get_or, refl, sym, ap, ◌∙◌, subst, arith, Some, None}
+use Rattle.std.proofs.Common.{◌≡◌, ℕ, ◌+◌, ◌<◌, suc, ◌≤◌, inl, inr, List, [], ◌∷◌, ◌++◌, length, get_or, refl, sym, ap, ◌∙◌, subst, arith, Some, None}
 use Rattle.std.specs.Prelude.{◌↔◌, slice_get, slice_index, Contains}
 use Rattle.std.proofs.Math.ListN.{set}
 use Rattle.std.proofs.lemmas.Bool.{cases_eq, cases_lt}
 use Rattle.std.proofs.lemmas.List.{get_or-set_other, get_or-set_same}
-use Rattle.std.proofs.lemmas.Option.{slice_get_within, get_or_from_slice_get, none-some}
-use Rattle.std.proofs.lemmas.List.Elements.{Contains-push, Contains-push_cases, Contains-append_left}
+use Rattle.std.proofs.lemmas.Option.{slice_get_within, get_or_from_slice_get, same_Some, none-some}
+use Rattle.std.proofs.lemmas.List.Elements.{All-contains, Contains-push, Contains-push_cases, Contains-append_left}
 use Rattle.sg_grammar.specs.declared.grammar.Production.{Production}
 use Rattle.sg_grammar.specs.Grammar.{Grammar}
+use Rattle.sg_grammar.specs.WellFormed.{IsRule, IsWellFormed}
 use Rattle.sg_lalr.specs.declared.lookaheads.Node.{Node}
 use Rattle.sg_lalr.specs.Items.{item}
 use Rattle.sg_lalr.specs.Closure.{HasLeft}
-use Rattle.sg_lalr.specs.Lefts.{AreLefts}
+use Rattle.sg_lalr.specs.Lefts.{AreLefts, HasHead, AreHeads}
 use Rattle.sg_lalr.specs.Lookaheads.{node_at, BeginsWith}
 use Rattle.sg_lalr.proofs.CornerLemmas.{HasLeft-at, HasLeft-within}
 use Rattle.sg_lalr.specs.Slots.{IsOneEach, OfSome}
+use Rattle.sg_lalr.proofs.RisingLemmas.{Contains-nil}
 
 -- each row has the first n of the symbol's productions
 abbrev pub LeftsTo : List Production → List (List ℕ) → ℕ → Type 0
@@ -45,6 +47,54 @@ lefts-more rules lefts n r row is low new l X q = elim (cases_eq X r.left) [
 
 pub lefts-all : (rules : List Production) (lefts : List (List ℕ)) (n : ℕ) → length rules ≤ n → LeftsTo rules lefts n → AreLefts rules lefts
 lefts-all rules lefts n all l X q = (λ h. ((l X q).0 h).1, λ h. (l X q).1 ((let k = HasLeft-within rules X q h in omega (arith, k, all)), h))
+
+-- each row has the symbols with which the symbol's productions begin
+pub heads-none : (heads : List (List ℕ)) → ((X : ℕ) → get_or heads X [] ≡ []) → AreHeads [] heads
+heads-none heads none X Y = (λ c. absurd (Contains-nil Y (subst (λ l. Contains l Y) (none X) c)), λ h. absurd (Contains-nil h.0 h.1))
+
+head-older : (rules : List Production) (r : Production) (X Y : ℕ) → HasHead rules X Y → HasHead (rules ++ r ∷ []) X Y
+head-older rules r X Y h = (h.0, Contains-append_left rules (r ∷ []) h.0 h.1, h.2, h.3)
+
+pub heads-more : (rules : List Production) (heads : List (List ℕ)) (r : Production) (Z : ℕ) (row : List ℕ) → slice_get r.right 0 ≡ Some Z → r.left < length heads → row ≡ get_or heads r.left [] ++ Z ∷ [] → AreHeads rules heads → AreHeads (rules ++ r ∷ []) (set heads r.left row)
+heads-more rules heads r Z row first low new are X Y = elim (cases_eq X r.left) [
+  | inl same ↦
+      let here : get_or (set heads r.left row) X [] ≡ get_or heads X [] ++ Z ∷ [] = ap (λ V. get_or (set heads r.left row) V []) same ∙ get_or-set_same heads r.left row [] low ∙ new ∙ ap (λ V. get_or heads V [] ++ Z ∷ []) (sym same) in (
+        λ c. elim (Contains-push_cases (get_or heads X []) Z Y (subst (λ l. Contains l Y) here c)) [
+          | inl was ↦ head-older rules r X Y ((are X Y).0 was)
+          | inr e ↦ (r, Contains-push rules r, same, first ∙ ap Some e)
+        ],
+        λ h. subst (λ l. Contains l Y) (sym here) (elim (Contains-push_cases rules r h.0 h.1) [
+          | inl before ↦ Contains-append_left (get_or heads X []) (Z ∷ []) Y ((are X Y).1 (h.0, before, h.2, h.3))
+          | inr e ↦ subst (Contains (get_or heads X [] ++ Z ∷ [])) (same_Some Z Y (sym first ∙ ap (λ (s : Production). slice_get s.right 0) e ∙ h.3)) (Contains-push (get_or heads X []) Z)
+        ]),
+      )
+  | inr other ↦
+      let here : get_or (set heads r.left row) X [] ≡ get_or heads X [] = get_or-set_other heads r.left X row [] other in (
+        λ c. head-older rules r X Y ((are X Y).0 (subst (λ l. Contains l Y) here c)),
+        λ h. subst (λ l. Contains l Y) (sym here) (elim (Contains-push_cases rules r h.0 h.1) [
+          | inl before ↦ (are X Y).1 (h.0, before, h.2, h.3)
+          | inr e ↦ absurd (other (h.2 ∙ ap (λ (s : Production). s.left) (sym e)))
+        ]),
+      )
+]
+
+pub heads-same : (rules : List Production) (heads : List (List ℕ)) (r : Production) → slice_get r.right 0 ≡ None → AreHeads rules heads → AreHeads (rules ++ r ∷ []) heads
+heads-same rules heads r none are X Y = (
+  λ c. head-older rules r X Y ((are X Y).0 c),
+  λ h. elim (Contains-push_cases rules r h.0 h.1) [
+    | inl before ↦ (are X Y).1 (h.0, before, h.2, h.3)
+    | inr e ↦ absurd (none-some Y (sym none ∙ ap (λ (s : Production). slice_get s.right 0) e ∙ h.3))
+  ],
+)
+
+-- what begins a production is a symbol
+pub head-within : (g : Grammar) (X Y : ℕ) → IsWellFormed g → HasHead g.rules X Y → Y < g.symbols
+head-within g X Y formed h =
+    let first = suc (length g.entries) in
+    let r = h.0 in
+    let rule : IsRule first g.terminals g.symbols r = All-contains (IsRule first g.terminals g.symbols) g.rules r formed.rules h.1 in
+    let in_right : Contains r.right Y = (0, slice_get_within r.right 0 Y h.3, get_or_from_slice_get r.right 0 Y Y h.3) in
+    (All-contains (λ Z. (first ≤ Z) × (Z < g.symbols)) r.right Y rule.2.1 in_right).1
 
 -- what stands in the row of a symbol is a production of it
 pub row-left : (rules : List Production) (lefts : List (List ℕ)) (row : List ℕ) (x q : ℕ) → AreLefts rules lefts → row ≡ get_or lefts x [] → Contains row q → HasLeft rules x q

@@ -8,11 +8,13 @@ use Rattle.std.proofs.Math.ListN.{set}
 use Rattle.std.proofs.lemmas.Bool.{cases_lt, cases_eq}
 use Rattle.std.proofs.lemmas.Cmp.{nat_eq_equiv}
 use Rattle.std.proofs.lemmas.List.{take_more, get_or_append_left, get_or_push, get_or_past, length_push, get_or-set_same, get_or-set_other}
-use Rattle.std.proofs.lemmas.List.Elements.{Contains-get_or, Contains-push, Contains-push_cases, Contains-append_left}
+use Rattle.std.proofs.lemmas.List.Elements.{Contains-get_or, Contains-push, Contains-push_cases, Contains-append_left, Contains-append_right, Contains-append_cases}
 use Rattle.std.proofs.lemmas.List.Quantifiers.{all_pairs_push}
 use Rattle.std.proofs.lemmas.List.Sorted.{Contains-permutation, IsPermutation-sym, IsNonDecreasingBy-from_sort}
 use Rattle.std.proofs.lemmas.Map.Keys.{IsDistinct-IsPermutation}
 use Rattle.std.proofs.lemmas.Map.Made.{AllPairs-from_IsDistinct, IsDistinct-from_AllPairs}
+use Rattle.std.proofs.lemmas.Map.Steps.{length-le_from_distinct_below}
+use Rattle.std.proofs.lemmas.Map.Views.{Contains-from_any}
 use Rattle.std.proofs.lemmas.Option.{slice_get_within, get_or_from_slice_get, same_Some, none-some}
 use Rattle.sg_grammar.specs.declared.grammar.Production.{Production}
 use Rattle.sg_grammar.specs.Grammar.{Grammar}
@@ -39,40 +41,6 @@ opens-left g X q formed o =
     let low = rule.0 in
     let high = rule.1 in
     (omega (arith, is, low), omega (arith, is, high))
-
--- the numbers below n that are in the set
-abbrev pub Listed : List Bool → List ℕ → ℕ → Type 0
-Listed set numbers n = (q : ℕ) → Contains numbers q ↔ ((q < n) × Has set q)
-
-pub listed-none : (set : List Bool) → Listed set [] 0
-listed-none set q = (λ c. absurd (Contains-nil q c), λ h. absurd (let l = h.0 in omega (arith, l)))
-
-pub listed-more : (set : List Bool) (numbers : List ℕ) (n : ℕ) → Has set n → Listed set numbers n → Listed set (numbers ++ n ∷ []) (n + 1)
-listed-more set numbers n has l q = (
-  λ c. elim (Contains-push_cases numbers n q c) [
-    | inl old ↦ (let h = (l q).0 old in let low = h.0 in (omega (arith, low), h.1))
-    | inr e ↦ subst (λ k. (k < n + 1) × Has set k) e (omega arith, has)
-  ],
-  λ h. elim (cases_lt q n) [
-    | inl low ↦ Contains-append_left numbers (n ∷ []) q ((l q).1 (low, h.1))
-    | inr high ↦
-        let k = h.0 in
-        let e : n ≡ q = omega (arith, k, high) in
-        subst (Contains (numbers ++ n ∷ [])) e (Contains-push numbers n)
-  ],
-)
-
-pub listed-same : (set : List Bool) (numbers : List ℕ) (n : ℕ) → (Has set n → ⊥) → Listed set numbers n → Listed set numbers (n + 1)
-listed-same set numbers n none l q = (
-  λ c. (let h = (l q).0 c in let low = h.0 in (omega (arith, low), h.1)),
-  λ h. elim (cases_lt q n) [
-    | inl low ↦ (l q).1 (low, h.1)
-    | inr high ↦ absurd (let k = h.0 in let e : q ≡ n = omega (arith, k, high) in none (subst (Has set) e h.1))
-  ],
-)
-
-pub listed-all : (set : List Bool) (numbers : List ℕ) (n : ℕ) → length set ≤ n → Listed set numbers n → (q : ℕ) → Contains numbers q ↔ Has set q
-listed-all set numbers n all l q = (λ c. ((l q).0 c).1, λ h. (l q).1 ((let low = has-below set q h in omega (arith, low, all)), h))
 
 -- the lists of the first n symbols
 pub record OpeningsTo (g : Grammar) (lists : List (List ℕ)) (n : ℕ) : Type 0 where
@@ -113,6 +81,27 @@ openings-all g lists n formed end o =
       ];
     }
 
+-- what stands in the rows of some symbols
+abbrev pub GathersAll : List (List ℕ) → List ℕ → List ℕ → Type 0
+GathersAll rows symbols list = (q : ℕ) → Contains list q ↔ ((Y : ℕ) × Contains symbols Y × Contains (slice_index_or rows Y []) q)
+
+pub gathers-none : (rows : List (List ℕ)) → GathersAll rows [] []
+gathers-none rows q = (λ c. absurd (Contains-nil q c), λ h. absurd (Contains-nil h.0 h.1))
+
+pub gathers-more : (rows : List (List ℕ)) (symbols list : List ℕ) (k Y : ℕ) → k < length symbols → Y ≡ get_or symbols k Y → GathersAll rows (take k symbols) list → GathersAll rows (take (k + 1) symbols) (list ++ slice_index_or rows Y [])
+gathers-more rows symbols list k Y low is gathers q =
+    let row = slice_index_or rows Y [] in
+    let more : take (k + 1) symbols ≡ take k symbols ++ Y ∷ [] = take_more symbols k Y low ∙ ap (λ y. take k symbols ++ y ∷ []) (sym is) in (
+      λ c. elim (Contains-append_cases list row q c) [
+        | inl old ↦ (let by = (gathers q).0 old in (by.0, subst (λ l. Contains l by.0) (sym more) (Contains-append_left (take k symbols) (Y ∷ []) by.0 by.1), by.2))
+        | inr new ↦ (Y, subst (λ l. Contains l Y) (sym more) (Contains-push (take k symbols) Y), new)
+      ],
+      λ h. elim (Contains-push_cases (take k symbols) Y h.0 (subst (λ l. Contains l h.0) more h.1)) [
+        | inl before ↦ Contains-append_left list row q ((gathers q).1 (h.0, before, h.2))
+        | inr e ↦ Contains-append_right list row q (subst (λ y. Contains (slice_index_or rows y []) q) (sym e) h.2)
+      ],
+    )
+
 -- a set with a number more
 has-set : (there : List Bool) (p q : ℕ) → p < length there → Has (set there p true) q ↔ (Has there q ⊎ (p ≡ q))
 has-set there p q low = (
@@ -149,6 +138,10 @@ opened-old there list p low has o = record {
     λ h. elim ((has-set there p q low).0 h) [ inl old ↦ (o.exact q).1 old | inr e ↦ (o.exact q).1 (subst (Has there) e has) ],
   );
 }
+
+-- numbers that are each once in the set are no more than its width
+pub opened-few : (there : List Bool) (list : List ℕ) → AreOpened there list → length list ≤ length there
+opened-few there list o = length-le_from_distinct_below list (length there) (IsDistinct-from_AllPairs unsigned_Decides list o.apart) (λ q e. has-below there q ((o.exact q).0 (Contains-from_any (λ x y. (unsigned_Decides x y).0) q list e)))
 
 -- the set has gained these numbers
 abbrev pub GainsAll : List Bool → List Bool → List ℕ → Type 0

@@ -1,5 +1,5 @@
 -- The closure of a list of items: with an item it has the beginnings of the productions of the symbol behind its dot.
-use Rattle.std.specs.Prelude.{◌≡◌, ◌≢◌, ◌↔◌, ℕ, zero, ◌+◌, ◌<◌, ◌⊎◌, Bool, List, [], Some, slice_get, slice_index_or, length, All, AllPairs, Contains}
+use Rattle.std.specs.Prelude.{◌≡◌, ◌≢◌, ◌↔◌, ℕ, zero, ◌+◌, ◌<◌, Bool, List, [], Some, slice_get, slice_index_or, length, All, AllPairs, Contains}
 use Rattle.sg_grammar.specs.declared.grammar.Production.{Production}
 use Rattle.sg_grammar.specs.Grammar.{Grammar, symbol_at}
 use Rattle.sg_sets.specs.Members.{Has}
@@ -22,11 +22,6 @@ pub record IsClosure (g : Grammar) (kernel items : List Item) : Type 0 where
 -- production b has the symbol as its left side
 abbrev pub HasLeft : List Production → ℕ → ℕ → Type 0
 HasLeft rules X b = (r : Production) × (slice_get rules b ≡ Some r) × (X ≡ r.left)
-
--- production b is a, or its left side begins the right side of a
-abbrev pub LeadsTo : List Production → ℕ → ℕ → Type 0
-LeadsTo rules a b = (b ≡ a) ⊎ ((r : Production) × (X : ℕ) × (slice_get rules a ≡ Some r)
-    × (slice_get r.right 0 ≡ Some X) × HasLeft rules X b)
 
 -- the left side of a production is a left corner of a's right side, in some steps or none
 pub data Corner (rules : List Production) : ℕ → ℕ → Type 0 where

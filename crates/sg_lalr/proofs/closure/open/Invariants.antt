@@ -1,4 +1,4 @@
-use Rattle.std.proofs.Common.{◌≡◌, length, take}
+use Rattle.std.proofs.Common.{◌≡◌, ℕ, List, ◌++◌, length, take}
 use Rattle.sg_lalr.specs.Closure.{AreOpened}
 use Rattle.sg_lalr.proofs.OpeningLemmas.{GainsAll}
 use Rattle.sg_lalr.proofs.closure.open.Given as goal
@@ -8,4 +8,5 @@ invariant-loop-p l = record {
   width : length l.there ≡ length l.initial.there;
   opened : AreOpened l.there l.opened.items;
   gains : GainsAll l.initial.there l.there (take l.p-index l.list);
+  keeps : (more : List ℕ) × (l.opened.items ≡ l.initial.opened.items ++ more);
 }
