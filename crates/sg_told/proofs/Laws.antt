@@ -70,15 +70,17 @@ wrote_counted_after old between new t u got status p c =
     let least = c.least in let most = c.most in
     let here : sum (take (length t.blocks + c.k) (t.evs ++ u.evs)) ≡ sum t.evs + sum (take c.k u.evs) = rw p.each (sum-take t.evs u.evs c.k) in
     let next : sum (take (length t.blocks + c.k + 1) (t.evs ++ u.evs)) ≡ sum t.evs + sum (take (c.k + 1) u.evs) =
-    rw p.each (subst (λ (n : ℕ). sum (take n (t.evs ++ u.evs)) ≡ sum t.evs + sum (take (c.k + 1) u.evs)) (sym (add_assoc (length t.evs) c.k 1)) (sum-take t.evs u.evs (c.k + 1))) in
-    (record {
-      k = length t.blocks + c.k;
-      within = omega (arith, c.within, length-append t.blocks u.blocks);
-      memory = λ is. wrote_whole_after old between new t.blocks u.blocks c.k p.output p.puts (c.memory is);
-      fault = λ is. wrote_front_after old between new t.blocks u.blocks c.k p.output p.puts (c.fault is);
-      least = omega (arith, least, here, p.evaluated);
-      most = omega (arith, most, next, p.evaluated);
-    }, refl)
+    rw p.each (subst (λ (n : ℕ). sum (take n (t.evs ++ u.evs)) ≡ sum t.evs + sum (take (c.k + 1) u.evs)) (sym (add_assoc (length t.evs) c.k 1)) (sum-take t.evs u.evs (c.k + 1))) in (
+      record {
+        k = length t.blocks + c.k;
+        within = omega (arith, c.within, length-append t.blocks u.blocks);
+        memory = λ is. wrote_whole_after old between new t.blocks u.blocks c.k p.output p.puts (c.memory is);
+        fault = λ is. wrote_front_after old between new t.blocks u.blocks c.k p.output p.puts (c.fault is);
+        least = omega (arith, least, here, p.evaluated);
+        most = omega (arith, most, next, p.evaluated);
+      },
+      refl,
+    )
 
 -- the run goes on over t, and ends in u
 pub goes_and_ends : (old between new : World) (t u : Told) (got more : List Reply) (status : Status) → Goes old t got between → Ends between u more status new

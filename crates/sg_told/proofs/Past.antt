@@ -38,11 +38,11 @@ pub past_after : (f next : List Reply → Told) (t : Told) (k : ℕ) (got more :
 past_after f next t k got more p law q front last e = elim (last_of more) [
   | inl none ↦ let h = p front last (sym (append-nil got) ∙ ap (λ (rs : List Reply). got ++ rs) (sym none) ∙ e) in omega (arith, h)
   | inr m ↦
-    let same : got ++ m.0 ≡ front = same_front (got ++ m.0) front m.1 last (append_assoc got m.0 (m.1 ∷ []) ∙ ap (λ (rs : List Reply). got ++ rs) (sym m.2) ∙ e) in
-    let h = q m.0 m.1 m.2 in
-    let n : length (f front).blocks ≡ length (t.blocks ++ (next m.0).blocks) =
-    ap (λ (rs : List Reply). length (f rs).blocks) (sym same) ∙ ap (λ (v : Told). length v.blocks) (law m.0) in
-    omega (arith, h, n, length-append t.blocks (next m.0).blocks)
+      let same : got ++ m.0 ≡ front = same_front (got ++ m.0) front m.1 last (append_assoc got m.0 (m.1 ∷ []) ∙ ap (λ (rs : List Reply). got ++ rs) (sym m.2) ∙ e) in
+      let h = q m.0 m.1 m.2 in
+      let n : length (f front).blocks ≡ length (t.blocks ++ (next m.0).blocks) =
+      ap (λ (rs : List Reply). length (f rs).blocks) (sym same) ∙ ap (λ (v : Told). length v.blocks) (law m.0) in
+      omega (arith, h, n, length-append t.blocks (next m.0).blocks)
 ]
 
 -- what is told is what f tells
