@@ -3,7 +3,7 @@ use Rattle.std.specs.Prelude.{Some, slice_get, Contains}
 use Rattle.std.proofs.lemmas.Bool.{false≢true}
 use Rattle.std.proofs.lemmas.List.{get_or_default}
 use Rattle.std.proofs.lemmas.List.Elements.{Contains-get_or}
-use Rattle.std.proofs.lemmas.Option.{same_Some}
+use Rattle.std.proofs.lemmas.Option.{same_Some, slice_get_within}
 use Rattle.sg_kinds.specs.declared.spec.Occurrence.{Occurrence}
 use Rattle.sg_kinds.specs.declared.spec.Rule.{Rule}
 use Rattle.sg_kinds.specs.declared.spec.Spec.{Spec}
@@ -15,8 +15,24 @@ use Rattle.sg_propagate.proofs.asked.has_other.Goals as goal
 read_is : (spec s : Spec) (rs : List Rule) (i rule : ℕ) (r : Rule) → s ≡ spec → rs ≡ s.rules → i ≡ rule → slice_get rs i ≡ Some r → slice_get spec.rules rule ≡ Some r
 read_is spec s rs i rule r same rows number found = ap (slice_get spec.rules) (sym number) ∙ ap (λ (xs : List Rule). slice_get xs i) (ap (λ (z : Spec). z.rules) (sym same) ∙ sym rows) ∙ found
 
+-- and the number is that of a row
+is_row : (spec s : Spec) (rs : List Rule) (i rule : ℕ) (r : Rule) → s ≡ spec → rs ≡ s.rules → i ≡ rule → slice_get spec.rules rule ≡ Some r → i < length rs
+is_row spec s rs i rule r same rows number found =
+    let low = slice_get_within spec.rules rule r found in
+    let long = ap length (rows ∙ ap (λ (z : Spec). z.rules) same) in
+    omega (arith, low, long, number)
+
 abbrev nothing : Occurrence
 nothing = record { at = 0; slot = 0 }
+
+-- where no argument is looked at
+pub returns-then-none_shows : goal.returns-then-none_shows
+returns-then-none_shows c = λ r at. (λ yes. absurd (false≢true yes), λ has. absurd (c.none_shows.ensures c.if-none_shows.true c.args.left has.0 has.2))
+
+pub item-requires : goal.item-requires
+item-requires c =
+    let o = c.requires.operator in
+    is_row c.args.terms.now.spec c.spec.result.now c.as_slice.result.now c.rule.inside.number c.args.rule o.0 c.spec.ensures c.as_slice.ensures c.rule.view_is o.1
 
 pub shows_other-requires-clause-vertex : goal.shows_other-requires-clause-vertex
 shows_other-requires-clause-vertex c =
