@@ -1,9 +1,10 @@
 -- What a node writes, item by item.
-use Rattle.std.specs.Prelude.{◌≡◌, refl, ℕ, zero, suc, ◌+◌, ◌-◌, ◌<◌, ◌≤◌, min, Bool, true, false, if◌then◌else◌, List, [], ◌∷◌, ◌++◌, length, map, drop, Option, Some, None, slice_get, option_map, unwrap_or}
+use Rattle.std.specs.Prelude.{◌≡◌, refl, ℕ, zero, suc, ◌+◌, ◌-◌, ◌<◌, ◌≤◌, min, Bool, true, false, if◌then◌else◌, List, [], ◌∷◌, ◌++◌, length, map, drop, Option, Some, None, slice_get, option_map, unwrap_or, Result, IfOk}
 use Rattle.std.proofs.Common.{sym, ap, ◌∙◌, subst, arith, get_or}
 use Rattle.std.proofs.Math.ListN.{drop_of_length-le}
 use Rattle.std.proofs.Math.Seq.{drop-cons}
 use Rattle.std.proofs.lemmas.List.{length-take}
+use Rattle.std.proofs.lemmas.Result.{IfOk-weaker}
 use Rattle.sg_kinds.specs.Values.{Bytes}
 use Rattle.sg_kinds.specs.Terms.{Term, Terms, Leaf, Node, NoTerm, AndTerm, terms_of}
 use Rattle.sg_kinds.specs.Places.{Place}
@@ -22,7 +23,7 @@ use Rattle.sg_unparse.specs.Along.{node_along, stored, is_captured, typed_in, it
 use Rattle.sg_unparse.specs.Cells.{Mark, Writes, Closed, Writing, nothing, in_turn, as_they_are, plain, pieces, placed, ended, cells_in, content, items_of, goes_on, unparsed_among}
 use Rattle.sg_unparse.specs.Page.{all_cells, cells_of, spans_behind}
 use Rattle.sg_unparse.specs.Written.{HoldsMarks, Wrote, by_node, on_page, sheet_of}
-use Rattle.sg_unparse.specs.Sheet.{kept_cells}
+use Rattle.sg_unparse.specs.Sheet.{Sheet, kept_cells}
 use Rattle.sg_unparse.specs.declared.writer.Writer.{Writer}
 use Rattle.sg_unparse.proofs.Streams.{length-all_cells}
 use Rattle.sg_unparse.proofs.Writing.{wrote_as, wrote_nothing, wrote_turn}
@@ -128,7 +129,7 @@ spans_cut at n total (Closed u k ∷ xs) h =
     ∙ ap (λ b. record { node = at u; from = min (n - k) (min 1048576 total); to = b } ∷ map (on_page at 1048576) (spans_behind n xs)) to
     ∙ ap (λ ss. on_page at (min 1048576 total) (record { node = u; from = n - k; to = n }) ∷ ss) (spans_cut at n total xs h)
 
-pub sheet_written : (at : Place → NodeId) (w : Writer) (marks : List Mark) (m : ℕ) → HoldsMarks at w marks m → record { cells = kept_cells w.text.items w.runs.items; spans = w.spans.items; more = w.more } ≡ sheet_of at marks
+sheet_written : (at : Place → NodeId) (w : Writer) (marks : List Mark) (m : ℕ) → HoldsMarks at w marks m → record { cells = kept_cells w.text.items w.runs.items; spans = w.spans.items; more = w.more } ≡ sheet_of at marks
 sheet_written at w marks m h =
     let size : min 1048576 (length (all_cells marks)) ≡ length (cells_of marks) = sym (length-take 1048576 (all_cells marks)) in
     let count = length-all_cells marks in
@@ -137,6 +138,11 @@ sheet_written at w marks m h =
     ap (λ cs. record { cells = cs; spans = w.spans.items; more = w.more }) h.cells
     ∙ ap (λ ss. record { cells = map (by_node at) (cells_of marks); spans = ss; more = w.more }) spans
     ∙ ap (λ b. record { cells = map (by_node at) (cells_of marks); spans = map (on_page at (length (cells_of marks))) (spans_behind 0 marks); more = b }) h.more
+
+pub page_written : {E : Type 0} (at : Place → NodeId) (w : Writer) (marks : List Mark) (m : ℕ) (r : Result Sheet E) → HoldsMarks at w marks m
+    → IfOk r (λ p. p ≡ record { cells = kept_cells w.text.items w.runs.items; spans = w.spans.items; more = w.more }) → IfOk r (λ p. p ≡ sheet_of at marks)
+page_written at w marks m r h =
+    IfOk-weaker r (λ p. p ≡ record { cells = kept_cells w.text.items w.runs.items; spans = w.spans.items; more = w.more }) (λ p. p ≡ sheet_of at marks) (λ p e. e ∙ sheet_written at w marks m h)
 
 -- what is left of a list
 pub left_more : {A : Type 0} (xs : List A) (i : ℕ) (x : A) → i < length xs → x ≡ get_or xs i x → drop i xs ≡ x ∷ drop (i + 1) xs

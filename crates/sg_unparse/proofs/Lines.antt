@@ -4,9 +4,9 @@ use Rattle.std.specs.List.{slice_split, onto_first, count_by, take_while, range_
 use Rattle.std.specs.List.Sorted.{IsNonDecreasingBy}
 use Rattle.std.proofs.Common.{sym, ap, ◌∙◌, subst, arith, get_or, inl, inr, add-one}
 use Rattle.std.proofs.Math.Seq.{take-suc, get_or-append_seam}
-use Rattle.std.proofs.lemmas.List.{reverse-append, get_or_append_left}
+use Rattle.std.proofs.lemmas.List.{append-nil, length-take-le, reverse-append, get_or_append_left}
 use Rattle.std.proofs.lemmas.List.Sums.{take_while-cons, sum_by-cons, count_by_more_yes, count_by_more_no}
-use Rattle.std.proofs.lemmas.Bool.{lt-ltb, le-ltb, cases_lt, cases_Bool, both_ways, false_from_ne_true}
+use Rattle.std.proofs.lemmas.Bool.{lt-ltb, le-ltb, cases_lt, cases_Bool, both_ways, eq-eqb, false_from_ne_true, ne_eqb}
 use Rattle.sg_kinds.specs.Values.{Bytes}
 use Rattle.sg_unparse.specs.Page.{is_newline}
 use Rattle.sg_unparse.specs.Sheet.{starts_from}
@@ -326,3 +326,32 @@ stop_at_most s j h = elim (cases_lt j (length (starts_from 0 s))) [
   | inl i ↦ (let e = stops_within 0 s j i in let g = within 0 s j 0 i in omega (arith, e, g))
   | inr i ↦ (let same : j ≡ length (starts_from 0 s) = omega (arith, h, i) in let e = ap (λ k. get_or (stops_from 0 s) k 0) same ∙ stops_last 0 s in omega (arith, e))
 ]
+
+-- where lines begin in more and more of the bytes
+starts_append : (n : ℕ) (s t : Bytes) → starts_from n (s ++ t) ≡ starts_from n s ++ starts_from (n + length s) t
+starts_append n [] t = (let e : n ≡ n + 0 = omega arith in ap (λ k. starts_from k t) e)
+starts_append n (b ∷ s) t = by (is_newline b) (starts_append (suc n) s t ∙ ap (λ k. starts_from (suc n) s ++ starts_from k t) e)
+  where
+    e : suc n + length s ≡ n + suc (length s)
+    e = omega arith
+
+    by : (c : Bool) → starts_from (suc n) (s ++ t) ≡ starts_from (suc n) s ++ starts_from (n + suc (length s)) t → (if c then suc n ∷ starts_from (suc n) (s ++ t) else starts_from (suc n) (s ++ t)) ≡ (if c then suc n ∷ starts_from (suc n) s else starts_from (suc n) s) ++ starts_from (n + suc (length s)) t
+    by true h = ap (λ xs. suc n ∷ xs) h
+    by false h = h
+
+starts_next : (s : Bytes) (i : ℕ) → i < length s → starts_from 0 (take (i + 1) s) ≡ starts_from 0 (take i s) ++ starts_from i (get_or s i 0 ∷ [])
+starts_next s i h =
+    let long = length-take-le i s (omega (arith, h)) in
+    let count : 0 + length (take i s) ≡ i = omega (arith, long) in
+    ap (λ k. starts_from 0 (take k s)) (add-one i) ∙ ap (starts_from 0) (take-suc s i 0 h)
+    ∙ starts_append 0 (take i s) (get_or s i 0 ∷ []) ∙ ap (λ k. starts_from 0 (take i s) ++ starts_from k (get_or s i 0 ∷ [])) count
+
+pub starts_more : (s : Bytes) (i : ℕ) → i < length s → get_or s i 0 ≡ 10 → starts_from 0 (take (i + 1) s) ≡ starts_from 0 (take i s) ++ (i + 1) ∷ []
+starts_more s i h e =
+    starts_next s i h ∙ ap (λ (t : Bool). starts_from 0 (take i s) ++ (if t then suc i ∷ [] else [])) (eq-eqb (get_or s i 0) 10 e)
+    ∙ ap (λ k. starts_from 0 (take i s) ++ k ∷ []) (sym (add-one i))
+
+pub starts_stay : (s : Bytes) (i : ℕ) → i < length s → (get_or s i 0 ≡ 10 → ⊥) → starts_from 0 (take (i + 1) s) ≡ starts_from 0 (take i s)
+starts_stay s i h n =
+    starts_next s i h ∙ ap (λ (t : Bool). starts_from 0 (take i s) ++ (if t then suc i ∷ [] else [])) (ne_eqb (get_or s i 0) 10 n)
+    ∙ append-nil (starts_from 0 (take i s))

@@ -1,5 +1,5 @@
 -- Cells of one owner behind those that are written.
-use Rattle.std.specs.Prelude.{◌≡◌, refl, ℕ, suc, ◌+◌, ◌-◌, ◌<◌, ◌≤◌, Bool, true, false, min, if◌then◌else◌, List, [], ◌∷◌, ◌++◌, length, map, take, slice_get, Option, Some, None, MatchOption}
+use Rattle.std.specs.Prelude.{◌≡◌, refl, ℕ, suc, ◌+◌, ◌-◌, ◌<◌, ◌≤◌, Bool, true, min, List, [], ◌∷◌, ◌++◌, length, map, take, slice_get, Option, Some, None, MatchOption}
 use Rattle.std.specs.List.{All}
 use Rattle.std.specs.List.Sorted.{IsNonDecreasingBy}
 use Rattle.std.proofs.Common.{sym, ap, ◌∙◌, subst, arith, inl, inr, length-append}
@@ -12,20 +12,14 @@ use Rattle.sg_kinds.specs.Values.{Bytes}
 use Rattle.sg_kinds.specs.Places.{Place}
 use Rattle.sg_forest.specs.declared.node_id.NodeId.{NodeId}
 use Rattle.sg_unparse.specs.Cells.{Mark, Writes, as_they_are, cells_in}
-use Rattle.sg_unparse.specs.Page.{all_cells, cells_of, is_cut, is_newline, spans_behind}
-use Rattle.sg_unparse.specs.Sheet.{IsKept, cells_from, kept_cells, starts_from, owner_in, no_node}
+use Rattle.sg_unparse.specs.Page.{all_cells, cells_of, is_cut, spans_behind}
+use Rattle.sg_unparse.specs.Sheet.{IsWritten, cells_from, kept_cells, owner_in, no_node}
 use Rattle.sg_unparse.specs.Written.{HoldsMarks, Wrote, Owns, by_node, on_page}
 use Rattle.sg_unparse.specs.declared.page.Run.{Run}
 use Rattle.sg_unparse.specs.declared.page.Span.{Span}
 use Rattle.sg_unparse.specs.declared.writer.Writer.{Writer}
 use Rattle.sg_unparse.proofs.Streams.{all_cells-append, spans_behind-append}
 use Rattle.sg_unparse.proofs.Runs.{cells_append, cells_alike, cells_counted, owner_before, owner_last, owner_pushed}
-
--- what is kept of runs
-record AreRuns (text : Bytes) (runs : List Run) : Type 0 where
-  begins : MatchOption (slice_get runs 0) (text ≡ []) (λ (r : Run). r.from ≡ 0)
-  rising : IsNonDecreasingBy (λ (r : Run). r.from) runs
-  within : All (λ (r : Run). r.from ≤ length text) runs
 
 -- runs of which the last one says whose the next cells are
 record AreOwned (text : Bytes) (old new : List Run) (owner : NodeId) : Type 0 where
@@ -47,8 +41,8 @@ push_begins : (text : Bytes) (old : List Run) (r : Run) → r.from ≡ length te
 push_begins text [] r e h = e ∙ ap length h
 push_begins text (x ∷ old) r e h = h
 
-owned : (text : Bytes) (old new : List Run) (owner : NodeId) → AreRuns text old → Owns old new (length text) owner → AreOwned text old new owner
-owned text old new owner h (inl p) = subst (λ rs. AreOwned text old rs owner) (sym p.1) (record {
+owned : (text : Bytes) (old new : List Run) (spans : List Span) (owner : NodeId) → IsWritten text old spans → Owns old new (length text) owner → AreOwned text old new owner
+owned text old new spans owner h (inl p) = subst (λ rs. AreOwned text old rs owner) (sym p.1) (record {
   begins = (let f = first_there old some in begun (slice_get old 0) f.0 (text ≡ []) h.begins f.1);
   rising = h.rising;
   within = h.within;
@@ -58,7 +52,7 @@ owned text old new owner h (inl p) = subst (λ rs. AreOwned text old rs owner) (
   where
     some : 0 < length old
     some = (let l = slice_get_within old (length old - 1) p.0.run p.0.there in omega (arith, l))
-owned text old new owner h (inr e) =
+owned text old new spans owner h (inr e) =
     let r : Run = record { from = length text; owner = owner } in
     subst (λ rs. AreOwned text old rs owner) (sym e) (record {
       begins = push_begins text old r refl h.begins;
@@ -68,31 +62,16 @@ owned text old new owner h (inr e) =
       behind = λ k m. owner_pushed no_node old r k m (λ i d l. (let g = h.within i d l in omega (arith, g, m)));
     })
 
-pub starts_append : (n : ℕ) (s t : Bytes) → starts_from n (s ++ t) ≡ starts_from n s ++ starts_from (n + length s) t
-starts_append n [] t = (let e : n ≡ n + 0 = omega arith in ap (λ k. starts_from k t) e)
-starts_append n (b ∷ s) t = by (is_newline b) (starts_append (suc n) s t ∙ ap (λ k. starts_from (suc n) s ++ starts_from k t) e)
-  where
-    e : suc n + length s ≡ n + suc (length s)
-    e = omega arith
-
-    by : (c : Bool) → starts_from (suc n) (s ++ t) ≡ starts_from (suc n) s ++ starts_from (n + suc (length s)) t → (if c then suc n ∷ starts_from (suc n) (s ++ t) else starts_from (suc n) (s ++ t)) ≡ (if c then suc n ∷ starts_from (suc n) s else starts_from (suc n) s) ++ starts_from (n + suc (length s)) t
-    by true h = ap (λ xs. suc n ∷ xs) h
-    by false h = h
-
 -- what is kept with more cells
-kept_more : (text s : Bytes) (old new : List Run) (starts : List ℕ) (spans : List Span) (owner : NodeId) → IsKept text old starts spans → AreOwned text old new owner → length text + length s ≤ 1048576 → IsKept (text ++ s) new (starts ++ starts_from (length text) s) spans
-kept_more text s old new starts spans owner h o room = record {
+kept_more : (text s : Bytes) (old new : List Run) (spans : List Span) (owner : NodeId) → IsWritten text old spans → AreOwned text old new owner → length text + length s ≤ 1048576 → IsWritten (text ++ s) new spans
+kept_more text s old new spans owner h o room = record {
   small = (let c = length-append text s in omega (arith, room, c));
-  lines = ap (λ xs. xs ++ starts_from (length text) s) h.lines ∙ ap (λ k. starts_from 0 text ++ starts_from k s) zero ∙ sym (starts_append 0 text s);
   begins = begins (slice_get new 0) o.begins;
   rising = o.rising;
   within = λ i d l. (let c = length-append text s in let g = o.within i d l in omega (arith, g, c));
   ends = λ i d l. (let c = length-append text s in let g = h.ends i d l in (g.0, omega (arith, g.1, c)));
 }
   where
-    zero : length text ≡ 0 + length text
-    zero = omega arith
-
     begins : (w : Option Run) → MatchOption w ⊥ (λ (r : Run). r.from ≡ 0) → MatchOption w (text ++ s ≡ []) (λ (r : Run). r.from ≡ 0)
     begins None h = absurd h
     begins (Some r) h = h
@@ -160,19 +139,18 @@ module _ (at : Place → NodeId) where
       ∙ ap (λ xs. xs ++ cells_from (0 + length text) (owner_in no_node new) s) (cells_alike 0 (owner_in no_node new) (owner_in no_node old) text (λ k l. o.before k (omega (arith, l))))
       ∙ ap (λ xs. kept_cells text old ++ xs) (cells_owned (0 + length text) (owner_in no_node new) u s (λ k l. o.behind k (omega (arith, l))))
 
-  pub put_written : (old new : Writer) (u : Place) (s : Bytes) → 0 < length s → length old.text.items + length s ≤ 1048576 → new.text.items ≡ old.text.items ++ s → Owns old.runs.items new.runs.items (length old.text.items) (at u) → new.starts.items ≡ old.starts.items ++ starts_from (length old.text.items) s
-      → new.spans.items ≡ old.spans.items → new.margin ≡ old.margin → new.more ≡ old.more → Wrote at old new (as_they_are u s)
-  put_written old new u s some room text runs starts spans margin more = record {
+  pub put_written : (old new : Writer) (u : Place) (s : Bytes) → 0 < length s → length old.text.items + length s ≤ 1048576 → new.text.items ≡ old.text.items ++ s → Owns old.runs.items new.runs.items (length old.text.items) (at u) → new.spans.items ≡ old.spans.items → new.margin ≡ old.margin → new.more ≡ old.more → Wrote at old new (as_they_are u s)
+  put_written old new u s some room text runs spans margin more = record {
     behind = λ marks m h.
         let size = kept_length at old marks m h in
         let long = as_cells u s in
         let count = counted marks (written u s) in
         let all_fit : length (all_cells (marks ++ written u s)) ≤ 1048576 = omega (arith, size, long, count, some, room) in
         let fit : length (all_cells marks) ≤ 1048576 = omega (arith, count, all_fit) in
-        let o = owned old.text.items old.runs.items new.runs.items (at u) (record { begins = h.kept.begins; rising = h.kept.rising; within = h.kept.within }) runs in
+        let o = owned old.text.items old.runs.items new.runs.items old.spans.items (at u) h.kept runs in
         let all : cells_of (marks ++ written u s) ≡ all_cells marks ++ all_cells (written u s) = take_all 1048576 (all_cells (marks ++ written u s)) all_fit ∙ all_cells-append marks (written u s) in
         record {
-          kept = kept_is (kept_more old.text.items s old.runs.items new.runs.items old.starts.items old.spans.items (at u) h.kept o room);
+          kept = kept_is (kept_more old.text.items s old.runs.items new.runs.items old.spans.items (at u) h.kept o room);
           cells = ap (λ t. kept_cells t new.runs.items) text
               ∙ cells_more old.text.items s old.runs.items new.runs.items u o
               ∙ ap (λ xs. xs ++ map (by_node at) (all_cells (written u s))) (h.cells ∙ ap (map (by_node at)) (take_all 1048576 (all_cells marks) fit))
@@ -184,7 +162,5 @@ module _ (at : Place → NodeId) where
         };
   }
     where
-      kept_is : IsKept (old.text.items ++ s) new.runs.items (old.starts.items ++ starts_from (length old.text.items) s) old.spans.items → IsKept new.text.items new.runs.items new.starts.items new.spans.items
-      kept_is k = subst (λ t. IsKept t new.runs.items new.starts.items new.spans.items) (sym text)
-          (subst (λ xs. IsKept (old.text.items ++ s) new.runs.items xs new.spans.items) (sym starts)
-          (subst (λ ss. IsKept (old.text.items ++ s) new.runs.items (old.starts.items ++ starts_from (length old.text.items) s) ss) (sym spans) k))
+      kept_is : IsWritten (old.text.items ++ s) new.runs.items old.spans.items → IsWritten new.text.items new.runs.items new.spans.items
+      kept_is k = subst (λ t. IsWritten t new.runs.items new.spans.items) (sym text) (subst (IsWritten (old.text.items ++ s) new.runs.items) (sym spans) k)

@@ -13,7 +13,7 @@ use Rattle.sg_forest.specs.declared.node_id.NodeId.{NodeId}
 use Rattle.sg_unparse.specs.Cells.{Mark, Writes, Closed, Writing, nothing, in_turn, as_they_are, newline, plain, piece, pieces, cells_in, ended}
 use Rattle.sg_unparse.specs.Page.{Span as SpanOf, all_cells, spans_behind}
 use Rattle.std.proofs.lemmas.List.Elements.{All-push}
-use Rattle.sg_unparse.specs.Sheet.{IsKept, kept_cells}
+use Rattle.sg_unparse.specs.Sheet.{IsWritten, kept_cells}
 use Rattle.sg_unparse.specs.declared.page.Span.{Span}
 use Rattle.sg_unparse.specs.Written.{HoldsMarks, Wrote, blanks_of, by_node, on_page}
 use Rattle.sg_unparse.specs.declared.writer.Writer.{Writer}
@@ -128,10 +128,10 @@ module _ (at : Place → NodeId) where
   cut_plain w u s e = record { behind = λ marks m h. subst (λ k. HoldsMarks at w (marks ++ (plain u s m).0) k) (sym (plain_margin u s m)) (cut_more at w marks (plain u s m).0 m h (plain_ends u s m) e) }
 
   -- the pieces of a string
-  pub step_written : (w new : Writer) (u : Place) (back on : ℕ) → new.text.items ≡ w.text.items → new.runs.items ≡ w.runs.items → new.starts.items ≡ w.starts.items → new.spans.items ≡ w.spans.items → new.more ≡ w.more → new.margin ≡ (w.margin - 2 * back) + 2 * on → Wrote at w new (piece u (Margin back on))
-  step_written w new u back on text runs starts spans more margin = record {
+  pub step_written : (w new : Writer) (u : Place) (back on : ℕ) → new.text.items ≡ w.text.items → new.runs.items ≡ w.runs.items → new.spans.items ≡ w.spans.items → new.more ≡ w.more → new.margin ≡ (w.margin - 2 * back) + 2 * on → Wrote at w new (piece u (Margin back on))
+  step_written w new u back on text runs spans more margin = record {
     behind = λ marks m h. subst (λ xs. HoldsMarks at new xs ((m - 2 * back) + 2 * on)) (sym (append-nil marks)) (record {
-      kept = subst (λ s. IsKept s new.runs.items new.starts.items new.spans.items) (sym text) (subst (λ rs. IsKept w.text.items rs new.starts.items new.spans.items) (sym runs) (subst (λ xs. IsKept w.text.items w.runs.items xs new.spans.items) (sym starts) (subst (λ ss. IsKept w.text.items w.runs.items w.starts.items ss) (sym spans) h.kept)));
+      kept = subst (λ s. IsWritten s new.runs.items new.spans.items) (sym text) (subst (λ rs. IsWritten w.text.items rs new.spans.items) (sym runs) (subst (IsWritten w.text.items w.runs.items) (sym spans) h.kept));
       cells = ap (λ s. kept_cells s new.runs.items) text ∙ ap (kept_cells w.text.items) runs ∙ h.cells;
       spans = spans ∙ h.spans;
       more = more ∙ h.more;
@@ -151,8 +151,8 @@ module _ (at : Place → NodeId) where
 
   -- the end of a node
   pub closed_written : (before old new : Writer) (u : Place) (n : NodeId) (from to : ℕ) (f : Writing) → at u ≡ n → from ≡ min (length before.text.items) 1048576 → to ≡ min (length old.text.items) 1048576
-      → new.text.items ≡ old.text.items → new.runs.items ≡ old.runs.items → new.starts.items ≡ old.starts.items → new.spans.items ≡ old.spans.items ++ record { node = n; from = from; to = to } ∷ [] → new.more ≡ old.more → new.margin ≡ old.margin → Wrote at before old f → Wrote at before new (ended u f)
-  closed_written before old new u n from to f is low high text runs starts spans more margin w = record {
+      → new.text.items ≡ old.text.items → new.runs.items ≡ old.runs.items → new.spans.items ≡ old.spans.items ++ record { node = n; from = from; to = to } ∷ [] → new.more ≡ old.more → new.margin ≡ old.margin → Wrote at before old f → Wrote at before new (ended u f)
+  closed_written before old new u n from to f is low high text runs spans more margin w = record {
     behind = λ marks m h.
         let done = w.behind marks m h in
         let xs = (f m).0 in
@@ -172,7 +172,6 @@ module _ (at : Place → NodeId) where
         subst (λ ys. HoldsMarks at new ys (f m).1) (append_assoc marks xs end) (record {
           kept = kept_is (record {
             small = done.kept.small;
-            lines = done.kept.lines;
             begins = done.kept.begins;
             rising = done.kept.rising;
             within = done.kept.within;
@@ -188,8 +187,8 @@ module _ (at : Place → NodeId) where
         });
   }
     where
-      kept_is : IsKept old.text.items old.runs.items old.starts.items (old.spans.items ++ record { node = n; from = from; to = to } ∷ []) → IsKept new.text.items new.runs.items new.starts.items new.spans.items
-      kept_is k = subst (λ s. IsKept s new.runs.items new.starts.items new.spans.items) (sym text) (subst (λ rs. IsKept old.text.items rs new.starts.items new.spans.items) (sym runs) (subst (λ xs. IsKept old.text.items old.runs.items xs new.spans.items) (sym starts) (subst (λ ss. IsKept old.text.items old.runs.items old.starts.items ss) (sym spans) k)))
+      kept_is : IsWritten old.text.items old.runs.items (old.spans.items ++ record { node = n; from = from; to = to } ∷ []) → IsWritten new.text.items new.runs.items new.spans.items
+      kept_is k = subst (λ s. IsWritten s new.runs.items new.spans.items) (sym text) (subst (λ rs. IsWritten old.text.items rs new.spans.items) (sym runs) (subst (IsWritten old.text.items old.runs.items) (sym spans) k))
 
       span_is : (a b : ℕ) (s : Span) → s.node ≡ n → s.from ≡ a → s.to ≡ b → s ≡ record { node = n; from = a; to = b }
       span_is a b s e f g = ap (λ x. record { node = x; from = s.from; to = s.to }) e ∙ ap (λ x. record { node = n; from = x; to = s.to }) f ∙ ap (λ x. record { node = n; from = a; to = x }) g

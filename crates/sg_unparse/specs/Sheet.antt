@@ -53,12 +53,16 @@ no_node = record { key = 0 }
 abbrev pub kept_cells : Bytes → List Run → List (ℕ × NodeId)
 kept_cells text runs = cells_from 0 (owner_in no_node runs) text
 
--- the parts of a page agree: lines begin behind newlines, runs begin in order and the first with the first cell, and spans
--- end within the cells
-pub record IsKept (text : Bytes) (runs : List Run) (starts : List ℕ) (spans : List Span) : Type 0 where
+-- what is written of a page agrees: runs begin in order and the first with the first cell, and spans end within the
+-- cells
+pub record IsWritten (text : Bytes) (runs : List Run) (spans : List Span) : Type 0 where
   pub small : length text ≤ 1048576
-  pub lines : starts ≡ starts_from 0 text
   pub begins : MatchOption (slice_get runs 0) (text ≡ []) (λ (r : Run). r.from ≡ 0)
   pub rising : IsNonDecreasingBy (λ (r : Run). r.from) runs
   pub within : All (λ (r : Run). r.from ≤ length text) runs
   pub ends : All (λ (s : Span). (s.from ≤ s.to) × (s.to ≤ length text)) spans
+
+-- the parts of a page agree, and its lines begin behind newlines
+pub record IsKept (text : Bytes) (runs : List Run) (starts : List ℕ) (spans : List Span) : Type 0 where
+  pub written : IsWritten text runs spans
+  pub lines : starts ≡ starts_from 0 text

@@ -4,7 +4,7 @@ use Rattle.sg_kinds.specs.Places.{Place}
 use Rattle.sg_forest.specs.declared.node_id.NodeId.{NodeId}
 use Rattle.sg_unparse.specs.Cells.{Mark, Writing, as_they_are}
 use Rattle.sg_unparse.specs.Page.{Cell, Span as SpanOf, cells_of, is_cut, spans_behind}
-use Rattle.sg_unparse.specs.Sheet.{Sheet, IsKept, kept_cells}
+use Rattle.sg_unparse.specs.Sheet.{Sheet, IsWritten, kept_cells}
 use Rattle.sg_unparse.specs.declared.page.Span.{Span}
 use Rattle.sg_unparse.specs.declared.page.Run.{Run}
 use Rattle.sg_unparse.specs.declared.writer.Writer.{Writer}
@@ -28,7 +28,7 @@ module _ (at : Place → NodeId) where
 
   -- a writer has written marks, and the margin behind them is m
   pub record HoldsMarks (w : Writer) (marks : List Mark) (m : ℕ) : Type 0 where
-    pub kept : IsKept w.text.items w.runs.items w.starts.items w.spans.items
+    pub kept : IsWritten w.text.items w.runs.items w.spans.items
     pub cells : kept_cells w.text.items w.runs.items ≡ map by_node (cells_of marks)
     pub spans : w.spans.items ≡ map (on_page 1048576) (spans_behind 0 marks)
     pub more : w.more ≡ is_cut marks

@@ -1,12 +1,14 @@
 // Pages.
-ghost use Rattle.std.specs.Prelude.{◌≡◌, ◌≤◌, ◌<◌, ◌-◌, [], ◌∷◌, ◌++◌, length, nat_lt, if◌then◌else◌, slice_get, slice_index, find, MatchOption, Some, None, option_map};
+ghost use Rattle.std.specs.Prelude.{◌≡◌, ◌≤◌, ◌<◌, ◌-◌, [], ◌∷◌, ◌++◌, length, nat_lt, if◌then◌else◌, slice_get, slice_index, find, IfOk, MatchOption, Some, None, option_map};
 ghost use Rattle.std.specs.List.{slice_split, range_with_len};
 ghost use Rattle.std.specs.List.Sorted.{IsNonDecreasingBy};
 ghost use Rattle.sg_unparse.specs.Page.{bytes_of, lines_of, is_newline, owner_at, position_at, stands_at};
-ghost use Rattle.sg_unparse.specs.Sheet.{told, line_on, region_on, is_of, no_node, owner_in, starts_from, kept_cells, IsKept};
+ghost use Rattle.sg_unparse.specs.Sheet.{told, line_on, region_on, is_of, no_node, owner_in, starts_from, kept_cells, IsWritten};
 
 use crate::writer::Writer;
 use sg_forest::NodeId;
+use sg_kinds::memory::NoMemory;
+use std::alloc::Global;
 use std::marker::Model;
 
 /// From how many cells on and up to how many a node was written.
@@ -66,6 +68,23 @@ impl Model for Page {
     ghost view = { λ p. record { cells = kept_cells p.text.items p.runs.items; spans = p.spans.items; more = p.more } };
 
     ghost invariant = { λ p. IsKept p.text.items p.runs.items p.starts.items p.spans.items };
+}
+
+// where lines begin, but the first: behind each newline
+#[tactic(auto, using(crate::proofs::Lines::starts_more, crate::proofs::Lines::starts_stay))]
+fn line_starts(alloc: Global, text: &[u8]) -> Result<Vec<u32>, NoMemory>
+    requires { length text.now ≤ 1048576 }
+    ensures { IfOk result (λ v. v.items ≡ starts_from 0 text.now) }
+{
+    let mut starts = Vec::new(alloc);
+    let mut behind = 0;
+    for b in text {
+        behind += 1;
+        if *b == b'\n' {
+            starts.push(behind)?;
+        }
+    }
+    Ok(starts)
 }
 
 // how many cells stand before a line, counted from 0
@@ -135,21 +154,22 @@ fn owner_in(runs: &[Run], k: u32) -> NodeId
 
 impl Page {
     /// The page that a writer has written.
-    pub(crate) fn of(w: Writer) -> Page
-        requires { IsKept w.text.items w.runs.items w.starts.items w.spans.items }
-        ensures { result ≡ record {
+    pub(crate) fn of(alloc: Global, w: Writer) -> Result<Page, NoMemory>
+        requires { IsWritten w.text.items w.runs.items w.spans.items }
+        ensures { IfOk result (λ p. p ≡ record {
           cells = kept_cells w.text.items w.runs.items;
           spans = w.spans.items;
           more = w.more;
-        } }
+        }) }
     {
-        Page {
+        let starts = line_starts(alloc, w.text.as_slice())?;
+        Ok(Page {
             text: w.text,
             runs: w.runs,
-            starts: w.starts,
+            starts,
             spans: w.spans,
             more: w.more,
-        }
+        })
     }
 
     /// The bytes of the cells.

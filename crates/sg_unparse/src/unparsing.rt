@@ -425,5 +425,5 @@ pub fn cells(
     let mut w = Writer::new(alloc);
     let mut room = Vec::new(alloc);
     node(&shown, &mut w, &mut room, root)?;
-    Ok(Page::of(w))
+    Page::of(alloc, w)
 }

@@ -1,10 +1,9 @@
 // What is written of a page, cell by cell.
-ghost use Rattle.std.specs.Prelude.{◌≡◌, ◌<◌, ◌≤◌, ◌+◌, ◌-◌, [], ◌∷◌, ◌++◌, min, length, OnOk, IfOk, IsTrue};
+ghost use Rattle.std.specs.Prelude.{◌≡◌, ◌≤◌, ◌+◌, ◌-◌, [], ◌∷◌, min, length, OnOk, IfOk, IsTrue};
 ghost use Rattle.sg_kinds.specs.Places.{Place};
 ghost use Rattle.sg_forest.specs.declared.node_id.NodeId.{NodeId as Id};
 ghost use Rattle.sg_unparse.specs.Cells.{Writing, as_they_are, ended, newline as a_newline, piece as a_piece, pieces as all_pieces, plain as plain_text};
 ghost use Rattle.sg_unparse.specs.Page.{cells_of, is_cut};
-ghost use Rattle.sg_unparse.specs.Sheet.{starts_from, kept_cells};
 ghost use Rattle.sg_unparse.specs.Written.{Owns, IsLastOf, HoldsMarks, Wrote, blanks_of};
 
 use crate::page::{Run, Span};
@@ -24,7 +23,6 @@ const BLANKS: [u8; 64] = [b' '; 64];
 pub struct Writer {
     pub text: Vec<u8>,
     pub runs: Vec<Run>,
-    pub starts: Vec<u32>,
     pub spans: Vec<Span>,
     pub margin: usize,
     pub more: bool,
@@ -51,30 +49,6 @@ fn own(runs: &mut Vec<Run>, from: u32, owner: NodeId) -> Result<(), NoMemory>
     Ok(())
 }
 
-// notes that a line begins behind a newline
-fn begin_line(starts: &mut Vec<u32>, at: u32, b: u8) -> Result<(), NoMemory>
-    requires { at < 1048576 }
-    ensures { OnOk result (starts.new.items ≡ starts.old.items ++ starts_from at (b ∷ [])) }
-{
-    if b == 10 {
-        starts.push(at + 1)?;
-    }
-    Ok(())
-}
-
-// notes that lines begin behind the newlines of a text
-fn begin_lines(starts: &mut Vec<u32>, at: u32, text: &[u8]) -> Result<(), NoMemory>
-    requires { at + length text.now ≤ 1048576 }
-    ensures { OnOk result (starts.new.items ≡ starts.old.items ++ starts_from at text.now) }
-{
-    let mut next = at;
-    for b in text {
-        begin_line(starts, next, *b)?;
-        next += 1;
-    }
-    Ok(())
-}
-
 impl Writer {
     /// Nothing is written, and the margin is 0.
     pub fn new(alloc: Global) -> Writer
@@ -83,7 +57,6 @@ impl Writer {
         Writer {
             text: Vec::new(alloc),
             runs: Vec::new(alloc),
-            starts: Vec::new(alloc),
             spans: Vec::new(alloc),
             margin: 0,
             more: false,
@@ -108,7 +81,6 @@ impl Writer {
             return Ok(());
         }
         own(&mut self.runs, at as u32, owner)?;
-        begin_line(&mut self.starts, at as u32, b)?;
         self.text.push(b)?;
         Ok(())
     }
@@ -124,7 +96,6 @@ impl Writer {
         }
         let at = self.text.len() as u32;
         own(&mut self.runs, at, owner)?;
-        begin_lines(&mut self.starts, at, text)?;
         self.text.extend_from_slice(text)?;
         Ok(())
     }

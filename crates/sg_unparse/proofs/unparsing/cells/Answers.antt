@@ -1,7 +1,7 @@
-use Rattle.std.proofs.Common.{[], ◌∙◌, refl}
+use Rattle.std.proofs.Common.{[], refl}
 use Rattle.sg_unparse.specs.Along.{node_along}
 use Rattle.sg_groves.proofs.Held.{live_holds}
-use Rattle.sg_unparse.proofs.Items.{sheet_written}
+use Rattle.sg_unparse.proofs.Items.{page_written}
 use Rattle.sg_unparse.proofs.unparsing.cells.Goals as goal
 
 pub of-requires : goal.of-requires
@@ -15,4 +15,4 @@ pub returns : goal.returns
 returns c = λ t h.
     let g = c.args.terms.now in
     let w = (c.in_ok-node.ensures c.args.root [] t (record { along = refl; holds = h })).behind [] 0 (c.new-w.ensures (node_along g c.args.root)) in
-    c.of.ensures ∙ sheet_written (node_along g c.args.root) c.node.new.w _ _ w
+    page_written (node_along g c.args.root) c.node.new.w _ _ c.of.result w c.of.ensures

@@ -44,7 +44,7 @@ overflow_cast-result c =
     let from = from_is c.deref.result.now p.starts.items (c.args.line - 1) c.line_start-from.result c.deref.ensures.value c.line_start-from.ensures in
     let behind = behind_is c.deref-2.result.now p.starts.items (c.args.line - 1) c.len-2.result (length p.text.items) c.line_after-after.result c.deref-2.ensures.value (c.len-2.ensures ∙ p.text.ok.0) c.line_after-after.ensures in
     let most = ends c.args.self.now.cells p.text.items p.starts.items t c.args.line c.args.col (omega (arith, c.if-line-len.false, c.len.ensures, p.starts.ok.0)) (omega (arith, c.if-line-eq0.false)) in
-    omega (arith, from, behind, most, c.if-col-after.false, c.if-col-eq0.false, c.self.invariant.small)
+    omega (arith, from, behind, most, c.if-col-after.false, c.if-col-eq0.false, c.self.invariant.written.small)
 
 pub returns : goal.returns
 returns c =

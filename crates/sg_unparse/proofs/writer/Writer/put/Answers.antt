@@ -1,6 +1,5 @@
-use Rattle.std.proofs.Common.{◌≡◌, [], ◌∷◌, ◌++◌, sym, ap, ◌∙◌, subst, length, arith, refl}
+use Rattle.std.proofs.Common.{◌≡◌, [], ◌∷◌, sym, ◌∙◌, subst, length, arith, refl}
 use Rattle.sg_unparse.specs.Written.{Owns}
-use Rattle.sg_unparse.specs.Sheet.{starts_from}
 use Rattle.sg_unparse.proofs.Put.{full_put, put_written}
 use Rattle.sg_unparse.proofs.writer.Writer.put.Goals as goal
 
@@ -12,5 +11,4 @@ returns c =
     let w = c.args.self.now in
     let len : c.len-at.result ≡ length w.text.items = c.len-at.ensures ∙ w.text.ok.0 in
     λ at u is. put_written at w _ u (c.args.b ∷ []) (omega arith) (omega (arith, c.if-at-ge-PAGE.false, len)) c.in_ok-push.ensures.items
-    (subst (λ o. Owns w.runs.items c.own.new.runs.items (length w.text.items) o) (sym is) (subst (λ n. Owns w.runs.items c.own.new.runs.items n c.args.owner) len c.in_ok-own.ensures))
-    (c.in_ok-begin_line.ensures ∙ ap (λ n. w.starts.items ++ starts_from n (c.args.b ∷ [])) len) refl refl refl
+    (subst (λ o. Owns w.runs.items c.own.new.runs.items (length w.text.items) o) (sym is) (subst (λ n. Owns w.runs.items c.own.new.runs.items n c.args.owner) len c.in_ok-own.ensures)) refl refl refl
