@@ -169,11 +169,10 @@ module _ (g : Grove) (root : NodeId) (captured : Option NodeId) (text : Bytes) w
   pub none_items : (op k : ℕ) → scheme_of g.spec op k ≡ None → [] ≡ items_of g.spec op k
   none_items op k e = sym (ap (λ (o : Option Scheme). unwrap_or (option_map (λ (x : Scheme). x.items) o) []) e)
 
-  pub scheme_written : (old new : Writer) (u : Place) (t : Term) (op k : ℕ) (elided more : Bool) (ts : Terms) (is : List Item) → t ≡ Node op k elided ts → more ≡ goes_on ts → is ≡ items_of g.spec op k → Wrote (node_along g root) old new (items_in g root captured text u op more is (kids_in g root captured text u ts)) → Wrote (node_along g root) old new (own_in g root captured text u t)
-  scheme_written old new u t op k elided more ts is e m i w =
+  pub scheme_written : (old new : Writer) (u : Place) (t : Term) (op k : ℕ) (elided : Bool) (ts : Terms) (is : List Item) → t ≡ Node op k elided ts → is ≡ items_of g.spec op k → Wrote (node_along g root) old new (items_in g root captured text u op (goes_on ts) is (kids_in g root captured text u ts)) → Wrote (node_along g root) old new (own_in g root captured text u t)
+  scheme_written old new u t op k elided ts is e i w =
       subst (λ x. Wrote (node_along g root) old new (own_in g root captured text u x)) (sym e)
-      (subst (λ b. Wrote (node_along g root) old new (items_in g root captured text u op b (items_of g.spec op k) (kids_in g root captured text u ts))) m
-      (subst (λ l. Wrote (node_along g root) old new (items_in g root captured text u op more l (kids_in g root captured text u ts))) i w))
+      (subst (λ l. Wrote (node_along g root) old new (items_in g root captured text u op (goes_on ts) l (kids_in g root captured text u ts))) i w)
 
   pub nothing_written : (w : Writer) (u : Place) (t : Term) (op k : ℕ) (elided : Bool) (ts : Terms) → t ≡ Node op k elided ts → scheme_of g.spec op k ≡ None → Wrote (node_along g root) w w (own_in g root captured text u t)
-  nothing_written w u t op k elided ts e none = scheme_written w w u t op k elided (goes_on ts) ts [] e refl (none_items op k none) (wrote_nothing (node_along g root) w)
+  nothing_written w u t op k elided ts e none = scheme_written w w u t op k elided ts [] e (none_items op k none) (wrote_nothing (node_along g root) w)

@@ -121,12 +121,11 @@ pub struct Shown<'a> {
     pub text: &'a [u8],
 }
 
-/// A node whose scheme is written: its operator, and whether its separator is shown.
+/// A node whose scheme is written, and its operator.
 #[derive(Clone, Copy)]
 pub struct Site {
     pub node: NodeId,
     pub op: OpId,
-    pub more: bool,
 }
 
 // whether a text is typed in the place of a node
@@ -235,11 +234,11 @@ fn write_child(
         IsAlong shown.now.terms.now root u site.now.node (Node site.now.op k elided ts) →
         Wrote (node_along shown.now.terms.now root) w.new end
         (items_in shown.now.terms.now root shown.now.captured shown.now.text.now u
-        site.now.op site.now.more is
+        site.now.op (does_go_on ts) is
         (drop next.new (kids_in shown.now.terms.now root shown.now.captured shown.now.text.now u ts))) →
         Wrote (node_along shown.now.terms.now root) w.old end
         (items_in shown.now.terms.now root shown.now.captured shown.now.text.now u
-        site.now.op site.now.more (Child place ∷ is)
+        site.now.op (does_go_on ts) (Child place ∷ is)
         (drop next.old (kids_in shown.now.terms.now root shown.now.captured shown.now.text.now u ts)))) }
 {
     shown.terms.facts();
@@ -273,14 +272,13 @@ fn write_item(
     ensures { OnOk result ((root : Id) (u : Place) (k : ℕ) (elided : Bool) (ts : AllTerms) (is : List AnItem)
         (end : AWriter) →
         IsAlong shown.now.terms.now root u site.now.node (Node site.now.op k elided ts) →
-        site.now.more ≡ does_go_on ts →
         Wrote (node_along shown.now.terms.now root) w.new end
         (items_in shown.now.terms.now root shown.now.captured shown.now.text.now u
-        site.now.op site.now.more is
+        site.now.op (does_go_on ts) is
         (drop next.new (kids_in shown.now.terms.now root shown.now.captured shown.now.text.now u ts))) →
         Wrote (node_along shown.now.terms.now root) w.old end
         (items_in shown.now.terms.now root shown.now.captured shown.now.text.now u
-        site.now.op site.now.more (item.now ∷ is)
+        site.now.op (does_go_on ts) (item.now ∷ is)
         (drop next.old (kids_in shown.now.terms.now root shown.now.captured shown.now.text.now u ts)))) }
 {
     shown.terms.facts();
@@ -298,7 +296,7 @@ fn write_item(
             Ok(())
         }
         Item::Separates(pieces) => {
-            if !site.more {
+            if !goes_on(shown.terms, site.node, site.op) {
                 return Ok(());
             }
             w.pieces(site.node, pieces.as_slice())?;
@@ -321,10 +319,9 @@ fn write_items(
     requires items { All (IsItem shown.now.terms.now.spec site.now.op) items.now }
     ensures { OnOk result ((root : Id) (u : Place) (k : ℕ) (elided : Bool) (ts : AllTerms) →
         IsAlong shown.now.terms.now root u site.now.node (Node site.now.op k elided ts) →
-        site.now.more ≡ does_go_on ts →
         Wrote (node_along shown.now.terms.now root) w.old w.new
         (items_in shown.now.terms.now root shown.now.captured shown.now.text.now u
-        site.now.op site.now.more items.now
+        site.now.op (does_go_on ts) items.now
         (kids_in shown.now.terms.now root shown.now.captured shown.now.text.now u ts))) }
 {
     let mut next = 0;
@@ -352,8 +349,7 @@ fn write_scheme(
     shown.terms.facts();
     match scheme_of(shown.terms.spec(), op, shown.terms.scheme(n)) {
         Some(scheme) => {
-            let more = goes_on(shown.terms, n, op);
-            let site = Site { node: n, op, more };
+            let site = Site { node: n, op };
             write_items(shown, &site, w, room, scheme.items.as_slice())?;
             Ok(())
         }

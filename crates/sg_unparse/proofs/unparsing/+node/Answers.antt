@@ -9,7 +9,7 @@ use Rattle.sg_kinds.specs.declared.spec.Item.TheVariants.{Child}
 use Rattle.sg_kinds.specs.declared.spec.Piece.{Piece}
 use Rattle.sg_kinds.specs.declared.spec.Spec.{Spec}
 use Rattle.sg_unparse.specs.Along.{node_along, items_in, kids_in, content_in}
-use Rattle.sg_unparse.specs.Cells.{pieces}
+use Rattle.sg_unparse.specs.Cells.{goes_on, pieces}
 use Rattle.sg_unparse.specs.Shown.{scheme_of}
 use Rattle.sg_unparse.specs.Written.{Wrote}
 use Rattle.sg_groves.specs.Holds.{Holds}
@@ -32,7 +32,7 @@ write_child-returns-then-k-count t c = λ root u k elided ts is end a w.
     let g = c.args.shown.now.terms.now in
     let kids = kids_counted g c.facts.ensures c.args.site.now.node c.requires.live c.args.site.now.op k elided ts a.holds in
     let count = c.arity-count.ensures ∙ ap (λ (s : Spec). length (args_of s.ops c.args.site.now.op)) c.spec.ensures in
-    child_past g root c.args.shown.now.captured c.args.shown.now.text.now u c.args.site.now.op c.args.site.now.more is ts c.args.next.now c.args.w.now end c.args.place (omega (arith, kids, count, c.if-k-count.true)) w
+    child_past g root c.args.shown.now.captured c.args.shown.now.text.now u c.args.site.now.op (goes_on ts) is ts c.args.next.now c.args.w.now end c.args.place (omega (arith, kids, count, c.if-k-count.true)) w
 
 pub write_child-returns-then-is_hidden : goal.write_child-returns-then-is_hidden
 write_child-returns-then-is_hidden t c = λ root u k elided ts is end a w.
@@ -43,8 +43,8 @@ write_child-returns-then-is_hidden t c = λ root u k elided ts is end a w.
     let count = c.arity-count.ensures ∙ ap (λ (s : Spec). length (args_of s.ops c.args.site.now.op)) c.spec.ensures in
     let s = slice_get-there (terms_of ts) c.args.next.now (omega (arith, kids, count, c.if-k-count.false)) in
     let hidden = MatchBool-at_true _ _ c.if-is_hidden.true c.is_hidden.ensures in
-    subst (λ (p : ChildPlace). Wrote (node_along g root) c.args.w.now end (items_in g root captured text u c.args.site.now.op c.args.site.now.more (Child p ∷ is) (drop c.args.next.now (kids_in g root captured text u ts)))) (sym hidden)
-    (child_hidden g root captured text u c.args.site.now.op c.args.site.now.more is ts c.args.next.now c.args.w.now end s.0 s.1 w)
+    subst (λ (p : ChildPlace). Wrote (node_along g root) c.args.w.now end (items_in g root captured text u c.args.site.now.op (goes_on ts) (Child p ∷ is) (drop c.args.next.now (kids_in g root captured text u ts)))) (sym hidden)
+    (child_hidden g root captured text u c.args.site.now.op (goes_on ts) is ts c.args.next.now c.args.w.now end s.0 s.1 w)
 
 pub write_child-returns : goal.write_child-returns
 write_child-returns t c = λ root u k elided ts is end a w.
@@ -52,7 +52,7 @@ write_child-returns t c = λ root u k elided ts is end a w.
     let kids = kids_counted g c.facts.ensures c.args.site.now.node c.requires.live c.args.site.now.op k elided ts a.holds in
     let count = c.arity-count.ensures ∙ ap (λ (s : Spec). length (args_of s.ops c.args.site.now.op)) c.spec.ensures in
     let s = slice_get-there (terms_of ts) c.args.next.now (omega (arith, kids, count, c.if-k-count.false)) in
-    child_shown g root c.args.shown.now.captured c.args.shown.now.text.now u c.args.site.now.op c.args.site.now.more is ts c.args.next.now c.args.w.now end c.node.new.w c.args.place s.0
+    child_shown g root c.args.shown.now.captured c.args.shown.now.text.now u c.args.site.now.op (goes_on ts) is ts c.args.next.now c.args.w.now end c.node.new.w c.args.place s.0
     (MatchBool-at_false _ _ c.if-is_hidden.false c.is_hidden.ensures) s.1
     (c.in_ok-node.ensures root (c.args.next.now ∷ u) s.0 (record {
       along = along_kid g c.facts.ensures root u c.args.site.now.node c.kid-kid.result c.args.next.now a.along c.kid-kid.ensures.child;
@@ -62,64 +62,64 @@ write_child-returns t c = λ root u k elided ts is end a w.
 
 -- an item
 pub write_item-returns-in_ok-pieces-in-Writes : goal.write_item-returns-in_ok-pieces-in-Writes
-write_item-returns-in_ok-pieces-in-Writes t c = λ root u k elided ts is end a more w.
+write_item-returns-in_ok-pieces-in-Writes t c = λ root u k elided ts is end a w.
     let g = c.args.shown.now.terms.now in
     let captured = c.args.shown.now.captured in
     let text = c.args.shown.now.text.now in
-    subst (λ (i : Item). Wrote (node_along g root) c.args.w.now end (items_in g root captured text u c.args.site.now.op c.args.site.now.more (i ∷ is) (drop c.args.next.now (kids_in g root captured text u ts)))) (sym c.in-Writes.is)
-    (writes_item g root captured text u c.args.site.now.op c.args.site.now.more is ts c.args.next.now c.args.w.now end c.pieces.new.self c.in-Writes.pieces
+    subst (λ (i : Item). Wrote (node_along g root) c.args.w.now end (items_in g root captured text u c.args.site.now.op (goes_on ts) (i ∷ is) (drop c.args.next.now (kids_in g root captured text u ts)))) (sym c.in-Writes.is)
+    (writes_item g root captured text u c.args.site.now.op (goes_on ts) is ts c.args.next.now c.args.w.now end c.pieces.new.self c.in-Writes.pieces
     (subst (λ (ps : List Piece). Wrote (node_along g root) c.args.w.now c.pieces.new.self (pieces u ps)) c.as_slice.ensures (c.in_ok-pieces-in-Writes.ensures (node_along g root) u a.along)) w)
 
 pub write_item-returns-in_ok-write_child-in-Child : goal.write_item-returns-in_ok-write_child-in-Child
-write_item-returns-in_ok-write_child-in-Child t c = λ root u k elided ts is end a more w.
+write_item-returns-in_ok-write_child-in-Child t c = λ root u k elided ts is end a w.
     let g = c.args.shown.now.terms.now in
     let captured = c.args.shown.now.captured in
     let text = c.args.shown.now.text.now in
-    subst (λ (i : Item). Wrote (node_along g root) c.args.w.now end (items_in g root captured text u c.args.site.now.op c.args.site.now.more (i ∷ is) (drop c.args.next.now (kids_in g root captured text u ts)))) (sym c.in-Child.is)
+    subst (λ (i : Item). Wrote (node_along g root) c.args.w.now end (items_in g root captured text u c.args.site.now.op (goes_on ts) (i ∷ is) (drop c.args.next.now (kids_in g root captured text u ts)))) (sym c.in-Child.is)
     (c.in_ok-write_child-in-Child.ensures root u k elided ts is end a w)
 
 pub write_item-returns-in_ok-show-in-Shows : goal.write_item-returns-in_ok-show-in-Shows
-write_item-returns-in_ok-show-in-Shows t c = λ root u k elided ts is end a more w.
+write_item-returns-in_ok-show-in-Shows t c = λ root u k elided ts is end a w.
     let g = c.args.shown.now.terms.now in
     let captured = c.args.shown.now.captured in
     let text = c.args.shown.now.text.now in
-    subst (λ (i : Item). Wrote (node_along g root) c.args.w.now end (items_in g root captured text u c.args.site.now.op c.args.site.now.more (i ∷ is) (drop c.args.next.now (kids_in g root captured text u ts)))) (sym c.in-Shows.is)
-    (shows_item g root captured text u c.args.site.now.op c.args.site.now.more is ts c.args.next.now c.args.w.now end c.show.new.w c.in-Shows.o (c.in_ok-show-in-Shows.ensures root u a.along) w)
+    subst (λ (i : Item). Wrote (node_along g root) c.args.w.now end (items_in g root captured text u c.args.site.now.op (goes_on ts) (i ∷ is) (drop c.args.next.now (kids_in g root captured text u ts)))) (sym c.in-Shows.is)
+    (shows_item g root captured text u c.args.site.now.op (goes_on ts) is ts c.args.next.now c.args.w.now end c.show.new.w c.in-Shows.o (c.in_ok-show-in-Shows.ensures root u a.along) w)
 
-pub write_item-returns-then-not-site : goal.write_item-returns-then-not-site
-write_item-returns-then-not-site t c = λ root u k elided ts is end a more w.
+pub write_item-returns-then-not-goes_on : goal.write_item-returns-then-not-goes_on
+write_item-returns-then-not-goes_on t c = λ root u k elided ts is end a w.
     let g = c.args.shown.now.terms.now in
     let captured = c.args.shown.now.captured in
     let text = c.args.shown.now.text.now in
-    subst (λ (i : Item). Wrote (node_along g root) c.args.w.now end (items_in g root captured text u c.args.site.now.op c.args.site.now.more (i ∷ is) (drop c.args.next.now (kids_in g root captured text u ts)))) (sym c.in-Separates.is)
-    (separates_hidden g root captured text u c.args.site.now.op c.args.site.now.more is ts c.args.next.now c.args.w.now end c.in-Separates.pieces c.if-not-site.true w)
+    subst (λ (i : Item). Wrote (node_along g root) c.args.w.now end (items_in g root captured text u c.args.site.now.op (goes_on ts) (i ∷ is) (drop c.args.next.now (kids_in g root captured text u ts)))) (sym c.in-Separates.is)
+    (separates_hidden g root captured text u c.args.site.now.op (goes_on ts) is ts c.args.next.now c.args.w.now end c.in-Separates.pieces (sym (c.goes_on.ensures k elided ts a.holds) ∙ c.if-not-goes_on.true) w)
 
 pub write_item-returns-in_ok-pieces-in-Separates : goal.write_item-returns-in_ok-pieces-in-Separates
-write_item-returns-in_ok-pieces-in-Separates t c = λ root u k elided ts is end a more w.
+write_item-returns-in_ok-pieces-in-Separates t c = λ root u k elided ts is end a w.
     let g = c.args.shown.now.terms.now in
     let captured = c.args.shown.now.captured in
     let text = c.args.shown.now.text.now in
-    subst (λ (i : Item). Wrote (node_along g root) c.args.w.now end (items_in g root captured text u c.args.site.now.op c.args.site.now.more (i ∷ is) (drop c.args.next.now (kids_in g root captured text u ts)))) (sym c.in-Separates.is)
-    (separates_shown g root captured text u c.args.site.now.op c.args.site.now.more is ts c.args.next.now c.args.w.now end c.pieces-in-Separates.new.self c.in-Separates.pieces c.if-not-site.false
+    subst (λ (i : Item). Wrote (node_along g root) c.args.w.now end (items_in g root captured text u c.args.site.now.op (goes_on ts) (i ∷ is) (drop c.args.next.now (kids_in g root captured text u ts)))) (sym c.in-Separates.is)
+    (separates_shown g root captured text u c.args.site.now.op (goes_on ts) is ts c.args.next.now c.args.w.now end c.pieces-in-Separates.new.self c.in-Separates.pieces (sym (c.goes_on.ensures k elided ts a.holds) ∙ c.if-not-goes_on.false)
     (subst (λ (ps : List Piece). Wrote (node_along g root) c.args.w.now c.pieces-in-Separates.new.self (pieces u ps)) c.as_slice-in-Separates.ensures (c.in_ok-pieces-in-Separates.ensures (node_along g root) u a.along)) w)
 
 -- the items
 pub write_items-loop-item-preserved : goal.write_items-loop-item-preserved
-write_items-loop-item-preserved t c = λ root u k elided ts end a more w.
+write_items-loop-item-preserved t c = λ root u k elided ts end a w.
     let g = c.args.shown.now.terms.now in
     let site = c.args.site.now in
     let items = c.args.items.now in
     let i = c.loop-item.item-index in
-    c.loop-item.invariant root u k elided ts end a more
-    (left_item g root c.args.shown.now.captured c.args.shown.now.text.now u site.op site.more items ts i c.loop-item.next c.item-item.result c.loop-item.w end c.loop-item-test.true c.item-item.is
-    (c.in_ok-write_item.ensures root u k elided ts (drop (i + 1) items) end a more w))
+    c.loop-item.invariant root u k elided ts end a
+    (left_item g root c.args.shown.now.captured c.args.shown.now.text.now u site.op (goes_on ts) items ts i c.loop-item.next c.item-item.result c.loop-item.w end c.loop-item-test.true c.item-item.is
+    (c.in_ok-write_item.ensures root u k elided ts (drop (i + 1) items) end a w))
 
 pub write_items-returns : goal.write_items-returns
-write_items-returns t c = λ root u k elided ts a more.
+write_items-returns t c = λ root u k elided ts a.
     let g = c.args.shown.now.terms.now in
     let site = c.args.site.now in
-    c.loop-item.invariant root u k elided ts c.loop-item.w a more
-    (left_none g root c.args.shown.now.captured c.args.shown.now.text.now u site.op site.more c.args.items.now ts c.loop-item.item-index c.loop-item.next c.loop-item.w c.loop-item-test.false)
+    c.loop-item.invariant root u k elided ts c.loop-item.w a
+    (left_none g root c.args.shown.now.captured c.args.shown.now.text.now u site.op (goes_on ts) c.args.items.now ts c.loop-item.item-index c.loop-item.next c.loop-item.w c.loop-item-test.false)
 
 -- the scheme
 pub write_scheme-write_items-requires : goal.write_scheme-write_items-requires
@@ -136,12 +136,11 @@ write_scheme-returns-in_ok-write_items-in-Some t c = λ root u s a.
     let text = c.args.shown.now.text.now in
     let x = node_of s c.args.op (sym (term_op g c.facts.ensures c.args.n c.requires.live s a.holds) ∙ c.requires.op) in
     let holds = subst (Holds g c.args.n) x.3 a.holds in
-    let more = c.goes_on-more.ensures x.0 x.1 x.2 holds in
     let found = ap (λ s. scheme_of s c.args.op c.scheme.result) (sym c.spec.ensures) ∙ c.in-Some.ensures in
     let number = ap (scheme_of g.spec c.args.op) (sym (c.scheme.ensures.term (Node c.args.op x.0 x.1 x.2) holds)) in
-    scheme_written g root captured text c.args.w.now c.write_items.new.w u s c.args.op x.0 x.1 c.goes_on-more.result x.2 c.as_slice.result.now x.3 more
+    scheme_written g root captured text c.args.w.now c.write_items.new.w u s c.args.op x.0 x.1 x.2 c.as_slice.result.now x.3
     (c.as_slice.ensures ∙ found_items g root captured text c.args.op x.0 c.in-Some.scheme.now (number ∙ found))
-    (c.in_ok-write_items-in-Some.ensures root u x.0 x.1 x.2 (record { along = a.along; holds = holds }) more)
+    (c.in_ok-write_items-in-Some.ensures root u x.0 x.1 x.2 (record { along = a.along; holds = holds }))
 
 pub write_scheme-returns-in-None : goal.write_scheme-returns-in-None
 write_scheme-returns-in-None t c = λ root u s a.

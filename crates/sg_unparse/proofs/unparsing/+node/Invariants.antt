@@ -1,4 +1,4 @@
-use Rattle.std.proofs.Common.{◌≡◌, ◌+◌, ◌*◌, ℕ, Bool, drop}
+use Rattle.std.proofs.Common.{◌+◌, ◌*◌, ℕ, Bool, drop}
 use Rattle.sg_kinds.specs.Places.{Place}
 use Rattle.sg_kinds.specs.Terms.{Terms, Node}
 use Rattle.sg_forest.specs.Trees.{room_below}
@@ -30,6 +30,6 @@ decreases-node l = 6 * room_below l.shown.now.terms.now.trees l.n + 5
 -- what is left decides
 abbrev pub invariant-write_items-loop-item : goal.invariant-write_items-loop-item
 invariant-write_items-loop-item l =
-    (root : NodeId) (u : Place) (k : ℕ) (elided : Bool) (ts : Terms) (end : Writer) → IsAlong l.shown.terms.now root u l.site.node (Node l.site.op k elided ts) → l.site.more ≡ goes_on ts
-    → Wrote (node_along l.shown.terms.now root) l.w end (items_in l.shown.terms.now root l.shown.captured l.shown.text.now u l.site.op l.site.more (drop l.item-index l.items) (drop l.next (kids_in l.shown.terms.now root l.shown.captured l.shown.text.now u ts)))
-    → Wrote (node_along l.shown.terms.now root) l.initial.w end (items_in l.shown.terms.now root l.shown.captured l.shown.text.now u l.site.op l.site.more l.items (kids_in l.shown.terms.now root l.shown.captured l.shown.text.now u ts))
+    (root : NodeId) (u : Place) (k : ℕ) (elided : Bool) (ts : Terms) (end : Writer) → IsAlong l.shown.terms.now root u l.site.node (Node l.site.op k elided ts)
+    → Wrote (node_along l.shown.terms.now root) l.w end (items_in l.shown.terms.now root l.shown.captured l.shown.text.now u l.site.op (goes_on ts) (drop l.item-index l.items) (drop l.next (kids_in l.shown.terms.now root l.shown.captured l.shown.text.now u ts)))
+    → Wrote (node_along l.shown.terms.now root) l.initial.w end (items_in l.shown.terms.now root l.shown.captured l.shown.text.now u l.site.op (goes_on ts) l.items (kids_in l.shown.terms.now root l.shown.captured l.shown.text.now u ts))
