@@ -1,6 +1,7 @@
 -- The scheme of a term, by what is told of its root.
-use Rattle.std.specs.Prelude.{◌≡◌, refl, ℕ, Some, None}
+use Rattle.std.specs.Prelude.{◌≡◌, ◌<◌, ◌%◌, refl, ℕ, Some, None}
 use Rattle.std.proofs.Common.{sym, ap}
+use Rattle.std.proofs.Math.Nat.{mod-eq_of_lt}
 use Rattle.std.proofs.lemmas.Option.{none-some, same_Some}
 use Rattle.sg_kinds.specs.Terms.{Term, Leaf, Node}
 use Rattle.sg_kinds.specs.declared.spec.Spec.{Spec}
@@ -22,3 +23,7 @@ count_in spec (Node o n elided ts) op is = ap (count_of spec) (sym (same_Some o 
 pub count_none : (spec : Spec) (t : Term) → told.op_of t ≡ None → 0 ≡ scheme_count spec t
 count_none spec (Leaf p v) is = refl
 count_none spec (Node o n elided ts) is = absurd (none-some o (sym is))
+
+-- a number below a count is itself when it is counted round
+pub below_stays : (n count : ℕ) → n < count → n % count ≡ n
+below_stays n count h = mod-eq_of_lt h

@@ -8,21 +8,26 @@ use itoa::Buffer;
 use sg_kinds::ids::{OpId, PhylumId, ValueId};
 use sg_kinds::marks::{FaultKind, Shape};
 use sg_kinds::memory::NoMemory;
-use sg_kinds::row::Row;
+use sg_kinds::row::{Row, item};
 use sg_kinds::spec::{Scheme, Spec};
 use sg_pool::entry::PoolEntry;
 use sg_pool::pool::Pool;
 
 // the scheme of a number among those of an operator
+#[tactic(auto, using(crate::proofs::Schemed::below_stays))]
 fn scheme_in(schemes: &Row<Scheme>, number: u32) -> Option<&Scheme>
     ensures { MatchOption result (slice_get schemes.now (number % length schemes.now) ≡ None)
         (λ s. slice_get schemes.now (number % length schemes.now) ≡ Some s.now) }
 {
+    let at = number as usize;
     let count = schemes.len();
+    if at < count {
+        return Some(item(schemes.as_slice(), at));
+    }
     if count == 0 {
         return None;
     }
-    schemes.as_slice().get(number as usize % count)
+    Some(item(schemes.as_slice(), at % count))
 }
 
 /// The scheme of a number of an operator, where numbers are counted round; None exactly where there is no such operator
