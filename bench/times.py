@@ -2,7 +2,7 @@
 """times.py PROGRAM [SHAPE..]: prints what `PROGRAM check` takes on each shape, at half of its size and at the whole.
 
 The time is in processor seconds, the least of three runs, or of one where that takes over two; the memory is the most
-that was resident.
+that was resident. `text` is how many times as long as the half the whole text is.
 """
 import inspect
 import os
@@ -40,20 +40,20 @@ def main():
     program = os.path.abspath(sys.argv[1])
     load = " ".join(f"{it:.1f}" for it in os.getloadavg())
     print(f"{os.cpu_count()} processors, load {load}")
-    print(f"{'shape':20} {'size':>8} {'half, s':>8} {'whole, s':>8} {'ratio':>6} {'MiB':>6}  answer")
+    print(f"{'shape':20} {'size':>8} {'half, s':>8} {'whole, s':>8} {'ratio':>6} {'text':>5} {'MiB':>6}  answer")
     with tempfile.TemporaryDirectory() as folder:
         file = f"{folder}/spec.ssl"
         for name in names:
             make = shapes.SHAPES[name]
             size = next(iter(inspect.signature(make).parameters.values())).default
-            took = []
+            took, longs = [], []
             for part in (size // 2, size):
                 with open(file, "w", encoding="ascii") as it:
-                    it.write(make(part))
+                    longs.append(it.write(make(part)))
                 took.append(measure(program, file))
             (_, half, _), (said, whole, memory) = took
-            ratio = whole / half
-            print(f"{name:20} {size:8} {half:8.3f} {whole:8.3f} {ratio:6.2f} {memory:6.0f}  {said}", flush=True)
+            times = f"{half:8.3f} {whole:8.3f} {whole / half:6.2f} {longs[1] / longs[0]:5.2f}"
+            print(f"{name:20} {size:8} {times} {memory:6.0f}  {said}", flush=True)
 
 
 if __name__ == "__main__":
