@@ -233,7 +233,7 @@ pub fn run<S: Shelf, K: Sink>(
         (world_of S.files S.faults S.calls shelf.new K.written K.faults K.puts sink.new (counted journal.new)) }
 
     // What was written and evaluated, at an end of its own and after it was cut short. Then no reply came past the
-    // block at which that happened: after a put that failed the shelf is not called again.
+    // block at which that happened, so a shelf that counts its calls is not called again after a put that failed.
     ensures output { (r : Reading) → IsRightFor (job (map string_bytes words.now)) result.replies.items r
         → IsEnd result.status → K.written sink.new ≡ appended (K.written sink.old)
         (joined (told (map string_bytes words.now) r result.replies.items).blocks) }

@@ -14,7 +14,7 @@ use Rattle.sg_told.specs.World.{SinkState, World, WroteCounted}
 abbrev pub NonePast : ℕ → (List Reply → Told) → List Reply → Type 0
 NonePast k f got = (front : List Reply) (last : Reply) → got ≡ front ++ last ∷ [] → length (f front).blocks ≤ k
 
--- the run was cut short in what f tells by these replies, none of which came later
+-- the run was cut short in what f tells by these replies, of which none came past the block at which that was
 pub record Stopped (status : Status) (old new : World) (f : List Reply → Told) (got : List Reply) : Type 0 where
   pub counted : WroteCounted status old new (f got)
   pub none_past : NonePast counted.k f got
