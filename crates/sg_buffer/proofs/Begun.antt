@@ -8,7 +8,7 @@ use Rattle.sg_kinds.specs.FromScratch.{value_in}
 use Rattle.sg_kinds.specs.Sound.{IsSmall}
 use Rattle.sg_kinds.specs.declared.spec.Spec.{Spec}
 use Rattle.sg_forest.specs.declared.node_id.NodeId.{NodeId}
-use Rattle.sg_groves.specs.Grove.{Grove, nodes, IsGrove}
+use Rattle.sg_groves.specs.Grove.{Grove, IsGrove}
 use Rattle.sg_groves.proofs.Below.{below_to}
 use Rattle.sg_unparse.specs.Cells.{Mark}
 use Rattle.sg_unparse.specs.Owned.{place_of_mark, before}
@@ -16,12 +16,11 @@ use Rattle.sg_unparse.specs.Page.{Region, cells_of, position_behind, region_of}
 use Rattle.sg_unparse.proofs.Begins.{region_begins}
 use Rattle.sg_states.specs.Seen.{first_line, is_spot, marks_seen, nothing_typed}
 use Rattle.sg_states.specs.States.{begun}
-use Rattle.sg_states.specs.Paged.{IsWhole, page_seen}
+use Rattle.sg_states.specs.Paged.{IsWhole}
 use Rattle.sg_states.proofs.Selecting.{alone_selected}
 use Rattle.sg_kinds.proofs.Elementary.{and_true}
 use Rattle.sg_undo.specs.Timeline.{Timeline, timeline}
 use Rattle.sg_changes.specs.declared.step.Step.{Step}
-use Rattle.sg_unparse.specs.Sheet.{Sheet}
 use Rattle.sg_buffer.specs.Held.{Held, state_of}
 use Rattle.sg_turns.specs.Roots.{AreTheRoots}
 use Rattle.sg_buffer.specs.Buffers.{StandsFor, IsBuffer}
@@ -73,11 +72,11 @@ begun_stands g root height t is whole fits small tall roots = record {
 abbrev begun_held : Grove → NodeId → ℕ → Held
 begun_held g root height = record { grove = g; root = root; selected = root; count = 1; top = 1; height = height; past = []; future = []; capture = None }
 
-pub begun_closes : (g : Grove) (spec : Spec) (root : NodeId) (height : ℕ) (t : Term) (count : ℕ) (h : Timeline Step) (page : Sheet) → g.spec ≡ spec → IsGrove g → IsWhole g root t → Fits spec t spec.root → IsSmall t
-    → count ≡ nodes_of t → 1 ≤ height → AreTheRoots g (root ∷ []) → h ≡ timeline [] [] 256 → page ≡ page_seen g root t nothing_typed
-    → IsBuffer (record { grove = g; root = root; selected = root; count = 1; top = 1; height = height; past = h.past; future = h.future; capture = None }) count h.room page
+pub begun_closes : (g : Grove) (spec : Spec) (root : NodeId) (height : ℕ) (t : Term) (count : ℕ) (h : Timeline Step) → g.spec ≡ spec → IsGrove g → IsWhole g root t → Fits spec t spec.root → IsSmall t
+    → count ≡ nodes_of t → 1 ≤ height → AreTheRoots g (root ∷ []) → h ≡ timeline [] [] 256
+    → IsBuffer (record { grove = g; root = root; selected = root; count = 1; top = 1; height = height; past = h.past; future = h.future; capture = None }) count h.room None None
     × (state_of (record { grove = g; root = root; selected = root; count = 1; top = 1; height = height; past = h.past; future = h.future; capture = None }) ≡ begun t)
-begun_closes g spec root height t count h page same is whole fits small counted tall roots empty paged =
-    subst (λ (z : Timeline Step). IsBuffer (record { grove = g; root = root; selected = root; count = 1; top = 1; height = height; past = z.past; future = z.future; capture = None }) count z.room page
+begun_closes g spec root height t count h same is whole fits small counted tall roots empty =
+    subst (λ (z : Timeline Step). IsBuffer (record { grove = g; root = root; selected = root; count = 1; top = 1; height = height; past = z.past; future = z.future; capture = None }) count z.room None None
     × (state_of (record { grove = g; root = root; selected = root; count = 1; top = 1; height = height; past = z.past; future = z.future; capture = None }) ≡ begun t)) (sym empty)
-    (let c = closes (begun_held g root height) (begun t) count 256 page (begun_stands g root height t is whole (subst (λ (s : Spec). Fits s t s.root) (sym same) fits) small tall roots) counted refl (omega arith) paged in (c.is, c.told))
+    (let c = closes (begun_held g root height) (begun t) count 256 None None (begun_stands g root height t is whole (subst (λ (s : Spec). Fits s t s.root) (sym same) fits) small tall roots) counted refl (omega arith) tt tt in (c.is, c.told))

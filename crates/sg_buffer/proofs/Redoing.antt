@@ -1,5 +1,5 @@
 -- A buffer after the next change of its future is done again.
-use Rattle.std.specs.Prelude.{◌≡◌, ◌≢◌, ℕ, ◌+◌, ◌≤◌, true, List, [], ◌∷◌, ◌++◌, length, None, Some}
+use Rattle.std.specs.Prelude.{◌≡◌, ◌≢◌, ℕ, ◌+◌, ◌≤◌, true, List, [], ◌∷◌, ◌++◌, length, Option, None}
 use Rattle.std.proofs.Common.{sym, ap, ◌∙◌, subst, arith}
 use Rattle.sg_kinds.specs.Terms.{Term, nodes_of}
 use Rattle.sg_kinds.specs.Fits.{Fits}
@@ -8,7 +8,7 @@ use Rattle.sg_kinds.specs.Sound.{IsSmall}
 use Rattle.sg_kinds.specs.declared.spec.Spec.{Spec}
 use Rattle.sg_eval.specs.declared.journal.Instance.{Instance}
 use Rattle.sg_forest.specs.declared.node_id.NodeId.{NodeId}
-use Rattle.sg_forest.specs.Trees.{IsRoot}
+use Rattle.sg_forest.specs.Trees.{Climbs, IsRoot}
 use Rattle.sg_groves.specs.Grove.{Grove, nodes, IsGrove}
 use Rattle.sg_groves.specs.TermAt.{term_at}
 use Rattle.sg_changes.specs.Chain.{AllRedo, AllUndo, CanRedo, HasOld, IsProper, Passes}
@@ -19,12 +19,16 @@ use Rattle.sg_changes.specs.declared.step.Step.{Step}
 use Rattle.sg_changes.specs.declared.step.Step.TheVariants.{Replaced, Marked}
 use Rattle.sg_changes.proofs.Telling.{forth_past, forth_future, forth_undoes}
 use Rattle.sg_undo.specs.Timeline.{Timeline}
+use Rattle.sg_select.specs.RestingPlaces.{settled}
+use Rattle.sg_select.proofs.Settling.{settled_itself}
 use Rattle.sg_unparse.specs.Sheet.{Sheet}
-use Rattle.sg_states.specs.Selections.{place_in, settled_selection}
-use Rattle.sg_states.specs.Seen.{is_spot, seen}
+use Rattle.sg_unparse.specs.declared.page.Beginning.{Beginning}
+use Rattle.sg_states.specs.Selections.{place_in}
+use Rattle.sg_states.specs.Seen.{is_spot}
 use Rattle.sg_states.specs.States.{State, redone, redone_by}
-use Rattle.sg_states.specs.Paged.{IsLook, IsWhole, page_seen}
-use Rattle.sg_states.proofs.Spotted.{spot_stays}
+use Rattle.sg_states.specs.Paged.{IsWhole}
+use Rattle.sg_states.proofs.Selecting.{selection_rests}
+use Rattle.sg_states.proofs.Spotted.{spot_selects}
 use Rattle.sg_turns.specs.Roots.{times, AreTheRoots}
 use Rattle.sg_turns.specs.Stepped.{IsStepped, MayStep, seen_after, step_place, redoing}
 use Rattle.sg_turns.specs.Turns.{Notes, NotesSome, comes_out, goes_in, made}
@@ -33,7 +37,7 @@ use Rattle.sg_turns.proofs.Hanging.{agree_then, keeps_by, listed_apart, listed_r
 use Rattle.sg_turns.proofs.Stepping.{in_after, made_after, may_mark, may_swap, out_after, part_after, spot_after}
 use Rattle.sg_turns.proofs.Times.{times_append, times_cons, times_same}
 use Rattle.sg_buffer.specs.Gains.{GainedForth, NotedForth, OfFirst}
-use Rattle.sg_buffer.specs.Held.{Held, state_of, typed_by}
+use Rattle.sg_buffer.specs.Held.{Held, state_of}
 use Rattle.sg_buffer.specs.Buffers.{StandsFor, IsBuffer}
 use Rattle.sg_buffer.proofs.Closing.{Closes, closes}
 use Rattle.sg_buffer.proofs.Standing.{no_capture}
@@ -49,7 +53,7 @@ may_forth g is root t count whole fits counted small (Replaced path hangs before
 may_forth g is root t count whole fits counted small (Marked path old new before after) roots at proper later =
     may_mark g is root t (step_place (Marked path old new before after)) count whole fits counted small old new at proper.1 later
 
-module _ (b : Held) (count room : ℕ) (page : Sheet) (is : IsBuffer b count room page) (s : Step) (rest : List Step) (future_is : b.future ≡ s ∷ rest) where
+module _ (b : Held) (count room : ℕ) (page : Option Sheet) (begins : Option Beginning) (is : IsBuffer b count room page begins) (s : Step) (rest : List Step) (future_is : b.future ≡ s ∷ rest) where
   abbrev st : State
   st = state_of b
 
@@ -99,7 +103,7 @@ module _ (b : Held) (count room : ℕ) (page : Sheet) (is : IsBuffer b count roo
   pub redone_is : redone st ≡ redone_by (c ∷ older) st
   redone_is = ap (λ cs. redone_by cs st) (sym future_then)
 
-  module _ (new : Grove) (on : IsGrove new) (spec : new.spec ≡ g.spec) (r : Stepped) (stepped : IsStepped g new b.root st.term (step_place s) (redoing s) b.height (seen_after s) r) where
+  module _ (new : Grove) (on : IsGrove new) (spec : new.spec ≡ g.spec) (r : Stepped) (stepped : IsStepped g new b.root st.term (step_place s) (redoing s) (seen_after s) r) where
     abbrev now : Term
     now = redone_term st.term c
 
@@ -112,24 +116,25 @@ module _ (b : Held) (count room : ℕ) (page : Sheet) (is : IsBuffer b count roo
     exchanged : Exchanged (term_at g) (term_at new) st.term s r.out b.past rest
     exchanged = record { top = part_after new on st.term s r.out stepped.turned.out; others = agree }
 
-    whole : IsWhole new r.turned.root now
-    whole = subst (IsWhole new r.turned.root) made_is stepped.turned.whole
+    whole : IsWhole new r.root now
+    whole = subst (IsWhole new r.root) made_is stepped.turned.whole
 
-    looked : IsLook new r.turned.root now (seen_after s) r.turned.look
-    looked =
-        subst (λ z. IsLook new r.turned.root now z r.turned.look) (spot_stays g.spec b.height now (seen_after s) (subst (λ z. is_spot g.spec b.height now z ≡ true) (sym (spot_after (term_at g) st.term s)) can.after))
-        (subst (λ t. IsLook new r.turned.root t (seen g.spec b.height t (settled_selection g.spec t (seen_after s).selection) (seen_after s).top) r.turned.look) made_is stepped.turned.look)
+    -- the spot of the step is one of the term then, so it is settled there
+    selected : Climbs (nodes new) (place_in (after_of c).selection) r.selected r.root
+    selected =
+        let t = made (term_at g) st.term (step_place s) (redoing s) in
+        let u = place_in (seen_after s).selection in
+        let spot : is_spot g.spec b.height t (seen_after s) ≡ true = subst (λ z. is_spot g.spec b.height t z ≡ true) (sym (spot_after (term_at g) st.term s)) (subst (λ z. is_spot g.spec b.height z (after_of c) ≡ true) (sym made_is) can.after) in
+        subst (λ (z : Spot). Climbs (nodes new) (place_in z.selection) r.selected r.root) (spot_after (term_at g) st.term s)
+        (subst (λ z. Climbs (nodes new) z r.selected r.root) (ap (λ (z : Spec). settled z t u) spec ∙ settled_itself g.spec t u (selection_rests g.spec t u (seen_after s).selection.count (spot_selects g.spec b.height t (seen_after s) spot))) stepped.selected)
 
-    look : IsLook new r.turned.root now (after_of c) r.turned.look
-    look = subst (λ z. IsLook new r.turned.root now z r.turned.look) (spot_after (term_at g) st.term s) looked
-
-    roots_then : AreTheRoots new (r.turned.root ∷ tops (hung s r.out ∷ b.past) rest)
-    roots_then = roots_alike new (r.turned.root ∷ (comes_out (redoing s) r.out ++ tops b.past rest)) (r.turned.root ∷ tops (hung s r.out ∷ b.past) rest) same (stepped.turned.roots (tops b.past rest) roots_split)
+    roots_then : AreTheRoots new (r.root ∷ tops (hung s r.out ∷ b.past) rest)
+    roots_then = roots_alike new (r.root ∷ (comes_out (redoing s) r.out ++ tops b.past rest)) (r.root ∷ tops (hung s r.out ∷ b.past) rest) same (stepped.turned.roots (tops b.past rest) roots_split)
       where
-        same : (n : NodeId) → times n (r.turned.root ∷ tops (hung s r.out ∷ b.past) rest) ≡ times n (r.turned.root ∷ (comes_out (redoing s) r.out ++ tops b.past rest))
+        same : (n : NodeId) → times n (r.root ∷ tops (hung s r.out ∷ b.past) rest) ≡ times n (r.root ∷ (comes_out (redoing s) r.out ++ tops b.past rest))
         same n =
-            let p = times_cons n r.turned.root (tops (hung s r.out ∷ b.past) rest) in
-            let q = times_cons n r.turned.root (comes_out (redoing s) r.out ++ tops b.past rest) in
+            let p = times_cons n r.root (tops (hung s r.out ∷ b.past) rest) in
+            let q = times_cons n r.root (comes_out (redoing s) r.out ++ tops b.past rest) in
             let a = times_append n (comes_out (redoing s) r.out) (tops b.past rest) in
             let e = times_past n (hung s r.out) b.past rest in
             let i = ap (times n) (out_after s r.out) in
@@ -142,9 +147,9 @@ module _ (b : Held) (count room : ℕ) (page : Sheet) (is : IsBuffer b count roo
       fits = subst (λ (z : Spec). Fits z now z.root) (sym spec) (subst (λ t. Fits g.spec t g.spec.root) made_is stepped.turned.fits);
       small = can.small;
       tall = is.stands.tall;
-      selected = look.selected;
-      count = ap (λ (z : Spot). z.selection.count) look.spot_is;
-      top = ap (λ (z : Spot). z.top) look.spot_is;
+      selected = selected;
+      count = stepped.count ∙ ap (λ (z : Spot). z.selection.count) (spot_after (term_at g) st.term s);
+      top = stepped.top ∙ ap (λ (z : Spot). z.top) (spot_after (term_at g) st.term s);
       spot = subst (λ (z : Spec). is_spot z b.height now (after_of c) ≡ true) (sym spec) can.after;
       future = forth_future (term_at g) (term_at new) st.term s r.out b.past rest exchanged;
       past = forth_past (term_at g) (term_at new) st.term s r.out b.past rest can.stands exchanged ∙ ap (λ cs. c ∷ cs) is.stands.past;
@@ -152,7 +157,7 @@ module _ (b : Held) (count room : ℕ) (page : Sheet) (is : IsBuffer b count roo
       undoes = subst (λ (z : Spec). AllUndo z (Passes (is_spot z b.height)) now (c ∷ st.past)) (sym spec) undoes;
       roots = roots_then;
       capture = is.stands.capture;
-      alone = no_capture (stepped_held b new r (hung s r.out ∷ b.past) rest) none r.turned.look.spot.selection.count;
+      alone = no_capture (stepped_held b new r (hung s r.out ∷ b.past) rest) none r.count;
     }
       where
         undoes : AllUndo g.spec (Passes (is_spot g.spec b.height)) now (c ∷ st.past)
@@ -165,10 +170,9 @@ module _ (b : Held) (count room : ℕ) (page : Sheet) (is : IsBuffer b count roo
     few : length (hung s r.out ∷ b.past) + length rest ≤ 256
     few = (let e = ap length future_is in let f = is.few in omega (arith, e, f))
 
-    pub redone_closes : b.capture ≡ None → Closes (stepped_held b new r (hung s r.out ∷ b.past) rest) (redone_by (c ∷ older) st) r.nodes room r.turned.look.page
+    pub redone_closes : b.capture ≡ None → Closes (stepped_held b new r (hung s r.out ∷ b.past) rest) (redone_by (c ∷ older) st) r.nodes room None None
     redone_closes none =
-        closes (stepped_held b new r (hung s r.out ∷ b.past) rest) (redone_by (c ∷ older) st) r.nodes room r.turned.look.page (redone_stands none) (stepped.counted ∙ ap nodes_of made_is) is.room_is few
-        (look.page ∙ sym (ap (λ o. page_seen new r.turned.root now (typed_by o (place_in (after_of c).selection))) none))
+        closes (stepped_held b new r (hung s r.out ∷ b.past) rest) (redone_by (c ∷ older) st) r.nodes room None None (redone_stands none) (stepped.counted ∙ ap nodes_of made_is) is.room_is few tt tt
 
 -- what the journal gains
 gained_forth : (g new : Grove) (root : NodeId) (t : Term) (s : Step) (was now : List Instance) → Notes g new root t (step_place s) (redoing s) was now → GainedForth g.spec t was now new root (future_change (term_at g) t s)
@@ -180,29 +184,29 @@ noted_forth g t (Replaced path hangs before after) was now notes = notes
 noted_forth g t (Marked path old made before after) was now notes = notes
 
 -- where the fields are seen as another value
-module _ (b v : Held) (view : b ≡ v) (count room : ℕ) (page : Sheet) (is : IsBuffer b count room page) where
+module _ (b v : Held) (view : b ≡ v) (count room : ℕ) (page : Option Sheet) (begins : Option Beginning) (is : IsBuffer b count room page begins) where
   pub nothing_future : b.future ≡ [] → (state_of v).future ≡ []
   nothing_future none = subst (λ (z : Held). (state_of z).future ≡ []) view (sym is.stands.future ∙ ap (told_future (term_at b.grove) (state_of b).term) none)
 
   module _ (s : Step) (rest : List Step) (future_is : b.future ≡ s ∷ rest) where
     pub some_future : (state_of v).future ≢ []
     some_future none = no_cons (future_change (term_at b.grove) (state_of b).term s) (told_future (term_at b.grove) (redone_term (state_of b).term (future_change (term_at b.grove) (state_of b).term s)) rest)
-        (future_then b count room page is s rest future_is ∙ subst (λ (z : Held). (state_of z).future ≡ []) (sym view) none)
+        (future_then b count room page begins is s rest future_is ∙ subst (λ (z : Held). (state_of z).future ≡ []) (sym view) none)
       where
         no_cons : (x : Change) (xs : List Change) → x ∷ xs ≡ [] → ⊥
         no_cons x xs = cc
 
     pub redone_here : v.capture ≡ None → (new : Grove) → IsGrove new → new.spec ≡ b.grove.spec → (r : Stepped)
-        → ((t : Term) → MayStep b.grove b.root t (step_place s) (redoing s) count → IsStepped b.grove new b.root t (step_place s) (redoing s) b.height (seen_after s) r)
+        → ((t : Term) → MayStep b.grove b.root t (step_place s) (redoing s) count → IsStepped b.grove new b.root t (step_place s) (redoing s) (seen_after s) r)
         → (h : Timeline Step) → h.past ≡ hung s r.out ∷ b.past → h.future ≡ rest → h.room ≡ room
-        → IsBuffer (stepped_held b new r h.past h.future) r.nodes h.room r.turned.look.page × (state_of (stepped_held b new r h.past h.future) ≡ redone (state_of v))
+        → IsBuffer (stepped_held b new r h.past h.future) r.nodes h.room None None × (state_of (stepped_held b new r h.past h.future) ≡ redone (state_of v))
     redone_here none new on spec r stepped h past future room_is =
-        let d = redone_closes b count room page is s rest future_is new on spec r (stepped (state_of b).term (may_redo b count room page is s rest future_is)) (ap (λ (z : Held). z.capture) view ∙ none) in (
-          subst (λ k. IsBuffer (stepped_held b new r h.past h.future) r.nodes k r.turned.look.page) (sym room_is)
-              (subst (λ ss. IsBuffer (stepped_held b new r h.past ss) r.nodes room r.turned.look.page) (sym future)
-              (subst (λ ss. IsBuffer (stepped_held b new r ss rest) r.nodes room r.turned.look.page) (sym past) d.is)),
+        let d = redone_closes b count room page begins is s rest future_is new on spec r (stepped (state_of b).term (may_redo b count room page begins is s rest future_is)) (ap (λ (z : Held). z.capture) view ∙ none) in (
+          subst (λ k. IsBuffer (stepped_held b new r h.past h.future) r.nodes k None None) (sym room_is)
+              (subst (λ ss. IsBuffer (stepped_held b new r h.past ss) r.nodes room None None) (sym future)
+              (subst (λ ss. IsBuffer (stepped_held b new r ss rest) r.nodes room None None) (sym past) d.is)),
           subst (λ (z : Held). state_of (stepped_held b new r h.past h.future) ≡ redone (state_of z)) view
-              (ap (λ ss. state_of (stepped_held b new r ss h.future)) past ∙ ap (λ ss. state_of (stepped_held b new r (hung s r.out ∷ b.past) ss)) future ∙ d.told ∙ sym (redone_is b count room page is s rest future_is)),
+              (ap (λ ss. state_of (stepped_held b new r ss h.future)) past ∙ ap (λ ss. state_of (stepped_held b new r (hung s r.out ∷ b.past) ss)) future ∙ d.told ∙ sym (redone_is b count room page begins is s rest future_is)),
         )
 
     pub gained_here : (new : Grove) (root : NodeId) (was now : List Instance)
@@ -210,13 +214,13 @@ module _ (b v : Held) (view : b ≡ v) (count room : ℕ) (page : Sheet) (is : I
         → OfFirst (state_of v).future (GainedForth v.grove.spec (state_of v).term was now new root)
     gained_here new root was now notes =
         subst (λ (z : Held). OfFirst (state_of z).future (GainedForth z.grove.spec (state_of z).term was now new root)) view
-        (subst (λ cs. OfFirst cs (GainedForth b.grove.spec (state_of b).term was now new root)) (future_then b count room page is s rest future_is)
-        (gained_forth b.grove new root (state_of b).term s was now (notes (state_of b).term (may_redo b count room page is s rest future_is))))
+        (subst (λ cs. OfFirst cs (GainedForth b.grove.spec (state_of b).term was now new root)) (future_then b count room page begins is s rest future_is)
+        (gained_forth b.grove new root (state_of b).term s was now (notes (state_of b).term (may_redo b count room page begins is s rest future_is))))
 
     pub noted_here : (was now : List Instance)
         → ((t : Term) → MayStep b.grove b.root t (step_place s) (redoing s) count → NotesSome b.grove t (step_place s) (redoing s) was now)
         → OfFirst (state_of v).future (NotedForth v.grove.spec (state_of v).term was now)
     noted_here was now notes =
         subst (λ (z : Held). OfFirst (state_of z).future (NotedForth z.grove.spec (state_of z).term was now)) view
-        (subst (λ cs. OfFirst cs (NotedForth b.grove.spec (state_of b).term was now)) (future_then b count room page is s rest future_is)
-        (noted_forth b.grove (state_of b).term s was now (notes (state_of b).term (may_redo b count room page is s rest future_is))))
+        (subst (λ cs. OfFirst cs (NotedForth b.grove.spec (state_of b).term was now)) (future_then b count room page begins is s rest future_is)
+        (noted_forth b.grove (state_of b).term s was now (notes (state_of b).term (may_redo b count room page begins is s rest future_is))))

@@ -19,15 +19,15 @@ use Rattle.sg_changes.specs.Told.{told_past, told_future}
 use Rattle.sg_changes.specs.Top.{topped}
 use Rattle.sg_select.specs.RestingPlaces.{rests}
 use Rattle.sg_unparse.specs.Sheet.{Sheet}
+use Rattle.sg_unparse.specs.declared.page.Beginning.{Beginning}
 use Rattle.sg_states.specs.Selections.{alone, path_to, place_in, elements_at, is_selection}
 use Rattle.sg_states.specs.Seen.{first_line, is_seen}
 use Rattle.sg_states.specs.States as states
 use Rattle.sg_states.specs.States.{State}
-use Rattle.sg_states.specs.Paged.{page_seen}
 use Rattle.sg_states.proofs.Selecting.{path_there, path_back, alone_selected}
 use Rattle.sg_states.proofs.Spotted.{spot_seen, spot_selects, spot_shows}
-use Rattle.sg_buffer.specs.Held.{Held, state_of, term_in, selected_in, typed_by}
-use Rattle.sg_buffer.specs.Buffers.{StandsFor, IsBuffer}
+use Rattle.sg_buffer.specs.Held.{Held, page_by, state_of, term_in, selected_in}
+use Rattle.sg_buffer.specs.Buffers.{StandsFor, IsBuffer, Keeps, KeepsBeginning}
 
 abbrev state : Term → List ℕ → ℕ → ℕ → List Change → List Change → Option Captured → State
 state t path count top past future capture =
@@ -52,18 +52,16 @@ stands_told b st s =
     ∙ ap (λ cs. state st.term st.spot.selection.path st.spot.selection.count st.spot.top st.past cs b.capture) s.future
     ∙ ap (λ c. state st.term st.spot.selection.path st.spot.selection.count st.spot.top st.past st.future c) s.capture
 
-abbrev pub page_by : Held → State → Sheet
-page_by b st = page_seen b.grove b.root st.term (typed_by b.capture (place_in st.spot.selection))
-
-pub is_buffer : (b : Held) (st : State) (count room : ℕ) (page : Sheet) → StandsFor b st → count ≡ nodes_of st.term → room ≡ 256 → length b.past + length b.future ≤ 256 → page ≡ page_by b st → IsBuffer b count room page
-is_buffer b st count room page s counted room_is few page_is =
+pub is_buffer : (b : Held) (st : State) (count room : ℕ) (page : Option Sheet) (begins : Option Beginning) → StandsFor b st → count ≡ nodes_of st.term → room ≡ 256 → length b.past + length b.future ≤ 256 → Keeps page (page_by b st) → KeepsBeginning begins b.grove.spec st → IsBuffer b count room page begins
+is_buffer b st count room page begins s counted room_is few page_is begins_is =
     let told = sym (stands_told b st s) in
     record {
       stands = subst (StandsFor b) told s;
       counted = subst (λ z. count ≡ nodes_of z.term) told counted;
       room_is = room_is;
       few = few;
-      page_is = subst (λ z. page ≡ page_by b z) told page_is;
+      page_is = subst (λ z. Keeps page (page_by b z)) told page_is;
+      begins_is = subst (KeepsBeginning begins b.grove.spec) told begins_is;
     }
 
 -- no capture is alone

@@ -13,7 +13,7 @@ use Rattle.sg_groves.specs.Holds.{Holds, IsPlaced}
 use Rattle.sg_groves.specs.TermAt.{term_at}
 use Rattle.sg_groves.proofs.Held.{part_held}
 use Rattle.sg_changes.specs.Captured.{Captured}
-use Rattle.sg_changes.specs.Changes.{Change, Mark as Marking, marked as marked_term, marks_at, marks_of}
+use Rattle.sg_changes.specs.Changes.{Mark as Marking, marked as marked_term, marks_at, marks_of}
 use Rattle.sg_changes.specs.Told.{tops}
 use Rattle.sg_changes.specs.declared.spot.Selection.{Selection}
 use Rattle.sg_changes.specs.declared.spot.Spot.{Spot}
@@ -24,6 +24,7 @@ use Rattle.sg_changes.proofs.Marking.{part_is}
 use Rattle.sg_changes.proofs.Telling.{agree_past, mark_pushed}
 use Rattle.sg_undo.specs.Timeline.{Timeline}
 use Rattle.sg_unparse.specs.Sheet.{Sheet}
+use Rattle.sg_unparse.specs.declared.page.Beginning.{Beginning}
 use Rattle.sg_states.specs.Selections.{alone, path_to, settled_selection}
 use Rattle.sg_states.specs.Seen.{seen}
 use Rattle.sg_states.specs.States.{State, marked, remarked, selected_place}
@@ -32,7 +33,7 @@ use Rattle.sg_states.specs.declared.marks.Mark.{Mark}
 use Rattle.sg_states.proofs.Selecting.{path_back}
 use Rattle.sg_states.proofs.Spotted.{settled_seen}
 use Rattle.sg_turns.specs.Roots.{times}
-use Rattle.sg_turns.specs.Turns.{IsTurned, MayTurn}
+use Rattle.sg_turns.specs.Turns.{IsSeen, MayTurn}
 use Rattle.sg_turns.specs.declared.marks.Remark.{Remark}
 use Rattle.sg_turns.specs.declared.turns.Turned.{Turned}
 use Rattle.sg_turns.specs.declared.turns.What.TheVariants.{Shown}
@@ -54,7 +55,7 @@ step_same : (path path' : List ℕ) (was new : Marks) (before before' after afte
 step_same path path' was new before before' after after' p q r =
     ap (λ z. Marked z was new before after) p ∙ ap (λ z. Marked path' was new z after) q ∙ ap (λ z. Marked path' was new before' z) r
 
-module _ (b : Held) (count room : ℕ) (page : Sheet) (is : IsBuffer b count room page) where
+module _ (b : Held) (count room : ℕ) (page : Option Sheet) (begins : Option Beginning) (is : IsBuffer b count room page begins) where
   abbrev st : State
   st = state_of b
 
@@ -109,19 +110,19 @@ module _ (b : Held) (count room : ℕ) (page : Sheet) (is : IsBuffer b count roo
     abbrev step : Step
     step = Marked st.spot.selection.path r.old r.new st.spot spot
 
-    module _ (mid : Grove) (on : IsGrove mid) (spec : mid.spec ≡ b.grove.spec) (t : Turned) (turned : IsTurned b.grove mid b.root b.selected (Shown r.new) st.term u b.height (alone u) st.spot.top t) where
+    module _ (mid : Grove) (on : IsGrove mid) (spec : mid.spec ≡ b.grove.spec) (t : Turned) (turned : IsSeen b.grove mid b.root b.selected (Shown r.new) st.term u b.height (alone u) st.spot.top t) where
       pub mark_changed : Changed b mid now (Marking u r.old r.new st.spot spot) step spot t
       mark_changed = record {
         grove = on;
         spec = spec;
-        whole = turned.whole;
-        fits = turned.fits;
+        whole = turned.turned.whole;
+        fits = turned.turned.fits;
         small = small_marked st.term u x r.new part.2 is.stands.small;
         look = turned.look;
         seen = settled_seen b.grove.spec b.height now (alone u) st.spot.top is.stands.tall;
         told = mark_pushed (term_at b.grove) (term_at mid) st.term st.spot.selection.path r.old r.new st.spot spot b.past there
             (agree_past (term_at b.grove) (term_at mid) b.past b.future
-            (agree_then b.grove mid is.stands.grove on b.root [] (tops b.past b.future) is.stands.roots (keeps_by b.grove mid b.root (Shown r.new) turned.hanging)));
+            (agree_then b.grove mid is.stands.grove on b.root [] (tops b.past b.future) is.stands.roots (keeps_by b.grove mid b.root (Shown r.new) turned.turned.hanging)));
         can = record {
           stands = there;
           proper = turnable.low;
@@ -130,17 +131,17 @@ module _ (b : Held) (count room : ℕ) (page : Sheet) (is : IsBuffer b count roo
           after = settled_seen b.grove.spec b.height now (alone u) st.spot.top is.stands.tall;
         };
         after = refl;
-        roots = turned.roots (tops b.past b.future) is.stands.roots;
+        roots = turned.turned.roots (tops b.past b.future) is.stands.roots;
       }
 
       pub toggled_closes : (kept : Grove) → IsGrove kept → (h : Timeline Step) → Remembers mid kept b.past b.future room step h → (o : Option Captured) → o ≡ None
-          → IsBuffer (changed_held b kept t h o) count h.room t.look.page × (state_of (changed_held b kept t h o) ≡ remarked b.grove.spec b.height r.old r.new st)
+          → IsBuffer (changed_held b kept t h o) count h.room t.look.page t.look.begins × (state_of (changed_held b kept t h o) ≡ remarked b.grove.spec b.height r.old r.new st)
       toggled_closes kept still h remembers o none =
-          let c = changed_closes b count room page is mid kept still now (Marking u r.old r.new st.spot spot) step spot t mark_changed h remembers o none count (is.counted ∙ sym (nodes_marked st.term u x r.new part.2)) in
+          let c = changed_closes b count room page begins is mid kept still now (Marking u r.old r.new st.spot spot) step spot t mark_changed h remembers o none count (is.counted ∙ sym (nodes_marked st.term u x r.new part.2)) in
           (c.is, c.told)
 
 -- the same, from what the calls tell, where the fields are seen as another value
-module _ (b v : Held) (view : b ≡ v) (count room : ℕ) (page : Sheet) (is : IsBuffer b count room page) (mark : Mark) where
+module _ (b v : Held) (view : b ≡ v) (count room : ℕ) (page : Option Sheet) (begins : Option Beginning) (is : IsBuffer b count room page begins) (mark : Mark) where
   pub nothing_to_turn : ((t : Term) → Holds b.grove b.selected t → turned_in b.grove.spec mark t ≡ None) → marked v.grove.spec v.height mark (state_of v) ≡ None
   nothing_to_turn none =
       subst (λ z. marked z.grove.spec z.height mark (state_of z) ≡ None) view
@@ -152,39 +153,39 @@ module _ (b v : Held) (view : b ≡ v) (count room : ℕ) (page : Sheet) (is : I
   module _ (r : Remark) (turnable : Turnable b.grove b.selected mark r) (before : Spot)
       (told : (root : NodeId) (t : Term) (w : Place) → IsPlaced b.grove root t w b.selected → before ≡ record { selection = record { path = path_to w; count = b.count }; top = b.top })
       (one : v.count ≡ 1) (none : v.capture ≡ None) (mid : Grove) (on : IsGrove mid) (spec : mid.spec ≡ b.grove.spec) (t : Turned)
-      (turned : (s : Term) (w : Place) → MayTurn b.grove b.root b.selected (Shown r.new) s w → IsTurned b.grove mid b.root b.selected (Shown r.new) s w b.height before.selection b.top t) where
+      (turned : (s : Term) (w : Place) → MayTurn b.grove b.root b.selected (Shown r.new) s w → IsSeen b.grove mid b.root b.selected (Shown r.new) s w b.height before.selection b.top t) where
     abbrev w : Place
     w = selected_place (state_of b)
 
     before_is : before ≡ (state_of b).spot
-    before_is = spot_is b count room page is before told
+    before_is = spot_is b count room page begins is before told
 
     one_is : before.selection ≡ alone w
     one_is =
         ap (λ (s : Spot). s.selection) (told b.root (state_of b).term w (standing.placed b (state_of b) is.stands))
         ∙ ap (λ n. let r : Selection = record { path = path_to w; count = n } in r) (ap (λ (z : Held). z.count) view ∙ one)
 
-    turned_now : IsTurned b.grove mid b.root b.selected (Shown r.new) (state_of b).term w b.height (alone w) (state_of b).spot.top t
+    turned_now : IsSeen b.grove mid b.root b.selected (Shown r.new) (state_of b).term w b.height (alone w) (state_of b).spot.top t
     turned_now =
-        subst (λ n. IsTurned b.grove mid b.root b.selected (Shown r.new) (state_of b).term w b.height (alone w) n t) is.stands.top
-        (subst (λ s. IsTurned b.grove mid b.root b.selected (Shown r.new) (state_of b).term w b.height s b.top t) one_is
-        (turned (state_of b).term w (may_mark b count room page is mark r turnable)))
+        subst (λ n. IsSeen b.grove mid b.root b.selected (Shown r.new) (state_of b).term w b.height (alone w) n t) is.stands.top
+        (subst (λ s. IsSeen b.grove mid b.root b.selected (Shown r.new) (state_of b).term w b.height s b.top t) one_is
+        (turned (state_of b).term w (may_mark b count room page begins is mark r turnable)))
 
     -- what hangs then
     pub hung_once : (n : NodeId) → times n (tops b.past b.future) ≤ 1
-    hung_once = listed_once mid t.root (tops b.past b.future) (turned_now.roots (tops b.past b.future) is.stands.roots)
+    hung_once = listed_once mid t.root (tops b.past b.future) (turned_now.turned.roots (tops b.past b.future) is.stands.roots)
 
     pub hung_root : (n : NodeId) → times n (tops b.past b.future) ≢ 0 → IsRoot (nodes mid) n
-    hung_root = listed_root mid t.root (tops b.past b.future) (turned_now.roots (tops b.past b.future) is.stands.roots)
+    hung_root = listed_root mid t.root (tops b.past b.future) (turned_now.turned.roots (tops b.past b.future) is.stands.roots)
 
     pub toggled_here : (path : List ℕ) → path ≡ before.selection.path → (step : Step) → step ≡ Marked path r.old r.new before t.look.spot
         → (kept : Grove) → IsGrove kept → (h : Timeline Step) → Remembers mid kept b.past b.future room step h
-        → IsBuffer (changed_held b kept t h b.capture) count h.room t.look.page
+        → IsBuffer (changed_held b kept t h b.capture) count h.room t.look.page t.look.begins
         × MatchOption (marked v.grove.spec v.height mark (state_of v)) ((true ≡ false) × (changed_held b kept t h b.capture ≡ v)) (λ after. (true ≡ true) × (state_of (changed_held b kept t h b.capture) ≡ after))
     toggled_here path path_is step step_is kept still h remembers =
-        let same = step_is ∙ step_same path (state_of b).spot.selection.path r.old r.new before (state_of b).spot t.look.spot (spot b count room page is mark r turnable) (path_is ∙ ap (λ (s : Spot). s.selection.path) before_is) before_is turned_now.look.spot_is in
-        let c = toggled_closes b count room page is mark r turnable mid on spec t turned_now kept still h (subst (λ z. Remembers mid kept b.past b.future room z h) same remembers) b.capture (ap (λ (z : Held). z.capture) view ∙ none) in (
+        let same = step_is ∙ step_same path (state_of b).spot.selection.path r.old r.new before (state_of b).spot t.look.spot (spot b count room page begins is mark r turnable) (path_is ∙ ap (λ (s : Spot). s.selection.path) before_is) before_is turned_now.look.spot_is in
+        let c = toggled_closes b count room page begins is mark r turnable mid on spec t turned_now kept still h (subst (λ z. Remembers mid kept b.past b.future room z h) same remembers) b.capture (ap (λ (z : Held). z.capture) view ∙ none) in (
           c.0,
           subst (λ (z : Held). MatchOption (marked z.grove.spec z.height mark (state_of z)) ((true ≡ false) × (changed_held b kept t h b.capture ≡ v)) (λ after. (true ≡ true) × (state_of (changed_held b kept t h b.capture) ≡ after))) view
-              (subst (λ o. MatchOption o ((true ≡ false) × (changed_held b kept t h b.capture ≡ v)) (λ after. (true ≡ true) × (state_of (changed_held b kept t h b.capture) ≡ after))) (sym (marked_told b count room page is mark r turnable)) (refl, c.1)),
+              (subst (λ o. MatchOption o ((true ≡ false) × (changed_held b kept t h b.capture ≡ v)) (λ after. (true ≡ true) × (state_of (changed_held b kept t h b.capture) ≡ after))) (sym (marked_told b count room page begins is mark r turnable)) (refl, c.1)),
         )

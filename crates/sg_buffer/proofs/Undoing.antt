@@ -1,5 +1,5 @@
 -- A buffer after its newest change is undone.
-use Rattle.std.specs.Prelude.{◌≡◌, ◌≢◌, refl, ℕ, ◌+◌, ◌≤◌, true, List, [], ◌∷◌, ◌++◌, length, slice_get, None, Some}
+use Rattle.std.specs.Prelude.{◌≡◌, ◌≢◌, refl, ℕ, ◌+◌, ◌≤◌, true, List, [], ◌∷◌, ◌++◌, length, slice_get, Option, None, Some}
 use Rattle.std.proofs.Common.{sym, ap, ◌∙◌, subst, arith}
 use Rattle.std.proofs.lemmas.Option.{none-some, same_Some}
 use Rattle.sg_kinds.specs.Terms.{Term, nodes_of}
@@ -9,7 +9,7 @@ use Rattle.sg_kinds.specs.Sound.{IsSmall}
 use Rattle.sg_kinds.specs.declared.spec.Spec.{Spec}
 use Rattle.sg_eval.specs.declared.journal.Instance.{Instance}
 use Rattle.sg_forest.specs.declared.node_id.NodeId.{NodeId}
-use Rattle.sg_forest.specs.Trees.{IsRoot}
+use Rattle.sg_forest.specs.Trees.{Climbs, IsRoot}
 use Rattle.sg_groves.specs.Grove.{Grove, nodes, IsGrove}
 use Rattle.sg_groves.specs.TermAt.{term_at}
 use Rattle.sg_changes.specs.Chain.{AllRedo, AllUndo, CanUndo, HasNew, IsProper, Passes}
@@ -20,12 +20,16 @@ use Rattle.sg_changes.specs.declared.step.Step.{Step}
 use Rattle.sg_changes.specs.declared.step.Step.TheVariants.{Replaced, Marked}
 use Rattle.sg_changes.proofs.Telling.{back_future, back_past, back_redoes}
 use Rattle.sg_undo.specs.Timeline.{Timeline}
+use Rattle.sg_select.specs.RestingPlaces.{settled}
+use Rattle.sg_select.proofs.Settling.{settled_itself}
 use Rattle.sg_unparse.specs.Sheet.{Sheet}
-use Rattle.sg_states.specs.Selections.{place_in, settled_selection}
-use Rattle.sg_states.specs.Seen.{is_spot, seen}
+use Rattle.sg_unparse.specs.declared.page.Beginning.{Beginning}
+use Rattle.sg_states.specs.Selections.{place_in}
+use Rattle.sg_states.specs.Seen.{is_spot}
 use Rattle.sg_states.specs.States.{State, undone, undone_by}
-use Rattle.sg_states.specs.Paged.{IsLook, IsWhole, page_seen}
-use Rattle.sg_states.proofs.Spotted.{spot_stays}
+use Rattle.sg_states.specs.Paged.{IsWhole}
+use Rattle.sg_states.proofs.Selecting.{selection_rests}
+use Rattle.sg_states.proofs.Spotted.{spot_selects}
 use Rattle.sg_turns.specs.Roots.{times, AreTheRoots}
 use Rattle.sg_turns.specs.Stepped.{IsStepped, MayStep, seen_before, step_place, undoing}
 use Rattle.sg_turns.specs.Turns.{Notes, NotesSome, comes_out, goes_in, made}
@@ -34,7 +38,7 @@ use Rattle.sg_turns.proofs.Hanging.{agree_then, keeps_by, listed_apart, listed_r
 use Rattle.sg_turns.proofs.Stepping.{in_before, made_before, may_mark, may_swap, out_before, part_before, spot_before}
 use Rattle.sg_turns.proofs.Times.{times_append, times_cons, times_same}
 use Rattle.sg_buffer.specs.Gains.{GainedBack, NotedBack, OfFirst}
-use Rattle.sg_buffer.specs.Held.{Held, state_of, typed_by}
+use Rattle.sg_buffer.specs.Held.{Held, state_of}
 use Rattle.sg_buffer.specs.Buffers.{StandsFor, IsBuffer}
 use Rattle.sg_buffer.proofs.Closing.{Closes, closes}
 use Rattle.sg_buffer.proofs.Standing.{no_capture}
@@ -43,10 +47,10 @@ use Rattle.sg_buffer.proofs.Standing.{no_capture}
 abbrev pub stepped_held : Held → Grove → Stepped → List Step → List Step → Held
 stepped_held b new r past future = record {
   grove = new;
-  root = r.turned.root;
-  selected = r.turned.look.selected;
-  count = r.turned.look.spot.selection.count;
-  top = r.turned.look.spot.top;
+  root = r.root;
+  selected = r.selected;
+  count = r.count;
+  top = r.top;
   height = b.height;
   past = past;
   future = future;
@@ -76,7 +80,7 @@ may_back g is root t count whole fits counted small (Replaced path hangs before 
 may_back g is root t count whole fits counted small (Marked path old new before after) roots at proper later =
     may_mark g is root t (step_place (Marked path old new before after)) count whole fits counted small new old at proper.0 later
 
-module _ (b : Held) (count room : ℕ) (page : Sheet) (is : IsBuffer b count room page) (s : Step) (rest : List Step) (past_is : b.past ≡ s ∷ rest) where
+module _ (b : Held) (count room : ℕ) (page : Option Sheet) (begins : Option Beginning) (is : IsBuffer b count room page begins) (s : Step) (rest : List Step) (past_is : b.past ≡ s ∷ rest) where
   abbrev st : State
   st = state_of b
 
@@ -126,7 +130,7 @@ module _ (b : Held) (count room : ℕ) (page : Sheet) (is : IsBuffer b count roo
   pub undone_is : undone st ≡ undone_by (c ∷ older) st
   undone_is = ap (λ cs. undone_by cs st) (sym past_then)
 
-  module _ (new : Grove) (on : IsGrove new) (spec : new.spec ≡ g.spec) (r : Stepped) (stepped : IsStepped g new b.root st.term (step_place s) (undoing s) b.height (seen_before s) r) where
+  module _ (new : Grove) (on : IsGrove new) (spec : new.spec ≡ g.spec) (r : Stepped) (stepped : IsStepped g new b.root st.term (step_place s) (undoing s) (seen_before s) r) where
     abbrev now : Term
     now = undone_term st.term c
 
@@ -139,24 +143,25 @@ module _ (b : Held) (count room : ℕ) (page : Sheet) (is : IsBuffer b count roo
     exchanged : Exchanged (term_at g) (term_at new) st.term s r.out rest b.future
     exchanged = record { top = part_before new on st.term s r.out stepped.turned.out; others = agree }
 
-    whole : IsWhole new r.turned.root now
-    whole = subst (IsWhole new r.turned.root) made_is stepped.turned.whole
+    whole : IsWhole new r.root now
+    whole = subst (IsWhole new r.root) made_is stepped.turned.whole
 
-    looked : IsLook new r.turned.root now (seen_before s) r.turned.look
-    looked =
-        subst (λ z. IsLook new r.turned.root now z r.turned.look) (spot_stays g.spec b.height now (seen_before s) (subst (λ z. is_spot g.spec b.height now z ≡ true) (sym (spot_before (term_at g) st.term s)) can.before))
-        (subst (λ t. IsLook new r.turned.root t (seen g.spec b.height t (settled_selection g.spec t (seen_before s).selection) (seen_before s).top) r.turned.look) made_is stepped.turned.look)
+    -- the spot of the step is one of the term then, so it is settled there
+    selected : Climbs (nodes new) (place_in (before_of c).selection) r.selected r.root
+    selected =
+        let t = made (term_at g) st.term (step_place s) (undoing s) in
+        let u = place_in (seen_before s).selection in
+        let spot : is_spot g.spec b.height t (seen_before s) ≡ true = subst (λ z. is_spot g.spec b.height t z ≡ true) (sym (spot_before (term_at g) st.term s)) (subst (λ z. is_spot g.spec b.height z (before_of c) ≡ true) (sym made_is) can.before) in
+        subst (λ (z : Spot). Climbs (nodes new) (place_in z.selection) r.selected r.root) (spot_before (term_at g) st.term s)
+        (subst (λ z. Climbs (nodes new) z r.selected r.root) (ap (λ (z : Spec). settled z t u) spec ∙ settled_itself g.spec t u (selection_rests g.spec t u (seen_before s).selection.count (spot_selects g.spec b.height t (seen_before s) spot))) stepped.selected)
 
-    look : IsLook new r.turned.root now (before_of c) r.turned.look
-    look = subst (λ z. IsLook new r.turned.root now z r.turned.look) (spot_before (term_at g) st.term s) looked
-
-    roots_then : AreTheRoots new (r.turned.root ∷ tops rest (hung s r.out ∷ b.future))
-    roots_then = roots_alike new (r.turned.root ∷ (comes_out (undoing s) r.out ++ tops rest b.future)) (r.turned.root ∷ tops rest (hung s r.out ∷ b.future)) same (stepped.turned.roots (tops rest b.future) roots_split)
+    roots_then : AreTheRoots new (r.root ∷ tops rest (hung s r.out ∷ b.future))
+    roots_then = roots_alike new (r.root ∷ (comes_out (undoing s) r.out ++ tops rest b.future)) (r.root ∷ tops rest (hung s r.out ∷ b.future)) same (stepped.turned.roots (tops rest b.future) roots_split)
       where
-        same : (n : NodeId) → times n (r.turned.root ∷ tops rest (hung s r.out ∷ b.future)) ≡ times n (r.turned.root ∷ (comes_out (undoing s) r.out ++ tops rest b.future))
+        same : (n : NodeId) → times n (r.root ∷ tops rest (hung s r.out ∷ b.future)) ≡ times n (r.root ∷ (comes_out (undoing s) r.out ++ tops rest b.future))
         same n =
-            let p = times_cons n r.turned.root (tops rest (hung s r.out ∷ b.future)) in
-            let q = times_cons n r.turned.root (comes_out (undoing s) r.out ++ tops rest b.future) in
+            let p = times_cons n r.root (tops rest (hung s r.out ∷ b.future)) in
+            let q = times_cons n r.root (comes_out (undoing s) r.out ++ tops rest b.future) in
             let a = times_append n (comes_out (undoing s) r.out) (tops rest b.future) in
             let e = times_future n (hung s r.out) rest b.future in
             let i = ap (times n) (out_before s r.out) in
@@ -169,9 +174,9 @@ module _ (b : Held) (count room : ℕ) (page : Sheet) (is : IsBuffer b count roo
       fits = subst (λ (z : Spec). Fits z now z.root) (sym spec) (subst (λ t. Fits g.spec t g.spec.root) made_is stepped.turned.fits);
       small = can.small;
       tall = is.stands.tall;
-      selected = look.selected;
-      count = ap (λ (z : Spot). z.selection.count) look.spot_is;
-      top = ap (λ (z : Spot). z.top) look.spot_is;
+      selected = selected;
+      count = stepped.count ∙ ap (λ (z : Spot). z.selection.count) (spot_before (term_at g) st.term s);
+      top = stepped.top ∙ ap (λ (z : Spot). z.top) (spot_before (term_at g) st.term s);
       spot = subst (λ (z : Spec). is_spot z b.height now (before_of c) ≡ true) (sym spec) can.before;
       past = back_past (term_at g) (term_at new) st.term s r.out rest b.future exchanged;
       future = back_future (term_at g) (term_at new) st.term s r.out rest b.future can.stands exchanged ∙ ap (λ cs. c ∷ cs) is.stands.future;
@@ -179,7 +184,7 @@ module _ (b : Held) (count room : ℕ) (page : Sheet) (is : IsBuffer b count roo
       redoes = subst (λ (z : Spec). AllRedo z (Passes (is_spot z b.height)) now (c ∷ st.future)) (sym spec) redoes;
       roots = roots_then;
       capture = is.stands.capture;
-      alone = no_capture (stepped_held b new r rest (hung s r.out ∷ b.future)) none r.turned.look.spot.selection.count;
+      alone = no_capture (stepped_held b new r rest (hung s r.out ∷ b.future)) none r.count;
     }
       where
         redoes : AllRedo g.spec (Passes (is_spot g.spec b.height)) now (c ∷ st.future)
@@ -192,10 +197,9 @@ module _ (b : Held) (count room : ℕ) (page : Sheet) (is : IsBuffer b count roo
     few : length rest + length (hung s r.out ∷ b.future) ≤ 256
     few = (let e = ap length past_is in let f = is.few in omega (arith, e, f))
 
-    pub undone_closes : b.capture ≡ None → Closes (stepped_held b new r rest (hung s r.out ∷ b.future)) (undone_by (c ∷ older) st) r.nodes room r.turned.look.page
+    pub undone_closes : b.capture ≡ None → Closes (stepped_held b new r rest (hung s r.out ∷ b.future)) (undone_by (c ∷ older) st) r.nodes room None None
     undone_closes none =
-        closes (stepped_held b new r rest (hung s r.out ∷ b.future)) (undone_by (c ∷ older) st) r.nodes room r.turned.look.page (undone_stands none) (stepped.counted ∙ ap nodes_of made_is) is.room_is few
-        (look.page ∙ sym (ap (λ o. page_seen new r.turned.root now (typed_by o (place_in (before_of c).selection))) none))
+        closes (stepped_held b new r rest (hung s r.out ∷ b.future)) (undone_by (c ∷ older) st) r.nodes room None None (undone_stands none) (stepped.counted ∙ ap nodes_of made_is) is.room_is few tt tt
 
 -- what the journal gains
 gained_back : (g new : Grove) (root : NodeId) (t : Term) (s : Step) (was now : List Instance) → Notes g new root t (step_place s) (undoing s) was now → GainedBack g.spec t was now new root (past_change (term_at g) t s)
@@ -207,29 +211,29 @@ noted_back g t (Replaced path hangs before after) was now notes = notes
 noted_back g t (Marked path old made before after) was now notes = notes
 
 -- where the fields are seen as another value
-module _ (b v : Held) (view : b ≡ v) (count room : ℕ) (page : Sheet) (is : IsBuffer b count room page) where
+module _ (b v : Held) (view : b ≡ v) (count room : ℕ) (page : Option Sheet) (begins : Option Beginning) (is : IsBuffer b count room page begins) where
   pub nothing_past : b.past ≡ [] → (state_of v).past ≡ []
   nothing_past none = subst (λ (z : Held). (state_of z).past ≡ []) view (sym is.stands.past ∙ ap (told_past (term_at b.grove) (state_of b).term) none)
 
   module _ (s : Step) (rest : List Step) (past_is : b.past ≡ s ∷ rest) where
     pub some_past : (state_of v).past ≢ []
     some_past none = no_cons (past_change (term_at b.grove) (state_of b).term s) (told_past (term_at b.grove) (undone_term (state_of b).term (past_change (term_at b.grove) (state_of b).term s)) rest)
-        (past_then b count room page is s rest past_is ∙ subst (λ (z : Held). (state_of z).past ≡ []) (sym view) none)
+        (past_then b count room page begins is s rest past_is ∙ subst (λ (z : Held). (state_of z).past ≡ []) (sym view) none)
       where
         no_cons : (x : Change) (xs : List Change) → x ∷ xs ≡ [] → ⊥
         no_cons x xs = cc
 
     pub undone_here : v.capture ≡ None → (new : Grove) → IsGrove new → new.spec ≡ b.grove.spec → (r : Stepped)
-        → ((t : Term) → MayStep b.grove b.root t (step_place s) (undoing s) count → IsStepped b.grove new b.root t (step_place s) (undoing s) b.height (seen_before s) r)
+        → ((t : Term) → MayStep b.grove b.root t (step_place s) (undoing s) count → IsStepped b.grove new b.root t (step_place s) (undoing s) (seen_before s) r)
         → (h : Timeline Step) → h.past ≡ rest → h.future ≡ hung s r.out ∷ b.future → h.room ≡ room
-        → IsBuffer (stepped_held b new r h.past h.future) r.nodes h.room r.turned.look.page × (state_of (stepped_held b new r h.past h.future) ≡ undone (state_of v))
+        → IsBuffer (stepped_held b new r h.past h.future) r.nodes h.room None None × (state_of (stepped_held b new r h.past h.future) ≡ undone (state_of v))
     undone_here none new on spec r stepped h past future room_is =
-        let d = undone_closes b count room page is s rest past_is new on spec r (stepped (state_of b).term (may_undo b count room page is s rest past_is)) (ap (λ (z : Held). z.capture) view ∙ none) in (
-          subst (λ k. IsBuffer (stepped_held b new r h.past h.future) r.nodes k r.turned.look.page) (sym room_is)
-              (subst (λ ss. IsBuffer (stepped_held b new r h.past ss) r.nodes room r.turned.look.page) (sym future)
-              (subst (λ ss. IsBuffer (stepped_held b new r ss (hung s r.out ∷ b.future)) r.nodes room r.turned.look.page) (sym past) d.is)),
+        let d = undone_closes b count room page begins is s rest past_is new on spec r (stepped (state_of b).term (may_undo b count room page begins is s rest past_is)) (ap (λ (z : Held). z.capture) view ∙ none) in (
+          subst (λ k. IsBuffer (stepped_held b new r h.past h.future) r.nodes k None None) (sym room_is)
+              (subst (λ ss. IsBuffer (stepped_held b new r h.past ss) r.nodes room None None) (sym future)
+              (subst (λ ss. IsBuffer (stepped_held b new r ss (hung s r.out ∷ b.future)) r.nodes room None None) (sym past) d.is)),
           subst (λ (z : Held). state_of (stepped_held b new r h.past h.future) ≡ undone (state_of z)) view
-              (ap (λ ss. state_of (stepped_held b new r ss h.future)) past ∙ ap (λ ss. state_of (stepped_held b new r rest ss)) future ∙ d.told ∙ sym (undone_is b count room page is s rest past_is)),
+              (ap (λ ss. state_of (stepped_held b new r ss h.future)) past ∙ ap (λ ss. state_of (stepped_held b new r rest ss)) future ∙ d.told ∙ sym (undone_is b count room page begins is s rest past_is)),
         )
 
     pub gained_here : (new : Grove) (root : NodeId) (was now : List Instance)
@@ -237,13 +241,13 @@ module _ (b v : Held) (view : b ≡ v) (count room : ℕ) (page : Sheet) (is : I
         → OfFirst (state_of v).past (GainedBack v.grove.spec (state_of v).term was now new root)
     gained_here new root was now notes =
         subst (λ (z : Held). OfFirst (state_of z).past (GainedBack z.grove.spec (state_of z).term was now new root)) view
-        (subst (λ cs. OfFirst cs (GainedBack b.grove.spec (state_of b).term was now new root)) (past_then b count room page is s rest past_is)
-        (gained_back b.grove new root (state_of b).term s was now (notes (state_of b).term (may_undo b count room page is s rest past_is))))
+        (subst (λ cs. OfFirst cs (GainedBack b.grove.spec (state_of b).term was now new root)) (past_then b count room page begins is s rest past_is)
+        (gained_back b.grove new root (state_of b).term s was now (notes (state_of b).term (may_undo b count room page begins is s rest past_is))))
 
     pub noted_here : (was now : List Instance)
         → ((t : Term) → MayStep b.grove b.root t (step_place s) (undoing s) count → NotesSome b.grove t (step_place s) (undoing s) was now)
         → OfFirst (state_of v).past (NotedBack v.grove.spec (state_of v).term was now)
     noted_here was now notes =
         subst (λ (z : Held). OfFirst (state_of z).past (NotedBack z.grove.spec (state_of z).term was now)) view
-        (subst (λ cs. OfFirst cs (NotedBack b.grove.spec (state_of b).term was now)) (past_then b count room page is s rest past_is)
-        (noted_back b.grove (state_of b).term s was now (notes (state_of b).term (may_undo b count room page is s rest past_is))))
+        (subst (λ cs. OfFirst cs (NotedBack b.grove.spec (state_of b).term was now)) (past_then b count room page begins is s rest past_is)
+        (noted_back b.grove (state_of b).term s was now (notes (state_of b).term (may_undo b count room page begins is s rest past_is))))

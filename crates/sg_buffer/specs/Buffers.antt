@@ -1,19 +1,22 @@
 -- When a buffer is one.
-use Rattle.std.specs.Prelude.{◌≡◌, ℕ, ◌+◌, ◌<◌, ◌≤◌, true, ◌∷◌, length, MatchOption, ⊤}
+use Rattle.std.specs.Prelude.{◌≡◌, ℕ, ◌+◌, ◌<◌, ◌≤◌, true, ◌∷◌, length, Option, MatchOption, ⊤}
 use Rattle.sg_kinds.specs.Terms.{nodes_of}
 use Rattle.sg_kinds.specs.Fits.{Fits}
 use Rattle.sg_kinds.specs.Sound.{IsSmall}
+use Rattle.sg_kinds.specs.declared.spec.Spec.{Spec}
 use Rattle.sg_forest.specs.Trees.{Climbs}
 use Rattle.sg_groves.specs.Grove.{nodes, IsGrove}
 use Rattle.sg_groves.specs.TermAt.{term_at}
 use Rattle.sg_changes.specs.Chain.{AllUndo, AllRedo, Passes}
 use Rattle.sg_changes.specs.Told.{told_past, told_future, tops}
 use Rattle.sg_unparse.specs.Sheet.{Sheet}
+use Rattle.sg_unparse.specs.declared.page.Beginning.{Beginning}
+use Rattle.sg_states.specs.Beginnings.{Begins}
 use Rattle.sg_states.specs.Selections.{place_in}
 use Rattle.sg_states.specs.Seen.{is_spot}
 use Rattle.sg_states.specs.States.{State}
-use Rattle.sg_states.specs.Paged.{IsWhole, page_seen}
-use Rattle.sg_buffer.specs.Held.{Held, state_of, typed_by}
+use Rattle.sg_states.specs.Paged.{IsWhole}
+use Rattle.sg_buffer.specs.Held.{Held, shown, state_of}
 use Rattle.sg_turns.specs.Roots.{AreTheRoots}
 
 -- what is held stands for a state: a right tree holds its term, which fits the root's phylum and is in the limits; a
@@ -37,12 +40,20 @@ pub record StandsFor (b : Held) (st : State) : Type 0 where
   pub capture : b.capture ≡ st.capture
   pub alone : MatchOption b.capture ⊤ (λ _. b.count ≡ 1)
 
--- a buffer besides knows how many nodes its term has, and keeps the page that shows the term and what is being typed; its
--- history has room for 256 steps
-pub record IsBuffer (b : Held) (count room : ℕ) (page : Sheet) : Type 0 where
+-- a page that is kept is this one
+abbrev pub Keeps : Option Sheet → Sheet → Type 0
+Keeps page s = MatchOption page ⊤ (λ p. p ≡ s)
+
+-- where the selected node begins, where that is kept
+abbrev pub KeepsBeginning : Option Beginning → Spec → State → Type 0
+KeepsBeginning begins spec st = MatchOption begins ⊤ (Begins spec st.term (place_in st.spot.selection))
+
+-- a buffer besides knows how many nodes its term has; a page that it keeps shows the term and what is being typed, and
+-- a beginning that it keeps is that of the selected node; its history has room for 256 steps
+pub record IsBuffer (b : Held) (count room : ℕ) (page : Option Sheet) (begins : Option Beginning) : Type 0 where
   pub stands : StandsFor b (state_of b)
   pub counted : count ≡ nodes_of (state_of b).term
   pub room_is : room ≡ 256
   pub few : length b.past + length b.future ≤ 256
-  pub page_is :
-      page ≡ page_seen b.grove b.root (state_of b).term (typed_by b.capture (place_in (state_of b).spot.selection))
+  pub page_is : Keeps page (shown b)
+  pub begins_is : KeepsBeginning begins b.grove.spec (state_of b)

@@ -22,7 +22,9 @@ use Rattle.sg_changes.specs.Told.{told_past, told_future}
 use Rattle.sg_changes.specs.declared.spot.Spot.{Spot}
 use Rattle.sg_changes.specs.declared.step.Step.{Step}
 use Rattle.sg_changes.specs.contracts.step.Step as the_step
-use Rattle.sg_states.specs.Selections.{path_to}
+use Rattle.sg_unparse.specs.Sheet.{Sheet}
+use Rattle.sg_states.specs.Paged.{page_seen}
+use Rattle.sg_states.specs.Selections.{path_to, place_in}
 use Rattle.sg_states.specs.Seen.{nothing_typed, typed_at}
 use Rattle.sg_states.specs.States.{State}
 
@@ -104,3 +106,10 @@ state_of b = record {
 abbrev pub typed_by : Option Captured → Place → Place → Option Bytes
 typed_by None u = nothing_typed
 typed_by (Some c) u = typed_at u c.text
+
+-- the page of a state's term and what is being typed
+abbrev pub page_by : Held → State → Sheet
+page_by b st = page_seen b.grove b.root st.term (typed_by b.capture (place_in st.spot.selection))
+
+abbrev pub shown : Held → Sheet
+shown b = page_by b (state_of b)

@@ -1,5 +1,5 @@
 //! Buffers.
-ghost use Rattle.std.specs.Prelude.{◌≡◌, ◌<◌, ◌≤◌, ◌↔◌, ◌⊎◌, ℕ, [], true, false, length, Contains, IfOk, IsErrOf, IsErrAnd, OnErr, IsTrue, MatchOption, ⊤, None, Some, Option, option_map, nat_lt, if◌then◌else◌};
+ghost use Rattle.std.specs.Prelude.{◌≡◌, ◌<◌, ◌≤◌, ◌↔◌, ◌⊎◌, ℕ, [], true, false, length, Contains, IfOk, IfSome, IsErrOf, IsErrAnd, OnErr, IsTrue, MatchOption, ⊤, None, Some, Option, option_map, nat_lt, if◌then◌else◌};
 ghost use Rattle.sg_kinds.specs.Values.{is_text};
 ghost use Rattle.sg_kinds.specs.Fits.{Fits};
 ghost use Rattle.sg_kinds.specs.Instances.{instances};
@@ -15,11 +15,11 @@ ghost use Rattle.sg_terms.specs.Entries.{GainedAll};
 ghost use Rattle.sg_build.specs.Counted.{AreCounts};
 ghost use Rattle.sg_select.specs.RestingPlaces.{settled};
 ghost use Rattle.sg_states.specs.Selections.{place_in};
-ghost use Rattle.sg_states.specs.Paged.{page_seen};
 ghost use Rattle.sg_states.specs.States as states;
 ghost use Rattle.sg_states.specs.States.{begun, selected_place, moved, picked, extension};
-ghost use Rattle.sg_buffer.specs.Held.{state_of, typed_by};
+ghost use Rattle.sg_buffer.specs.Held.{shown, state_of};
 ghost use Rattle.sg_buffer.specs.Buffers.{StandsFor};
+ghost use Rattle.sg_turns.specs.Known.{IsKnown};
 ghost use Rattle.sg_turns.specs.Noted.{Noted};
 
 use crate::fault::BufferFault;
@@ -34,19 +34,21 @@ use sg_kinds::row::Path;
 use sg_kinds::spec::Spec;
 use sg_kinds::term::Term;
 use sg_select::{at_cell, elements_from, path_of, settle, spine_of};
-use sg_states::{Extended, Move, page_of, page_with, target, top_at};
+use sg_states::{Extended, Move, begins_here, page_of, page_with, target, top_at};
 use sg_terms::Terms;
-use sg_turns::{begin, within};
+use sg_turns::{Known, begin, within};
 use sg_undo::History;
-use sg_unparse::Page;
+use sg_unparse::{Beginning, Page};
 use std::alloc::Global;
 use std::marker::Model;
 
 /// How many changes can be undone.
 pub const STEPS: usize = 256;
 
-/// A term in a forest, with its values and its page: a selection of it, the first line that a window shows, the changes
-/// that can be undone and done again, whose other subtrees hang in the forest, and a text that is being typed.
+/// A term in a forest, with its values: a selection of it, the first line that a window shows, the changes that can be
+/// undone and done again, whose other subtrees hang in the forest, and a text that is being typed. The page that shows
+/// it is made where it is wanted, and kept as long as it is right; so is where the selected node begins, which saves
+/// the page at a replacement.
 ///
 /// Each call takes its state to that of one definition, or leaves everything as it was.
 #[derive(Drop)]
@@ -61,7 +63,8 @@ pub struct Buffer {
     pub(crate) nodes: usize,
     pub(crate) history: History<Step>,
     pub(crate) capture: Option<Capture>,
-    pub(crate) page: Page,
+    pub(crate) page: Option<Page>,
+    pub(crate) begins: Option<Beginning>,
 }
 
 impl Model for Buffer {
@@ -95,7 +98,7 @@ impl Model for Buffer {
       past = b.history.past;
       future = b.history.future;
       capture = b.capture;
-    }) b.nodes b.history.room b.page };
+    }) b.nodes b.history.room b.page b.begins };
 }
 
 impl Buffer {
@@ -145,7 +148,8 @@ impl Buffer {
                 nodes,
                 history: fresh.history,
                 capture: None,
-                page: fresh.page,
+                page: None,
+                begins: None,
             }),
             Err(_) => Err(BufferFault::NoMemory),
         }
@@ -229,12 +233,53 @@ impl Buffer {
         }
     }
 
-    /// The page that shows the term and what is being typed.
-    pub fn page(&self) -> &Page
-        ensures { result.now ≡ page_seen self.now.grove self.now.root (state_of self.now).term
-            (typed_by self.now.capture (selected_place (state_of self.now))) }
+    // makes the page that shows the term and what is being typed
+    fn drawn(&self) -> Result<Page, NoMemory>
+        ensures { IfOk result (λ page. page ≡ shown self.now) }
     {
-        &self.page
+        match &self.capture {
+            Some(capture) => page_with(
+                self.alloc,
+                &self.terms,
+                self.root,
+                self.selected,
+                capture.text(),
+            ),
+            None => page_of(self.alloc, &self.terms, self.root),
+        }
+    }
+
+    /// Takes out the page that shows the term and what is being typed, made where none is kept.
+    pub fn take_page(&mut self) -> Result<Page, NoMemory>
+        ensures page { IfOk result (λ page. page ≡ shown self.old) }
+        ensures same { self.new ≡ self.old }
+    {
+        match self.page.take() {
+            Some(page) => Ok(page),
+            None => self.drawn(),
+        }
+    }
+
+    /// Keeps the page that was taken out.
+    pub fn keep_page(&mut self, page: Page)
+        requires { page ≡ shown self.old }
+        ensures { self.new ≡ self.old }
+    {
+        self.page = Some(page);
+    }
+
+    // what is known of the term where it is known where the selected node begins
+    pub(crate) fn beginning(&self) -> Option<Known>
+        ensures { IfSome result (IsKnown self.now.grove self.now.root) }
+    {
+        match self.begins {
+            Some(begins) => Some(Known {
+                selected: self.selected,
+                begins,
+                count: self.nodes,
+            }),
+            None => None,
+        }
     }
 
     /// The path of the selected node, of a run's first element.
@@ -244,73 +289,90 @@ impl Buffer {
         path_of(self.alloc, &self.terms, self.selected)
     }
 
-    // selects a resting place
-    fn stand(&mut self, n: NodeId)
+    // selects a resting place; without memory nothing changes
+    fn stand(&mut self, n: NodeId) -> Result<(), NoMemory>
         requires node { IsInside (nodes self.old.grove) n self.old.root }
         requires none { self.old.capture ≡ None }
         requires rests { (u : Place) → Climbs (nodes self.old.grove) u n self.old.root
             → settled self.old.grove.spec (state_of self.old).term u ≡ u }
-        ensures state { (u : Place) → Climbs (nodes self.old.grove) u n self.old.root → state_of self.new
-            ≡ states.selected self.old.grove.spec self.old.height u (state_of self.old) }
-        ensures kept { self.new ≡ record self.old { selected = n; count = 1; top = self.new.top } }
+        ensures state { (u : Place) → Climbs (nodes self.old.grove) u n self.old.root → IfOk result (λ _.
+            state_of self.new ≡ states.selected self.old.grove.spec self.old.height u (state_of self.old)) }
+        ensures kept { IfOk result (λ _. self.new
+            ≡ record self.old { selected = n; count = 1; top = self.new.top }) }
+        ensures err { OnErr result (self.new ≡ self.old) }
     {
-        self.top = top_at(&self.terms, &self.page, n, self.height, self.top);
+        let page = self.take_page()?;
+        self.top = top_at(&self.terms, &page, n, self.height, self.top);
+        self.begins = begins_here(&self.terms, &page, n);
         self.selected = n;
         self.count = 1;
+        self.page = Some(page);
+        Ok(())
     }
 
-    /// Selects the nearest resting place at or above a node of the term. No text is being typed.
-    pub fn select(&mut self, n: NodeId)
+    /// Selects the nearest resting place at or above a node of the term. No text is being typed. Without memory nothing
+    /// changes.
+    pub fn select(&mut self, n: NodeId) -> Result<(), NoMemory>
         requires node { IsInside (nodes self.old.grove) n self.old.root }
         requires none { self.old.capture ≡ None }
-        ensures state { (u : Place) → Climbs (nodes self.old.grove) u n self.old.root → state_of self.new
-            ≡ states.selected self.old.grove.spec self.old.height
-            (settled self.old.grove.spec (state_of self.old).term u) (state_of self.old) }
-        ensures kept { self.new ≡ record self.old { selected = self.new.selected; count = 1; top = self.new.top } }
+        ensures state { (u : Place) → Climbs (nodes self.old.grove) u n self.old.root → IfOk result (λ _.
+            state_of self.new ≡ states.selected self.old.grove.spec self.old.height
+            (settled self.old.grove.spec (state_of self.old).term u) (state_of self.old)) }
+        ensures kept { IfOk result (λ _. self.new
+            ≡ record self.old { selected = self.new.selected; count = 1; top = self.new.top }) }
+        ensures err { OnErr result (self.new ≡ self.old) }
     {
         let to = settle(&self.terms, n);
-        self.stand(to);
+        self.stand(to)
     }
 
     /// Selects the place to which a move leads, of a run from its first element; false exactly where it leads to none,
-    /// and then nothing changes. No text is being typed.
-    pub fn go(&mut self, to: Move) -> bool
+    /// and then nothing changes, nor without memory. No text is being typed.
+    pub fn go(&mut self, to: Move) -> Result<bool, NoMemory>
         requires { self.old.capture ≡ None }
-        ensures none { MatchOption (moved self.old.grove.spec self.old.height to (state_of self.old))
-            ((result ≡ false) × (self.new ≡ self.old)) (λ st. (result ≡ true) × (state_of self.new ≡ st)) }
+        ensures none { IfOk result (λ r. MatchOption (moved self.old.grove.spec self.old.height to
+            (state_of self.old)) ((r ≡ false) × (self.new ≡ self.old))
+            (λ st. (r ≡ true) × (state_of self.new ≡ st))) }
         ensures kept { self.new ≡ record self.old {
           selected = self.new.selected;
           count = self.new.count;
           top = self.new.top;
         } }
+        ensures err { OnErr result (self.new ≡ self.old) }
     {
         match target(&self.terms, self.selected, to) {
             Some(n) => {
-                self.stand(n);
-                true
+                self.stand(n)?;
+                Ok(true)
             }
-            None => false,
+            None => Ok(false),
         }
     }
 
     /// Selects the nearest resting place at or above the node that owns a cell of the page, by line and column, each
-    /// from 1; false exactly where there is no such cell, and then nothing changes. No text is being typed.
-    pub fn pick(&mut self, line: usize, col: usize) -> bool
+    /// from 1; false exactly where there is no such cell, and then nothing changes, nor without memory. No text is being
+    /// typed.
+    pub fn pick(&mut self, line: usize, col: usize) -> Result<bool, NoMemory>
         requires { self.old.capture ≡ None }
-        ensures none { MatchOption (picked self.old.grove.spec self.old.height line col (state_of self.old))
-            ((result ≡ false) × (self.new ≡ self.old)) (λ st. (result ≡ true) × (state_of self.new ≡ st)) }
+        ensures none { IfOk result (λ r. MatchOption (picked self.old.grove.spec self.old.height line col
+            (state_of self.old)) ((r ≡ false) × (self.new ≡ self.old))
+            (λ st. (r ≡ true) × (state_of self.new ≡ st))) }
         ensures kept { self.new ≡ record self.old {
           selected = self.new.selected;
           count = self.new.count;
           top = self.new.top;
         } }
+        ensures err { OnErr result (self.new ≡ self.old) }
     {
-        match at_cell(&self.terms, &self.page, line, col) {
+        let page = self.take_page()?;
+        let at = at_cell(&self.terms, &page, line, col);
+        self.keep_page(page);
+        match at {
             Some(n) => {
-                self.stand(n);
-                true
+                self.stand(n)?;
+                Ok(true)
             }
-            None => false,
+            None => Ok(false),
         }
     }
 
@@ -357,15 +419,8 @@ impl Buffer {
         ensures err { OnErr result (self.new ≡ self.old) }
     {
         let capture = typed(self.alloc, &self.capture, bytes)?;
-        let page = page_with(
-            self.alloc,
-            &self.terms,
-            self.root,
-            self.selected,
-            capture.text(),
-        )?;
         self.capture = Some(capture);
-        self.page = page;
+        self.page = None;
         Ok(())
     }
 
@@ -381,15 +436,8 @@ impl Buffer {
         let Some(capture) = erased(self.alloc, &self.capture)? else {
             return Ok(false);
         };
-        let page = page_with(
-            self.alloc,
-            &self.terms,
-            self.root,
-            self.selected,
-            capture.text(),
-        )?;
         self.capture = Some(capture);
-        self.page = page;
+        self.page = None;
         Ok(true)
     }
 
@@ -404,15 +452,12 @@ impl Buffer {
         }
     }
 
-    /// Ends the typing, if a text is being typed. Without memory nothing changes.
-    pub fn end_capture(&mut self) -> Result<(), NoMemory>
-        ensures ended { IfOk result (λ _. state_of self.new ≡ states.ended (state_of self.old)) }
+    /// Ends the typing, if a text is being typed.
+    pub fn end_capture(&mut self)
+        ensures ended { state_of self.new ≡ states.ended (state_of self.old) }
         ensures kept { self.new ≡ record self.old { capture = self.new.capture } }
-        ensures err { OnErr result (self.new ≡ self.old) }
     {
-        let page = page_of(self.alloc, &self.terms, self.root)?;
         self.capture = None;
-        self.page = page;
-        Ok(())
+        self.page = None;
     }
 }

@@ -67,11 +67,13 @@ impl Buffer {
         )?;
         self.terms.facts();
         self.root = turned.root;
-        self.selected = turned.look.selected;
-        self.count = turned.look.spot.selection.count;
-        self.top = turned.look.spot.top;
-        self.page = turned.look.page;
-        let step = Step::marked(path, marks.old, marks.new, before, turned.look.spot);
+        let seen = turned.look;
+        self.selected = seen.selected;
+        self.count = seen.spot.selection.count;
+        self.top = seen.spot.top;
+        self.page = seen.page;
+        self.begins = seen.begins;
+        let step = Step::marked(path, marks.old, marks.new, before, seen.spot);
         remember(&mut self.terms, &mut self.history, step);
         self.terms.facts();
         Ok(true)
@@ -159,6 +161,7 @@ impl Buffer {
     {
         let before = spot_at(self.alloc, &self.terms, self.selected, self.count, self.top)?;
         let path = at.copy(self.alloc)?;
+        let begins = self.beginning();
         let placed = put_term(
             self.alloc,
             &mut self.terms,
@@ -168,17 +171,20 @@ impl Buffer {
             select,
             self.height,
             self.top,
+            begins,
             plans,
             ev,
             journal,
         )?;
         self.terms.facts();
         self.root = placed.root;
-        self.selected = placed.look.selected;
-        self.count = placed.look.spot.selection.count;
-        self.top = placed.look.spot.top;
-        self.page = placed.look.page;
-        let change = Step::replaced(path, n, before, placed.look.spot);
+        let look = placed.look;
+        self.selected = look.selected;
+        self.count = look.spot.selection.count;
+        self.top = look.spot.top;
+        self.page = look.page;
+        self.begins = look.begins;
+        let change = Step::replaced(path, n, before, look.spot);
         remember(&mut self.terms, &mut self.history, change);
         self.terms.facts();
         self.nodes = known;
@@ -221,7 +227,6 @@ impl Buffer {
             &mut self.terms,
             self.root,
             step,
-            self.height,
             self.nodes,
             plans,
             ev,
@@ -230,11 +235,12 @@ impl Buffer {
         self.terms.facts();
         put_forth(&mut self.history, undone.out);
         self.nodes = undone.nodes;
-        self.root = undone.turned.root;
-        self.selected = undone.turned.look.selected;
-        self.count = undone.turned.look.spot.selection.count;
-        self.top = undone.turned.look.spot.top;
-        self.page = undone.turned.look.page;
+        self.root = undone.root;
+        self.selected = undone.selected;
+        self.count = undone.count;
+        self.top = undone.top;
+        self.page = None;
+        self.begins = None;
         Ok(true)
     }
 
@@ -273,7 +279,6 @@ impl Buffer {
             &mut self.terms,
             self.root,
             step,
-            self.height,
             self.nodes,
             plans,
             ev,
@@ -282,11 +287,12 @@ impl Buffer {
         self.terms.facts();
         put_back(&mut self.history, redone.out);
         self.nodes = redone.nodes;
-        self.root = redone.turned.root;
-        self.selected = redone.turned.look.selected;
-        self.count = redone.turned.look.spot.selection.count;
-        self.top = redone.turned.look.spot.top;
-        self.page = redone.turned.look.page;
+        self.root = redone.root;
+        self.selected = redone.selected;
+        self.count = redone.count;
+        self.top = redone.top;
+        self.page = None;
+        self.begins = None;
         Ok(true)
     }
 }

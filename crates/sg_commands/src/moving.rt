@@ -24,28 +24,31 @@ pub fn said(done: bool, otherwise: Message) -> Message
 }
 
 /// `next`, `prev`, `up`, `first` and `sibling`. No text is being typed.
-pub fn go(buffer: &mut Buffer, to: Move) -> Message
+pub fn go(buffer: &mut Buffer, to: Move) -> Result<Message, NoMemory>
     requires { buffer.old.capture ≡ None }
-    ensures did { (clip : Option IsClipped) (now : List Instance) → Did (goes buffer.old.grove.spec buffer.old.height
-        clip (state_of buffer.old) to) result buffer.new clip now now }
+    ensures did { (clip : Option IsClipped) (now : List Instance) → IfOk result (λ m. Did (goes
+        buffer.old.grove.spec buffer.old.height clip (state_of buffer.old) to) m buffer.new clip now now) }
+    ensures gave_up { (turn : Turn) (clip : Option IsClipped) (now : List Instance) → OnErr result (GaveUp
+        buffer.old.grove.spec turn buffer.old buffer.new clip clip now now) }
     ensures spec { buffer.new.grove.spec ≡ buffer.old.grove.spec }
     ensures height { buffer.new.height ≡ buffer.old.height }
 {
-    said(buffer.go(to), Message::NoPlace)
+    let done = buffer.go(to)?;
+    Ok(said(done, Message::NoPlace))
 }
 
 /// `goto`. No text is being typed.
-pub fn pick(buffer: &mut Buffer, line: u32, column: u32) -> Message
+pub fn pick(buffer: &mut Buffer, line: u32, column: u32) -> Result<Message, NoMemory>
     requires { buffer.old.capture ≡ None }
-    ensures did { (clip : Option IsClipped) (now : List Instance) → Did (picks buffer.old.grove.spec buffer.old.height
-        clip (state_of buffer.old) line column) result buffer.new clip now now }
+    ensures did { (clip : Option IsClipped) (now : List Instance) → IfOk result (λ m. Did (picks
+        buffer.old.grove.spec buffer.old.height clip (state_of buffer.old) line column) m buffer.new clip now now) }
+    ensures gave_up { (turn : Turn) (clip : Option IsClipped) (now : List Instance) → OnErr result (GaveUp
+        buffer.old.grove.spec turn buffer.old buffer.new clip clip now now) }
     ensures spec { buffer.new.grove.spec ≡ buffer.old.grove.spec }
     ensures height { buffer.new.height ≡ buffer.old.height }
 {
-    said(
-        buffer.pick(line as usize, column as usize),
-        Message::NoPlace,
-    )
+    let done = buffer.pick(line as usize, column as usize)?;
+    Ok(said(done, Message::NoPlace))
 }
 
 /// `alternate` and `elide`. One node is selected, and no text is being typed.

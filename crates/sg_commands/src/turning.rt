@@ -49,12 +49,12 @@ fn plain(
     ensures total { total_of journal.new ≡ total_of journal.old }
 {
     match command {
-        Command::Next => Ok(go(buffer, Move::Next)),
-        Command::Prev => Ok(go(buffer, Move::Prev)),
-        Command::Up => Ok(go(buffer, Move::Up)),
-        Command::First => Ok(go(buffer, Move::First)),
-        Command::Sibling => Ok(go(buffer, Move::Sibling)),
-        Command::Goto(line, column) => Ok(pick(buffer, *line, *column)),
+        Command::Next => go(buffer, Move::Next),
+        Command::Prev => go(buffer, Move::Prev),
+        Command::Up => go(buffer, Move::Up),
+        Command::First => go(buffer, Move::First),
+        Command::Sibling => go(buffer, Move::Sibling),
+        Command::Goto(line, column) => pick(buffer, *line, *column),
         Command::Do(name) => transform(alloc, tools, buffer, name.as_slice(), journal),
         Command::Delete => delete(alloc, tools, buffer, journal),
         Command::Remove => remove(alloc, tools, buffer, journal),
@@ -108,7 +108,7 @@ fn typing(
         Command::TypeIn(bytes) => type_in(buffer, bytes.as_slice()),
         Command::Erase => erase(buffer),
         Command::Enter => enter_typed(alloc, tools, buffer, journal),
-        Command::Abandon => abandon(buffer),
+        Command::Abandon => Ok(abandon(buffer)),
         Command::New(_)
         | Command::Load(_, _)
         | Command::Switch(_)

@@ -78,14 +78,12 @@ pub fn erase(buffer: &mut Buffer) -> Result<Message, NoMemory>
 }
 
 /// `abandon`, where a text is being typed.
-pub fn abandon(buffer: &mut Buffer) -> Result<Message, NoMemory>
-    ensures did { (clip : Option IsClipped) (now : List Instance) → IfOk result (λ m. Did (becomes clip
-        (ended (state_of buffer.old))) m buffer.new clip now now) }
-    ensures gave_up { (turn : Turn) (clip : Option IsClipped) (now : List Instance) → OnErr result (GaveUp
-        buffer.old.grove.spec turn buffer.old buffer.new clip clip now now) }
+pub fn abandon(buffer: &mut Buffer) -> Message
+    ensures did { (clip : Option IsClipped) (now : List Instance) → Did (becomes clip (ended (state_of buffer.old)))
+        result buffer.new clip now now }
     ensures spec { buffer.new.grove.spec ≡ buffer.old.grove.spec }
     ensures height { buffer.new.height ≡ buffer.old.height }
 {
-    buffer.end_capture()?;
-    Ok(Message::Fine)
+    buffer.end_capture();
+    Message::Fine
 }

@@ -24,7 +24,7 @@ use Rattle.sg_unparse.proofs.Placed.{climbs_along}
 use Rattle.sg_states.specs.Seen.{marks_seen}
 use Rattle.sg_kinds.specs.declared.spec.Spec.{Spec}
 use Rattle.sg_states.specs.States.{selected_place}
-use Rattle.sg_buffer.specs.Held.{Held, state_of, typed_by}
+use Rattle.sg_buffer.specs.Held.{Held, shown, state_of, typed_by}
 use Rattle.sg_buffer.specs.Buffers.{StandsFor}
 use Rattle.sg_unparse.specs.declared.page.Region.{Region as Given}
 use Rattle.sg_editor.specs.Screen.{page_begin, shown_in}
@@ -79,7 +79,7 @@ unfolding state_of
 capture_seen h = refl
 
 -- the lines of a buffer's page
-pub lines_seen : (spec : Spec) (b : Held) (page : Sheet) → b.grove.spec ≡ spec → page ≡ page_seen b.grove b.root (state_of b).term (typed_by b.capture (selected_place (state_of b)))
+pub lines_seen : (spec : Spec) (b : Held) (page : Sheet) → b.grove.spec ≡ spec → page ≡ shown b
     → lines_of page.cells ≡ lines_of (cells_of (shown_in spec (state_of b)))
 lines_seen spec b page same is =
     let t = (state_of b).term in
@@ -93,7 +93,7 @@ pub told_or : (o : Option Given) → told (unwrap_or o (record { line = 1; col =
 told_or None = refl
 told_or (Some r) = refl
 
-pub region_shown : (spec : Spec) (b : Held) → StandsFor b (state_of b) → b.grove.spec ≡ spec → (page : Sheet) → page ≡ page_seen b.grove b.root (state_of b).term (typed_by b.capture (selected_place (state_of b)))
+pub region_shown : (spec : Spec) (b : Held) → StandsFor b (state_of b) → b.grove.spec ≡ spec → (page : Sheet) → page ≡ shown b
     → (n : NodeId) → Climbs (nodes b.grove) (selected_place (state_of b)) n b.root → region_on page n ≡ region_of (shown_in spec (state_of b)) (selected_place (state_of b))
 region_shown spec b stands same page is n way =
     let t = (state_of b).term in

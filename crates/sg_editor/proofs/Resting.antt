@@ -13,9 +13,9 @@ use Rattle.sg_unparse.specs.Sheet.{Sheet}
 use Rattle.sg_states.specs.Paged.{page_seen}
 use Rattle.sg_states.specs.Seen.{marks_seen, nothing_typed}
 use Rattle.sg_states.specs.States.{State, selected_place}
-use Rattle.sg_buffer.specs.Held.{Held, state_of, typed_by}
+use Rattle.sg_buffer.specs.Held.{Held, shown, state_of, typed_by}
 use Rattle.sg_editor.specs.declared.desk.Named.{Named}
-use Rattle.sg_editor.specs.Ask.{page_text, resting}
+use Rattle.sg_editor.specs.Ask.{page_text, resting, whole_text}
 use Rattle.sg_editor.specs.Editing.{Kept, current_in, session_in, told}
 use Rattle.sg_editor.specs.Session.{current_of}
 use Rattle.sg_editor.proofs.Printed.{bytes_seen, cut_seen}
@@ -53,8 +53,8 @@ passed_on P Q (Ok x) m is q = absurd is
 passed_on P Q (Err e) m is q = subst Q (sym is) q
 
 -- the bytes of a page that shows a term where nothing is typed
-pub text_told : (spec : Spec) (b : Held) (page : Sheet) → b.grove.spec ≡ spec → b.capture ≡ None → page ≡ page_seen b.grove b.root (state_of b).term (typed_by b.capture (selected_place (state_of b)))
-    → page_text (marks_seen spec (state_of b).term nothing_typed) ≡ (if page.more then Err message.Size else Ok (bytes_of page.cells))
+pub text_told : (spec : Spec) (b : Held) (page : Sheet) → b.grove.spec ≡ spec → b.capture ≡ None → page ≡ shown b
+    → page_text (marks_seen spec (state_of b).term nothing_typed) ≡ whole_text page
 text_told spec b page same none is =
     let t = (state_of b).term in
     let plain : page ≡ page_seen b.grove b.root t nothing_typed = is ∙ ap (λ (c : Option Captured). page_seen b.grove b.root t (typed_by c (selected_place (state_of b)))) none in

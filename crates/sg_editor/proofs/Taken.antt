@@ -5,6 +5,7 @@ use Rattle.std.proofs.lemmas.List.{map-set, map-append, length-map}
 use Rattle.std.proofs.lemmas.Option.{get_or_from_slice_get, slice_get-map, slice_get_within}
 use Rattle.std.proofs.Math.Seq.{map-set_same}
 use Rattle.sg_kinds.specs.Values.{Bytes}
+use Rattle.sg_forest.proofs.Moves.{set-same}
 use Rattle.sg_kinds.specs.Terms.{Term}
 use Rattle.sg_kinds.specs.Instances.{instances}
 use Rattle.sg_kinds.specs.Specification.{rules_of}
@@ -88,6 +89,13 @@ opened k name h = record k { buffers = k.buffers ++ record { name = name; buffer
 
 abbrev pub after : Kept → ℕ → Named → Held → Option Clip → Kept
 after k i b h clip = record k { buffers = slice_set k.buffers i (record b { buffer = h }); clip = clip }
+
+-- a buffer that is as it was leaves what is kept
+abbrev pub with_buffer : Kept → ℕ → Named → Held → Kept
+with_buffer k i b h = record k { buffers = slice_set k.buffers i (record b { buffer = h }) }
+
+pub buffer_stays : (k : Kept) (i : ℕ) (b : Named) (h : Held) → slice_get k.buffers i ≡ Some b → h ≡ b.buffer → with_buffer k i b h ≡ k
+buffer_stays k i b h here same = ap (with_buffer k i b) same ∙ ap (λ (bs : List Named). let z : Kept = record k { buffers = bs } in z) (set-same k.buffers i b here)
 
 module _ (spec : Spec) (k : Kept) (name : Bytes) (t : Term) where
   opens_session : (h : Held) → state_of h ≡ begun t → session_in (opened k name h) ≡ (opens spec name t (session_in k)).session

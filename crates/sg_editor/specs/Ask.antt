@@ -19,6 +19,7 @@ use Rattle.sg_script.specs.declared.command.Command.TheVariants as command
 use Rattle.sg_screen.specs.declared.message.Message.{Message}
 use Rattle.sg_screen.specs.declared.message.Message.TheVariants as message
 use Rattle.sg_unparse.specs.Cells.{Mark}
+use Rattle.sg_unparse.specs.Sheet.{Sheet}
 use Rattle.sg_unparse.specs.Page.{cells_of, is_cut, bytes_of}
 use Rattle.sg_states.specs.Seen.{nothing_typed, marks_seen}
 use Rattle.sg_states.specs.States.{State}
@@ -83,6 +84,9 @@ resting (Some b) make = if is_some b.1.capture then Err message.InText else make
 -- the bytes of a page, where it was not cut
 abbrev pub page_text : List Mark → Result Bytes Message
 page_text marks = if is_cut marks then Err message.Size else Ok (bytes_of (cells_of marks))
+
+abbrev pub whole_text : Sheet → Result Bytes Message
+whole_text page = if page.more then Err message.Size else Ok (bytes_of page.cells)
 
 -- what is said of the reply to a request that keeps bytes, and bytes that are to be kept, or why there are none
 abbrev pub said_of_keep : Reply → Message

@@ -1,5 +1,5 @@
 //! The editor.
-ghost use Rattle.std.specs.Prelude.{◌≡◌, ◌≤◌, ◌<◌, ◌^◌, [], length, IfOk, MatchOption, ⊤, OnErr, None};
+ghost use Rattle.std.specs.Prelude.{◌≡◌, ◌≤◌, ◌<◌, ◌^◌, [], length, IfOk, MatchOption, MatchResult, ⊤, OnErr, None, Ok, Err};
 ghost use Rattle.sg_kinds.specs.Sound.{IsSmall, IsSound};
 ghost use Rattle.sg_buffer.specs.Held.{term_in};
 ghost use Rattle.sg_eval.specs.Journal.{counted, now_of, total_of};
@@ -144,24 +144,35 @@ impl Editor {
         }
     }
 
+    // the bytes of the current buffer's page, or why they cannot be saved
+    fn text(&mut self) -> Result<Result<Vec<u8>, Message>, NoMemory>
+        ensures text { IfOk result (λ r. MatchResult r
+            (λ bytes. saved_text (spec_in self.old) (session_in self.old.kept) ≡ Ok bytes.items)
+            (λ m. saved_text (spec_in self.old) (session_in self.old.kept) ≡ Err m)) }
+        ensures same { self.new ≡ self.old }
+    {
+        self.desk.saved_text(&self.base)
+    }
+
     // saves the current buffer's page
     fn save_text<S: Shelf>(
-        &self,
+        &mut self,
         file: &FileName,
         shelf: &mut S,
         replies: &mut Vec<Reply>,
     ) -> Result<Message, NoMemory>
-        ensures ok { IfOk result (λ m. Stepped (keeps file.now (session_in self.now.kept)
-            (saved_text (spec_in self.now) (session_in self.now.kept))) self.now m [] replies.old.items
+        ensures ok { IfOk result (λ m. Stepped (keeps file.now (session_in self.old.kept)
+            (saved_text (spec_in self.old) (session_in self.old.kept))) self.old m [] replies.old.items
             replies.new.items (shelf_state (S.files shelf.old) (S.faults shelf.old) (S.calls shelf.old))
             (shelf_state (S.files shelf.new) (S.faults shelf.new) (S.calls shelf.new))) }
-        ensures err { OnErr result (Interrupted (spec_in self.now) (keeps file.now (session_in self.now.kept)
-            (saved_text (spec_in self.now) (session_in self.now.kept))) [] replies.old.items
+        ensures err { OnErr result (Interrupted (spec_in self.old) (keeps file.now (session_in self.old.kept)
+            (saved_text (spec_in self.old) (session_in self.old.kept))) [] replies.old.items
             replies.new.items (shelf_state (S.files shelf.old) (S.faults shelf.old) (S.calls shelf.old))
             (shelf_state (S.files shelf.new) (S.faults shelf.new) (S.calls shelf.new))) }
+        ensures same { self.new ≡ self.old }
     {
-        match self.desk.saved_text(&self.base) {
-            Ok(bytes) => keep(shelf, file, bytes, replies),
+        match self.text()? {
+            Ok(bytes) => keep(shelf, file, bytes.as_slice(), replies),
             Err(why) => Ok(why),
         }
     }
@@ -243,9 +254,10 @@ impl Editor {
 
     /// What is printed after a command: its message, and the current buffer in the window. `ev` says how many equations
     /// the command evaluated.
-    pub fn screen(&self, message: Message, ev: u64) -> Result<Vec<u8>, NoMemory>
-        ensures { IfOk result (λ b. b.items ≡ screen (spec_in self.now) (width_in self.now) (height_in self.now)
-            (session_of self.now) message ev) }
+    pub fn screen(&mut self, message: Message, ev: u64) -> Result<Vec<u8>, NoMemory>
+        ensures printed { IfOk result (λ b. b.items ≡ screen (spec_in self.old) (width_in self.old)
+            (height_in self.old) (session_of self.old) message ev) }
+        ensures same { self.new ≡ self.old }
     {
         self.desk.screen(&self.base, message, ev)
     }

@@ -4,7 +4,7 @@ ghost use Rattle.sg_replies.specs.Calls.{shelf_state};
 ghost use Rattle.sg_replies.specs.Requests.Request.{Keep};
 ghost use Rattle.sg_screen.specs.declared.message.Message.{Message as IsMessage};
 ghost use Rattle.sg_states.specs.States.{State};
-ghost use Rattle.sg_editor.specs.Ask.{resting, said_of_keep, saved_form, saved_text};
+ghost use Rattle.sg_editor.specs.Ask.{resting, said_of_keep, saved_form, saved_text, whole_text};
 ghost use Rattle.sg_editor.specs.Editing.{IsKept, current_in, session_in};
 ghost use Rattle.sg_editor.specs.Session.{current_of};
 ghost use Rattle.sg_editor.specs.Steps.{Answered, IsUnanswered};
@@ -17,6 +17,8 @@ use sg_replies::{Reply, add, kept};
 use sg_saved::write;
 use sg_screen::Message;
 use sg_script::FileName;
+use sg_unparse::Page;
+use std::alloc::Global;
 
 // what is said of the reply to a keep
 fn said(reply: &Reply) -> Message
@@ -48,6 +50,18 @@ pub fn keep<S: Shelf>(
     let message = said(&reply);
     add(replies, reply);
     Ok(message)
+}
+
+// the bytes of a page, where it was not cut
+fn text_of(alloc: Global, page: &Page) -> Result<Result<Vec<u8>, Message>, NoMemory>
+    ensures { IfOk result (λ r. MatchResult r (λ bytes. whole_text page.now ≡ Ok bytes.items)
+        (λ m. whole_text page.now ≡ Err m)) }
+{
+    if page.cut() {
+        return Ok(Err(Message::Size));
+    }
+    let bytes = Vec::from_slice(alloc, page.text())?;
+    Ok(Ok(bytes))
 }
 
 impl Desk {
@@ -83,16 +97,24 @@ impl Desk {
     }
 
     /// The bytes of the current buffer's page, or why they cannot be saved.
-    pub fn saved_text(&self, base: &Base) -> Result<&[u8], Message>
-        requires { IsKept base.now.contents.spec base.now.height self.now }
-        ensures { MatchResult result
-            (λ bytes. saved_text base.now.contents.spec (session_in self.now) ≡ Ok bytes.now)
-            (λ m. saved_text base.now.contents.spec (session_in self.now) ≡ Err m) }
+    pub fn saved_text(&mut self, base: &Base) -> Result<Result<Vec<u8>, Message>, NoMemory>
+        requires { IsKept base.now.contents.spec base.now.height self.old }
+        ensures text { IfOk result (λ r. MatchResult r
+            (λ bytes. saved_text base.now.contents.spec (session_in self.old) ≡ Ok bytes.items)
+            (λ m. saved_text base.now.contents.spec (session_in self.old) ≡ Err m)) }
+        ensures same { self.new ≡ self.old }
     {
-        let page = self.resting()?.buffer.page();
-        if page.cut() {
-            return Err(Message::Size);
+        match self.resting() {
+            Ok(_) => {}
+            Err(why) => return Ok(Err(why)),
         }
-        Ok(page.text())
+        let Some(k) = self.current else {
+            return Ok(Err(Message::NoBuffer));
+        };
+        let named = &mut self.named[k];
+        let page = named.buffer.take_page()?;
+        let text = text_of(base.alloc(), &page);
+        named.buffer.keep_page(page);
+        text
     }
 }

@@ -1,6 +1,6 @@
 -- What the question needs whether an argument shows another value.
-use Rattle.std.specs.Prelude.{◌≡◌, ◌≢◌, ℕ, suc, ◌+◌, ◌<◌, ◌≤◌, List, [], ◌∷◌, length, Option, None, Some, slice_get, option_and_then, option_map, unwrap_or, Contains}
-use Rattle.std.proofs.Common.{refl, sym, ap, ◌∙◌, subst, inl, inr, get_or, take, arith}
+use Rattle.std.specs.Prelude.{◌≡◌, ◌≢◌, ℕ, suc, ◌+◌, ◌<◌, ◌≤◌, List, [], ◌∷◌, length, Option, Some, slice_get, option_map, unwrap_or, Contains}
+use Rattle.std.proofs.Common.{sym, ap, ◌∙◌, subst, inl, inr, get_or, take, arith}
 use Rattle.std.proofs.lemmas.List.{take_all}
 use Rattle.std.proofs.lemmas.List.Elements.{Contains-append_cases}
 use Rattle.sg_kinds.proofs.Kids.{take_more}
@@ -12,8 +12,7 @@ use Rattle.sg_kinds.specs.Specification.{args_of, rules_of}
 use Rattle.sg_kinds.specs.declared.spec.Occurrence.{Occurrence}
 use Rattle.sg_forest.specs.declared.node_id.NodeId.{NodeId}
 use Rattle.sg_forest.specs.Node as forest
-use Rattle.sg_forest.specs.Trees.{IsChild, IsRoot}
-use Rattle.sg_forest.proofs.Paths.{one_parent, root_is_no_child}
+use Rattle.sg_forest.specs.Trees.{IsChild}
 use Rattle.sg_groves.specs.declared.kind.Kind.{Kind}
 use Rattle.sg_groves.specs.declared.part.Part.{Part}
 use Rattle.sg_groves.specs.Grove.{Grove, nodes, IsGrove}
@@ -94,27 +93,6 @@ pub own_shows : (g : Grove) (top left n : NodeId) (w : Worklist) (o : Occurrence
 own_shows g top left n w o e (own zero_at has) = has
 own_shows g top left n w o e (at_top j f is_top differs) = absurd (omega (arith, e, f))
 own_shows g top left n w o e (below j c f is_c apart has) = absurd (omega (arith, e, f))
-
--- a child's occurrence is a child
-hangs_there : (g : Grove) → IsGrove g → (n m : NodeId) (k : ℕ) → node_there g.trees n (suc k) ≡ Some m → IsChild (nodes g) m n k
-hangs_there g is n m k at = by (nodes g n) refl at
-  where
-    by : (s : Option (forest.Node Kind Part)) → nodes g n ≡ s → option_and_then (λ (x : forest.Node Kind Part). slice_get x.kids k) s ≡ Some m → IsChild (nodes g) m n k
-    by None found none = cc
-    by (Some x) found lists = is.forest.linked.down n k m (record { node = x; found = found; lists = lists })
-
--- where nothing is noted, an argument shows another value at most at the node that the new top hangs under
-module _ (g : Grove) (is : IsGrove g) (top n : NodeId) (w : Worklist) (quiet : w.changed ≡ []) where
-  quiet_shows : ((k : ℕ) → IsChild (nodes g) top n k → ⊥) → (left : NodeId) (o : Occurrence) → ShowsOther g top left n w o → ⊥
-  quiet_shows apart left o (own e has) = contains_none (n.key, o.slot) (subst (λ xs. Contains xs (n.key, o.slot)) quiet has)
-  quiet_shows apart left o (at_top k e is_top differs) = apart k (hangs_there g is n top k (ap (node_there g.trees n) (sym e) ∙ is_top))
-  quiet_shows apart left o (below k m e is_m other has) = contains_none (m.key, o.slot) (subst (λ xs. Contains xs (m.key, o.slot)) quiet has)
-
-  pub root_shows : IsRoot (nodes g) top → (left : NodeId) (o : Occurrence) → ShowsOther g top left n w o → ⊥
-  root_shows root = quiet_shows (λ k hangs. root_is_no_child (nodes g) top n k root hangs)
-
-  pub hung_shows : (above : NodeId) (j : ℕ) → IsChild (nodes g) top above j → above ≢ n → (left : NodeId) (o : Occurrence) → ShowsOther g top left n w o → ⊥
-  hung_shows above j child apart = quiet_shows (λ k hangs. apart (one_parent (nodes g) top above n j k child hangs).0)
 
 -- of these none shows another value
 abbrev pub ShowsNone : Grove → NodeId → NodeId → NodeId → Worklist → List Occurrence → Type 0

@@ -1,5 +1,5 @@
 -- What two trees that changed places become, whether the node was a root or hung under another.
-use Rattle.std.specs.Prelude.{◌≡◌, ◌≢◌, ℕ, false, List, [], ◌∷◌, Contains, Option, Some, None, Result, Ok, Err, OnOk, MatchResult, option_and_then}
+use Rattle.std.specs.Prelude.{IfOk, ◌≡◌, ◌≢◌, ℕ, false, List, [], ◌∷◌, Contains, Option, Some, None, Result, Ok, Err, OnOk, MatchResult, option_and_then}
 use Rattle.std.proofs.Common.{refl, sym, ap, ◌∙◌, subst, inl, inr}
 use Rattle.std.proofs.lemmas.List.{append-nil}
 use Rattle.std.proofs.lemmas.Option.{none-some, same_Some}
@@ -39,8 +39,8 @@ use Rattle.sg_terms.specs.Storable.{IsStorable}
 use Rattle.sg_terms.proofs.Written.{number_node}
 use Rattle.sg_trail.specs.Trails.{IsAnySlot, IsExchanged, Way, was_in}
 use Rattle.sg_attrib.proofs.Listed.{gained_more, gained_same}
-use Rattle.sg_propagate.specs.Asked.{IsAsked}
-use Rattle.sg_propagate.specs.Exchanged.{Exchanges, IsRenewed, KeepsOtherRoots, Renews, by_equation, by_subtree}
+use Rattle.sg_propagate.specs.Asked.{root_then, IsAsked}
+use Rattle.sg_propagate.specs.Exchanged.{IsReach, Reaches, Exchanges, IsRenewed, KeepsOtherRoots, Renews, by_equation, by_subtree}
 use Rattle.sg_propagate.specs.Moves.{Finishes, IsTouched, IsTracked, meant, within}
 use Rattle.sg_propagate.specs.Scenes.{Scene, value_now, AreTops, IsSetUp}
 use Rattle.sg_propagate.proofs.SetUp.{set_up}
@@ -273,6 +273,24 @@ module _ (old mid : Grove) (is : IsGrove old) (at detached : NodeId) (sw : IsSwa
       terms = terms_still is_mid new (λ n slot. IsInside (nodes mid) n detached) only;
       renews = renews_root;
     }
+
+  -- the node that the change reaches
+  pub reaches_under : {E : Type 0} (plans : Plans) (is_mid : IsGrove mid) (valid : AreValid (rules_of old.spec) plans) (p : NodeId) (k : ℕ) (hangs : IsChild (nodes old) at p k) (new : Grove) (r : Result NodeId E)
+      → ((sc : Scene) → IsSetUp plans sc mid → sc.top ≡ detached → sc.left ≡ at → IfOk r (IsReach sc new)) → (root : NodeId) (t : Term) (u : Place) (s : Term) → IsAsked old at detached root t u s → IfOk r (Reaches old.spec new (root_then u root detached) t u s)
+  reaches_under plans is_mid valid p k hangs new r reach root t [] s asked = absurd (root_is_no_child (nodes old) at p k (subst (IsRoot (nodes old)) (sym asked.placed.way) asked.placed.top) hangs)
+  reaches_under plans is_mid valid p k hangs new r reach root t (j ∷ u) s asked =
+      reach (record { spec = old.spec; root = root; was = t; place = j ∷ u; part = s; top = detached; left = at }) (set_up plans old mid is is_mid valid at detached root t j u s asked ex sw.replaced sw.moved sw.ways sw.freed sw.roots) refl refl
+
+  pub reaches_root : IsRoot (nodes old) at → (new : Grove) (root : NodeId) (t : Term) (u : Place) (s : Term) → IsAsked old at detached root t u s → Reaches old.spec new (root_then u root detached) t u s detached
+  reaches_root is_root new root t [] s asked = record {
+    place = [];
+    way = [];
+    over = refl;
+    climbs = refl;
+    outside = λ a out. absurd (out a.node (sym (append-nil a.node)));
+    own = λ X slot some left attr. absurd (some refl);
+  }
+  reaches_root is_root new root t (j ∷ u) s asked = absurd (root_is_no_child (nodes old) at asked.placed.way.0 j is_root asked.placed.way.1)
 
   pub exchanges_under : {A E : Type 0} (plans : Plans) (is_mid : IsGrove mid) (valid : AreValid (rules_of old.spec) plans) (p : NodeId) (k : ℕ) (hangs : IsChild (nodes old) at p k) (new : Grove) (from to : Way) (was now : List Instance) (r : Result A E)
       → OnlyStored mid new IsAnySlot → to.at ≡ from.at → to.detached ≡ from.detached → ((first : Grove) → IsTracked first mid detached from → IsTracked first new detached to)

@@ -1,6 +1,7 @@
 -- The tree after an exchange, brought up to date from its root.
-use Rattle.std.specs.Prelude.{◌≡◌, ◌≢◌, ℕ, true, false, List, [], ◌∷◌, Contains, Some, Result, Err}
-use Rattle.std.proofs.Common.{refl, sym, ap, ◌∙◌, subst}
+use Rattle.std.specs.Prelude.{◌≡◌, ℕ, true, false, List, [], ◌∷◌, ◌++◌, length, Contains, Some, Result}
+use Rattle.std.proofs.Common.{sym, ap, ◌∙◌, subst, arith}
+use Rattle.std.proofs.lemmas.List.{length-append}
 use Rattle.sg_kinds.specs.Places.{Place, sub}
 use Rattle.sg_kinds.specs.Nets.{label_of, phylum_at}
 use Rattle.sg_kinds.specs.Dependencies.{IsAttr}
@@ -10,34 +11,26 @@ use Rattle.sg_kinds.specs.declared.spec.Spec.{Spec}
 use Rattle.sg_eval.specs.declared.journal.Instance.{Instance}
 use Rattle.sg_forest.specs.declared.node_id.NodeId.{NodeId}
 use Rattle.sg_forest.specs.Node as forest
-use Rattle.sg_forest.specs.Trees.{IsBelow, IsInside, IsRoot, Climbs}
+use Rattle.sg_forest.specs.Trees.{IsChild, IsInside, IsRoot, Climbs}
+use Rattle.sg_forest.proofs.Paths.{one_parent, root_is_no_child}
 use Rattle.sg_forest.proofs.Shape.{KeepsShape-back}
 use Rattle.sg_groves.specs.declared.kind.Kind.{Kind}
 use Rattle.sg_groves.specs.declared.part.Part.{Part}
 use Rattle.sg_groves.specs.Grove.{Grove, nodes, IsGrove}
 use Rattle.sg_groves.specs.Stored.{number_at}
 use Rattle.sg_groves.specs.Unchanged.{OnlyStored}
-use Rattle.sg_groves.proofs.Frames.{only_climbed, only_climbs, only_more, only_root, only_was_root}
+use Rattle.sg_groves.proofs.Frames.{only_climbed, only_climbs, only_more, only_was_root}
 use Rattle.sg_groves.proofs.Held.{held_fits, part_held}
 use Rattle.sg_groves.proofs.Lists.{contains_none}
-use Rattle.sg_groves.proofs.Ways.{one_way}
-use Rattle.sg_plans.specs.Segments.{IsOutside}
 use Rattle.sg_plans.proofs.Nodes.{fitting_phylum}
 use Rattle.sg_trail.specs.Trails.{Way}
-use Rattle.sg_attrib.proofs.Listed.{gained_nothing}
 use Rattle.sg_work.specs.Worklist.{Worklist}
 use Rattle.sg_propagate.specs.Moves.{Finishes, IsOnStage, IsSlotAt, IsTouched, IsTracked, Repairs, within}
-use Rattle.sg_propagate.specs.Scenes.{Scene, term_now, AreTops, IsMeant, IsSetUp, IsStaged}
-use Rattle.sg_propagate.proofs.Rooted.{IsEquation, NeedsNothing}
+use Rattle.sg_propagate.specs.Scenes.{Scene, term_now, AreStale, AreTops, IsSetUp, IsStaged}
+use Rattle.sg_propagate.proofs.Risen.{IsEquation, NeedsNothing, not_longer}
 use Rattle.sg_propagate.proofs.Started.{all_stale, finished, started}
 use Rattle.sg_propagate.proofs.Tops.{inherited_attr}
 use Rattle.sg_propagate.proofs.Tracked.{tracked_still}
-
--- no place is above the root's
-outside_root : (u : Place) → u ≢ [] → IsOutside u []
-outside_root [] some w e = some refl
-outside_root (k ∷ u) some [] e = cc
-outside_root (k ∷ u) some (j ∷ w) e = cc
 
 -- the phylum of the root is the same
 pub kept_inherits : (old mid : Grove) (changed : NodeId → ℕ → Type 0) → OnlyStored old mid changed → (top : NodeId) → ((root : NodeId) (x : forest.Node Kind Part) → IsRoot (nodes old) root → IsInside (nodes old) top root → nodes old root ≡ Some x → (slot : ℕ) → is_inherited old.spec.phyla x.label.phylum slot ≡ false)
@@ -57,10 +50,6 @@ module _ (plans : Plans) (old mid : Grove) (is : IsGrove old) (is_mid : IsGrove 
   module _ (sc : Scene) (set : IsSetUp plans sc old) (top_is : sc.top ≡ top) (left_is : sc.left ≡ left) where
     touched : OnlyStored old mid (IsTouched old sc)
     touched = only_more old mid (IsSlotAt top) (IsTouched old sc) (λ m slot same. within (record { path = []; climbs = same ∙ sym top_is })) only
-
-    -- nothing is evaluated where the way up was refused
-    pub finishes_none : {A E : Type 0} (was : List Instance) (e : E) → Finishes {A = A} {E = E} sc old mid was was (Err e)
-    finishes_none was e = record { frame = touched; listed = gained_nothing old sc.root (term_now sc) (IsMeant sc) was; right = tt }
 
     abbrev x : forest.Node Kind Part
     x = tops.top_live.node
@@ -86,21 +75,38 @@ module _ (plans : Plans) (old mid : Grove) (is : IsGrove old) (is_mid : IsGrove 
         ∙ handed x slot tops.top_live.found (ap (λ (z : Spec). is_inherited z.phyla x.label.phylum slot) set.spec_is ∙ inherited) (subst (λ (z : Spec). IsAttr (rules_of z) x.label.phylum slot) (sym set.spec_is) attr)
         ∙ ap (λ c. number_at old c slot) (sym left_is)
 
-    module _ (w : Worklist) (root : NodeId) (empty : w.changed ≡ []) (awake : (m : NodeId) → IsBelow (nodes mid) top m → Contains w.active m.key) (is_root : IsRoot (nodes mid) root) (inside : IsInside (nodes mid) top root) where
+    module _ (w : Worklist) (first : NodeId) (kid : ℕ) (empty : w.changed ≡ []) (under : IsChild (nodes mid) top first kid) where
       staged : IsStaged plans sc mid w
-      staged = started plans sc old mid is set x.label.phylum phylum_there only_top handed_there attr_there w (λ y has. contains_none y (subst (λ ys. Contains ys y) empty has)) (λ m below. awake m (subst (λ c. IsBelow (nodes mid) c m) top_is below))
+      staged = started plans sc old mid is set x.label.phylum phylum_there only_top handed_there attr_there w (λ y has. contains_none y (subst (λ ys. Contains ys y) empty has))
 
-      at_root : root ≡ sc.root
-      at_root = (one_way mid is_mid inside.path sc.place top root sc.root is_root (only_root old mid (IsSlotAt top) only sc.root set.placed.top) inside.climbs (only_climbs old mid (IsSlotAt top) only sc.place top sc.root placed_top)).1
+      -- the place of the node above
+      pub record IsUnder (u : Place) : Type 0 where
+        pub place : Place
+        pub split : u ≡ kid ∷ place
+        pub climbs : Climbs (nodes mid) place first sc.root
 
-      not_root : sc.place ≢ []
-      not_root none = hangs (subst (IsRoot (nodes old)) (sym (subst (λ u. Climbs (nodes old) u top sc.root) none placed_top)) set.placed.top)
+      under_by : (u : Place) → Climbs (nodes mid) u top sc.root → IsUnder u
+      under_by [] same = absurd (root_is_no_child (nodes mid) top first kid (subst (IsRoot (nodes mid)) (sym same) staged.placed.top) under)
+      under_by (l ∷ v) up = let same = one_parent (nodes mid) top up.0 first l kid up.1 under in record { place = v; split = ap (λ j. j ∷ v) same.1; climbs = subst (λ p. Climbs (nodes mid) v p sc.root) same.0 up.2 }
 
-      on_stage : IsOnStage plans sc mid w top left root []
-      on_stage = record { staged = staged; top_is = top_is; left_is = left_is; climbs = at_root; outside = outside_root sc.place not_root }
+      pub above : IsUnder sc.place
+      above = under_by sc.place (only_climbs old mid (IsSlotAt top) only sc.place top sc.root placed_top)
 
-      pub finishes_all : {A E : Type 0} (from to : Way) (new : Grove) (after : Worklist) (was now : List Instance) (r : Result A E) → Repairs plans NeedsNothing IsEquation IsEquation top left root mid new w after from to was now r → Finishes sc old new was now r
+      pub on_stage : IsOnStage plans sc mid w top left first above.place
+      on_stage = record {
+        staged = staged;
+        top_is = top_is;
+        left_is = left_is;
+        climbs = above.climbs;
+        outside = λ v e. not_longer v kid above.place (e ∙ ap (λ u. v ++ u) above.split);
+        awake = λ y z j l m e up. absurd (omega (arith, ap length (sym above.split ∙ e), length-append (j ∷ y) ((l ∷ z) ++ above.place), length-append (l ∷ z) above.place));
+      }
+
+      pub finishes_all : {A E : Type 0} (from to : Way) (new : Grove) (after : Worklist) (was now : List Instance) (r : Result A E) → Repairs plans NeedsNothing IsEquation IsEquation top left first mid new w after from to was now r → Finishes sc old new was now r
       finishes_all from to new after was now r repairs =
           finished plans sc old mid is set x.label.phylum phylum_there only_top handed_there attr_there w after new was now r
-          (repairs.moves sc [] on_stage (λ a m none. absurd none)
-          (all_stale plans sc old mid is set x.label.phylum phylum_there only_top handed_there attr_there (IsEquation (rules_of sc.spec) (term_now sc) [])))
+          (repairs.moves sc above.place on_stage (λ a m none. absurd none)
+          (all_stale plans sc old mid is set x.label.phylum phylum_there only_top handed_there attr_there (IsEquation (rules_of sc.spec) (term_now sc) above.place)))
+
+      pub stale_all : AreStale sc mid (IsEquation (rules_of sc.spec) (term_now sc) [])
+      stale_all = all_stale plans sc old mid is set x.label.phylum phylum_there only_top handed_there attr_there (IsEquation (rules_of sc.spec) (term_now sc) [])

@@ -1,6 +1,6 @@
 -- The visit of a child as a step of the node above: the new top's, an active child's, or one that is skipped.
-use Rattle.std.specs.Prelude.{◌≡◌, ◌≢◌, ℕ, List, [], ◌∷◌, Contains, Result, Ok, Err, OnOk}
-use Rattle.std.proofs.Common.{refl, sym, ap, ◌∙◌, subst, inl, inr, arith}
+use Rattle.std.specs.Prelude.{◌≡◌, ◌≢◌, ℕ, List, [], ◌∷◌, ◌++◌, Contains, Result, Ok, Err, OnOk}
+use Rattle.std.proofs.Common.{refl, sym, ap, ◌∙◌, subst, inl, inr, arith, append_assoc}
 use Rattle.std.proofs.lemmas.Option.{same_Some}
 use Rattle.sg_kinds.specs.Values.{Value}
 use Rattle.sg_kinds.specs.Terms.{Term}
@@ -31,7 +31,7 @@ use Rattle.sg_work.proofs.Clean.{visit_clean}
 use Rattle.sg_propagate.specs.Scenes.{Scene, term_now, value_now, value_was, IsCalm, AreFine}
 use Rattle.sg_propagate.specs.Moves.{IsOnStage, Repairs}
 use Rattle.sg_propagate.proofs.Composed.{moves_again}
-use Rattle.sg_propagate.proofs.Given.{climb_split, slot_inside, top_moves}
+use Rattle.sg_propagate.proofs.Given.{slot_inside, top_moves}
 use Rattle.sg_propagate.proofs.Stepped.{repairs_nothing, visit_here}
 use Rattle.sg_propagate.proofs.Tracked.{tracked_still}
 
@@ -56,16 +56,22 @@ module _ (plans : Plans) (sc : Scene) (g : Grove) (is : IsGrove g) (w : Worklist
 
   pub kid_on_stage : IsOnStage plans sc g w top left c (kid ∷ v)
   unfolding kid_climbs
-  kid_on_stage = record { staged = on.staged; top_is = on.top_is; left_is = on.left_is; climbs = kid_climbs; outside = kid_outside }
+  kid_on_stage = record {
+    staged = on.staged;
+    top_is = on.top_is;
+    left_is = on.left_is;
+    climbs = kid_climbs;
+    outside = kid_outside;
+    awake = λ x y j l m at up.
+        let same : (y ++ kid ∷ []) ++ v ≡ y ++ kid ∷ v = append_assoc y (kid ∷ []) v in
+        on.awake x (y ++ kid ∷ []) j l m (at ∙ ap (λ p. (j ∷ x) ++ l ∷ p) (sym same)) (subst (λ p. Climbs (nodes g) (l ∷ p) m sc.root) (sym same) up);
+  }
 
   -- where it is not active nothing below it has another value
   module _ (idle : Contains w.active c.key → ⊥) where
     not_over : IsOutside (kid ∷ v) sc.place
     not_over [] e = not_place (sym e)
-    not_over (l ∷ y) e =
-        let parts = climb_split g (l ∷ y) (kid ∷ v) top sc.root (subst (λ p. Climbs (nodes g) p top sc.root) e top_climbs) in
-        let same : parts.0 ≡ c = one_node g is (kid ∷ v) parts.0 c sc.root parts.2 kid_climbs in
-        idle (on.staged.awake c (record { place = l; path = y; climbs = subst (λ d. Climbs (nodes g) (l ∷ y) sc.top d) same (subst (λ d. Climbs (nodes g) (l ∷ y) d parts.0) (sym on.top_is) parts.1) }))
+    not_over (l ∷ y) e = idle (on.awake y [] l kid c e kid_climbs)
 
     module _ (k : ℕ) (node : IsNodeAt (term_now sc) (kid ∷ v)) (fine : AreFine sc g w (IsKnown (rules_of sc.spec) plans k (term_now sc) (kid ∷ v))) where
       abbrev rules : Rules

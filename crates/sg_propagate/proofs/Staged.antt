@@ -1,5 +1,5 @@
 -- What stays of a scene where values are stored.
-use Rattle.std.specs.Prelude.{◌≡◌, ◌∷◌}
+use Rattle.std.specs.Prelude.{◌≡◌, ◌∷◌, ◌++◌}
 use Rattle.std.proofs.Common.{sym, ◌∙◌, subst, inl, inr}
 use Rattle.sg_kinds.specs.Places.{Place}
 use Rattle.sg_kinds.specs.Nets.{Reference}
@@ -78,7 +78,6 @@ module _ (plans : Plans) (sc : Scene) (g new : Grove) (is : IsGrove g) (before a
     kept = λ X slot left attr. only_value g new (IsRefSlot g sc refs) frame is sc.left slot (λ wr. staged.apart (record { path = wr.ref.node; climbs = wr.climbs })) ∙ staged.kept X slot left attr;
     calm = λ a m calm climbs. let up = climbed a.node m sc.root climbs in value_kept a m up (λ r. calm.still (meant a r)) ∙ staged.calm a m calm up;
     noted = noted;
-    awake = λ m below. more.active m.key (staged.awake m (record { place = below.place; path = below.path; climbs = climbed (below.place ∷ below.path) sc.top m below.climbs }));
   }
 
   pub on_stage_still : ((a : Reference Place) → refs a → IsMeant sc a) → IsMore before after → AreNoted sc new after → (top left n : NodeId) (v : Place) → IsOnStage plans sc g before top left n v → IsOnStage plans sc new after top left n v
@@ -89,6 +88,7 @@ module _ (plans : Plans) (sc : Scene) (g new : Grove) (is : IsGrove g) (before a
     left_is = on.left_is;
     climbs = only_climbs g new (IsRefSlot g sc refs) frame v n sc.root on.climbs;
     outside = on.outside;
+    awake = λ x y j l m at up. more.active m.key (on.awake x y j l m at (climbed ((l ∷ y) ++ v) m sc.root up));
   }
 
   -- the same slots are noted

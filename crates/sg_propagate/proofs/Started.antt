@@ -15,7 +15,7 @@ use Rattle.sg_kinds.specs.declared.spec.Rules.{Rules}
 use Rattle.sg_pool.specs.Pools.{value_at}
 use Rattle.sg_eval.specs.declared.journal.Instance.{Instance}
 use Rattle.sg_forest.specs.declared.node_id.NodeId.{NodeId}
-use Rattle.sg_forest.specs.Trees.{IsBelow, IsInside, Climbs}
+use Rattle.sg_forest.specs.Trees.{IsInside, Climbs}
 use Rattle.sg_forest.proofs.Paths.{inside_itself}
 use Rattle.sg_groves.specs.Grove.{Grove, nodes, IsGrove}
 use Rattle.sg_groves.specs.Stored.{number_at, value_there}
@@ -32,7 +32,7 @@ use Rattle.sg_work.specs.Worklist.{Worklist}
 use Rattle.sg_propagate.specs.Scenes.{Scene, term_now, value_now, value_was, IsMeant, IsCalm, IsStaged, IsSetUp, AreFine, AreStale}
 use Rattle.sg_propagate.specs.Moves.{AreMeant, Finishes, IsSlotAt, IsTouched, IsRefSlot, Moves, within, meant}
 use Rattle.sg_propagate.proofs.Staged.{calm_outside, calm_same}
-use Rattle.sg_propagate.proofs.Rooted.{IsEquation}
+use Rattle.sg_propagate.proofs.Risen.{IsEquation}
 
 -- places are equal or not
 same_place : (u v : Place) → (u ≡ v) ⊎ (u ≢ v)
@@ -94,8 +94,8 @@ module _ (plans : Plans) (sc : Scene) (g now : Grove) (is : IsGrove g) (set : Is
   ]
 
   -- the scene begins
-  pub started : (w : Worklist) → ((x : ℕ × ℕ) → Contains w.changed x → ⊥) → ((m : NodeId) → IsBelow (nodes now) sc.top m → Contains w.active m.key) → IsStaged plans sc now w
-  started w empty awake = record {
+  pub started : (w : Worklist) → ((x : ℕ × ℕ) → Contains w.changed x → ⊥) → IsStaged plans sc now w
+  started w empty = record {
     spec_is = only.spec ∙ set.spec_is;
     placed = placed_still g now (IsSlotAt sc.top) only is sc.top sc.root (term_now sc) sc.place set.placed;
     was_planned = set.was_planned;
@@ -104,7 +104,6 @@ module _ (plans : Plans) (sc : Scene) (g now : Grove) (is : IsGrove g) (set : Is
     kept = λ Y slot left is_attr. left_value slot ∙ set.kept Y slot left is_attr;
     calm = λ a m calm climbs. all_stale (IsCalm sc) a m calm.site calm calm.found (calm_outside sc a calm) climbs ∙ sym (calm_same sc a calm plans set.was_planned set.planned);
     noted = λ x has. absurd (empty x has);
-    awake = awake;
   }
 
   -- and ends

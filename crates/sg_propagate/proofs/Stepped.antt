@@ -1,10 +1,12 @@
 -- The steps of a visit, one after another.
-use Rattle.std.specs.Prelude.{◌≡◌, ◌⊎◌, refl, ℕ, ◌+◌, List, ◌∷◌, length, Result, Ok, Err, None, Some, slice_get}
+use Rattle.std.specs.Prelude.{◌≡◌, ◌⊎◌, refl, ℕ, ◌+◌, ◌≤◌, List, ◌∷◌, length, Result, Ok, Err, OnOk, None, Some, slice_get}
 use Rattle.std.proofs.Common.{sym, ap, ◌∙◌, subst, inl, inr, arith}
+use Rattle.std.proofs.lemmas.Bool.{cases_lt}
 use Rattle.std.proofs.lemmas.Option.{none-some, same_Some}
 use Rattle.sg_kinds.specs.Terms.{Term}
 use Rattle.sg_kinds.specs.Places.{Place, sub}
 use Rattle.sg_kinds.specs.Nets.{Reference, Operation, label_of, net_of, referred}
+use Rattle.sg_kinds.specs.Instances.{Site, site_of}
 use Rattle.sg_kinds.specs.Keys.{operator_in}
 use Rattle.sg_kinds.specs.Specification.{rules_of}
 use Rattle.sg_kinds.specs.FromScratch.{value_in}
@@ -38,13 +40,13 @@ use Rattle.sg_attrib.proofs.Leaves.{leaf_right}
 use Rattle.sg_work.specs.Worklist.{Worklist}
 use Rattle.sg_work.proofs.Clean.{leaf_same}
 use Rattle.sg_propagate.specs.Scenes.{Scene, term_now, IsCalm, IsStaged, IsFine, AreFine, AreStale}
-use Rattle.sg_propagate.specs.Moves.{AreMeant, IsRefSlot, IsOnStage, Moves, Refs, Repairs}
+use Rattle.sg_propagate.specs.Moves.{AreMeant, IsGivenFrom, IsKnownFrom, IsRefSlot, IsOnStage, Moves, Refs, Repairs}
 use Rattle.sg_propagate.proofs.Staged.{calm_fine, fine_kept, value_kept, staged_still, on_stage_still}
 use Rattle.sg_propagate.proofs.Composed.{moves_again, moves_err, moves_nothing, moves_ok, moves_twice}
 
--- what the first m steps of visit k give
-abbrev pub IsBefore : Plans → ℕ → ℕ → Refs
-IsBefore plans k m rules t u a = IsGivenBefore rules plans t u k m a
+-- what the steps of visit k from step `from` to before step m give
+abbrev pub IsBetween : Plans → ℕ → ℕ → ℕ → Refs
+IsBetween plans k from m rules t u a = IsGivenBefore rules plans t u k m a × (IsGivenBefore rules plans t u k from a → ⊥)
 
 -- the node of a scene at its place
 module _ (plans : Plans) (sc : Scene) (g : Grove) (is : IsGrove g) (w : Worklist) (top left n : NodeId) (v : Place) (on : IsOnStage plans sc g w top left n v) where
@@ -74,10 +76,10 @@ module _ (plans : Plans) (sc : Scene) (g : Grove) (is : IsGrove g) (w : Worklist
       }
 
 -- one step more
-module _ {A B D E : Type 0} (plans : Plans) (top left n : NodeId) (old mid new : Grove) (is_old : IsGrove old) (is_mid : IsGrove mid) (k m : ℕ) (s : PlanStep) (vis : IsVisited plans old n k) (at : slice_get (steps_of plans vis.op k) m ≡ Some s)
+module _ {A B D E : Type 0} (plans : Plans) (top left n : NodeId) (old mid new : Grove) (is_old : IsGrove old) (is_mid : IsGrove mid) (k from m : ℕ) (begun : from ≤ m) (s : PlanStep) (vis : IsVisited plans old n k) (at : slice_get (steps_of plans vis.op k) m ≡ Some s)
     (first_work mid_work last_work : Worklist) (was among now : List Instance) (x : A) (r : Result B E) where
-  module _ (sc : Scene) (v : Place) (on : IsOnStage plans sc old first_work top left n v) (known : AreFine sc old first_work (IsKnown (rules_of sc.spec) plans k (term_now sc) v))
-      (first : Moves {A = A} {E = D} sc (IsBefore plans k m (rules_of sc.spec) (term_now sc) v) old mid first_work mid_work was among (Ok x)) where
+  module _ (sc : Scene) (v : Place) (on : IsOnStage plans sc old first_work top left n v) (known : AreFine sc old first_work (IsKnownFrom plans k from (rules_of sc.spec) (term_now sc) v))
+      (first : Moves {A = A} {E = D} sc (IsBetween plans k from m (rules_of sc.spec) (term_now sc) v) old mid first_work mid_work was among (Ok x)) where
     abbrev rules : Rules
     rules = rules_of sc.spec
 
@@ -101,28 +103,42 @@ module _ {A B D E : Type 0} (plans : Plans) (top left n : NodeId) (old mid new :
         omega (arith, place, low)
 
     mid_staged : IsStaged plans sc mid mid_work
-    mid_staged = staged_still plans sc old mid is_old first_work mid_work (AreMeant sc (IsBefore plans k m rules t v)) on.staged first.frame (λ a is. is.1) first.more first.noted
+    mid_staged = staged_still plans sc old mid is_old first_work mid_work (AreMeant sc (IsBetween plans k from m rules t v)) on.staged first.frame (λ a is. is.1) first.more first.noted
 
     pub on_mid : IsOnStage plans sc mid mid_work top left n v
-    on_mid = on_stage_still plans sc old mid is_old first_work mid_work (AreMeant sc (IsBefore plans k m rules t v)) on.staged first.frame (λ a is. is.1) first.more first.noted top left n v on
+    on_mid = on_stage_still plans sc old mid is_old first_work mid_work (AreMeant sc (IsBetween plans k from m rules t v)) on.staged first.frame (λ a is. is.1) first.more first.noted top left n v on
 
     mid_op : (op : ℕ) → label_of (sub t v) ≡ Operation op → op_at mid n ≡ Some op
     mid_op op label = label_here plans sc mid is_mid mid_work top left n v on_mid op label
 
     climbed : (u : Place) (c : NodeId) → Climbs (nodes mid) u c sc.root → Climbs (nodes old) u c sc.root
-    climbed u c climbs = only_climbed old mid (IsRefSlot old sc (AreMeant sc (IsBefore plans k m rules t v))) first.frame u c sc.root climbs
+    climbed u c climbs = only_climbed old mid (IsRefSlot old sc (AreMeant sc (IsBetween plans k from m rules t v))) first.frame u c sc.root climbs
 
     from_known : (a : Reference Place) (c : NodeId) → Climbs (nodes mid) a.node c sc.root → IsKnown rules plans k t v a → IsFine sc mid mid_work a c
     from_known a c climbs is =
         let up = climbed a.node c climbs in
-        fine_kept plans sc old mid is_old first_work mid_work (AreMeant sc (IsBefore plans k m rules t v)) on.staged first.frame first.more a c up
-        (λ q. known_not_given rules plans k t v a is (visiting.gives_only sc.spec plans t plan v k m has a q.0)) (known a c is up)
+        fine_kept plans sc old mid is_old first_work mid_work (AreMeant sc (IsBetween plans k from m rules t v)) on.staged first.frame first.more a c up
+        (λ q. let p = q.0 in known_not_given rules plans k t v a is (visiting.gives_only sc.spec plans t plan v k m has a p.0)) (known a c (inl is) up)
+
+    -- a step from the first on gives nothing that the steps before that give
+    not_again : (a : Reference Place) (p : ℕ) (z : PlanStep) (i : Site Place) → from ≤ p → slice_get (steps_of plans (operator_in t v) k) p ≡ Some z → site_of rules (net_of t) a ≡ Some i → IsOfStep rules plans t v z i → IsGivenBefore rules plans t v k from a → ⊥
+    not_again a p z i past there found of one =
+        let same : i ≡ one.site = same_Some i one.site (sym found ∙ one.found) in
+        let place = visiting.step_once sc.spec plans t plan v k one.place p one.step z has one.at there one.site one.of_step (subst (IsOfStep rules plans t v z) same of) in
+        let low = one.low in
+        omega (arith, place, low, past)
 
     from_ready : (a : Reference Place) (c : NodeId) → Climbs (nodes mid) a.node c sc.root → IsReady rules plans t v k m a → (IsLeafSlot t a → IsFine sc mid mid_work a c) → IsFine sc mid mid_work a c
     from_ready a c climbs (leaf is) fine = fine is
     from_ready a c climbs (taken is) fine = from_known a c climbs (visited.taken is)
     from_ready a c climbs (earlier i less is) fine = from_known a c climbs (visited.earlier i less is)
-    from_ready a c climbs (before is) fine = first.fine a c is climbs
+    from_ready a c climbs (before is) fine = elim (cases_lt is.place from) [
+      | inl low ↦
+          let up = climbed a.node c climbs in
+          let one : IsGivenBefore rules plans t v k from a = record { place = is.place; low = low; step = is.step; at = is.at; site = is.site; found = is.found; of_step = is.of_step } in
+          fine_kept plans sc old mid is_old first_work mid_work (AreMeant sc (IsBetween plans k from m rules t v)) on.staged first.frame first.more a c up (λ q. let p = q.0 in p.1 one) (known a c (inr one) up)
+      | inr past ↦ first.fine a c (is, not_again a is.place is.step is.site past is.at is.found is.of_step) climbs
+    ]
 
     ready_by : (z : PlanStep) → z ≡ s → (a : Reference Place) (c : NodeId) → IsNeeded rules plans z t v a → Climbs (nodes mid) a.node c sc.root → IsFine sc mid mid_work a c
     ready_by (Eval e) is a c want climbs =
@@ -158,33 +174,33 @@ module _ {A B D E : Type 0} (plans : Plans) (top left n : NodeId) (old mid new :
     pub step_needs : AreFine sc mid mid_work (IsNeeded rules plans s t v)
     step_needs a c want climbs = ready_by s refl a c want climbs
 
-    pub step_stale : AreStale sc old (IsGiven rules plans k t v) → AreStale sc mid (IsStepGiven rules plans s t v)
+    pub step_stale : AreStale sc old (IsGivenFrom plans k from rules t v) → AreStale sc mid (IsStepGiven rules plans s t v)
     step_stale stale a c i is found far climbs =
         let up = climbed a.node c climbs in
         let given : IsGivenBy rules plans t v k a = record { site = is.site; found = is.found; of_visit = visiting.step_within sc.spec plans t plan v k m s has step_is is.site is.of_step } in
-        value_kept plans sc old mid is_old first_work mid_work (AreMeant sc (IsBefore plans k m rules t v)) on.staged first.frame a c up (λ q. apart a q.0 is) ∙ stale a c i given found far up
+        value_kept plans sc old mid is_old first_work mid_work (AreMeant sc (IsBetween plans k from m rules t v)) on.staged first.frame a c up (λ q. let p = q.0 in apart a p.0 is) ∙ stale a c i (given, not_again a m s is.site begun step_is is.found is.of_step) found far up
 
-    in_before : (a : Reference Place) → IsGivenBefore rules plans t v k m a → IsGivenBefore rules plans t v k (m + 1) a
-    in_before a is = let low = is.low in record { place = is.place; low = omega (arith, low); step = is.step; at = is.at; site = is.site; found = is.found; of_step = is.of_step }
+    in_before : (a : Reference Place) → IsBetween plans k from m rules t v a → IsBetween plans k from (m + 1) rules t v a
+    in_before a both = let is = both.0 in let low = is.low in (record { place = is.place; low = omega (arith, low); step = is.step; at = is.at; site = is.site; found = is.found; of_step = is.of_step }, both.1)
 
-    in_step : (a : Reference Place) → IsStepGiven rules plans s t v a → IsGivenBefore rules plans t v k (m + 1) a
-    in_step a is = record { place = m; low = omega arith; step = s; at = step_is; site = is.site; found = is.found; of_step = is.of_step }
+    in_step : (a : Reference Place) → IsStepGiven rules plans s t v a → IsBetween plans k from (m + 1) rules t v a
+    in_step a is = (record { place = m; low = omega arith; step = s; at = step_is; site = is.site; found = is.found; of_step = is.of_step }, not_again a m s is.site begun step_is is.found is.of_step)
 
-    split : (a : Reference Place) → IsGivenBefore rules plans t v k (m + 1) a → IsGivenBefore rules plans t v k m a ⊎ IsStepGiven rules plans s t v a
-    split a is = elim (visiting.gives_next rules plans t v k m s step_is a is) [
-      | inl one ↦ inl one
+    split : (a : Reference Place) → IsBetween plans k from (m + 1) rules t v a → IsBetween plans k from m rules t v a ⊎ IsStepGiven rules plans s t v a
+    split a is = elim (visiting.gives_next rules plans t v k m s step_is a is.0) [
+      | inl one ↦ inl (one, is.1)
       | inr two ↦ inr (record { site = two.0; found = two.1; of_step = two.2 })
     ]
 
-    pub step_moves : Moves sc (IsStepGiven rules plans s t v) mid new mid_work last_work among now r → Moves sc (IsBefore plans k (m + 1) rules t v) old new first_work last_work was now r
+    pub step_moves : Moves sc (IsStepGiven rules plans s t v) mid new mid_work last_work among now r → Moves sc (IsBetween plans k from (m + 1) rules t v) old new first_work last_work was now r
     step_moves second =
-        moves_twice plans sc (IsBefore plans k m rules t v) (IsStepGiven rules plans s t v) (IsBefore plans k (m + 1) rules t v) old mid new first_work mid_work last_work was among now x r is_old is_mid mid_staged first second
-        apart in_before in_step split
+        moves_twice plans sc (IsBetween plans k from m rules t v) (IsStepGiven rules plans s t v) (IsBetween plans k from (m + 1) rules t v) old mid new first_work mid_work last_work was among now x r is_old is_mid mid_staged first second
+        (λ a both. apart a both.0) in_before in_step split
 
-  pub next_step : (from between to : Way) → Repairs {A = A} {E = D} plans (λ rules. IsKnown rules plans k) (λ rules. IsGiven rules plans k) (IsBefore plans k m) top left n old mid first_work mid_work from between was among (Ok x)
+  pub next_step : (first_way between to : Way) → Repairs {A = A} {E = D} plans (IsKnownFrom plans k from) (IsGivenFrom plans k from) (IsBetween plans k from m) top left n old mid first_work mid_work first_way between was among (Ok x)
       → Repairs plans (λ rules. IsNeeded rules plans s) (λ rules. IsStepGiven rules plans s) (λ rules. IsStepGiven rules plans s) top left n mid new mid_work last_work between to among now r
-      → Repairs plans (λ rules. IsKnown rules plans k) (λ rules. IsGiven rules plans k) (IsBefore plans k (m + 1)) top left n old new first_work last_work from to was now r
-  next_step from between to first second = record {
+      → Repairs plans (IsKnownFrom plans k from) (IsGivenFrom plans k from) (IsBetween plans k from (m + 1)) top left n old new first_work last_work first_way to was now r
+  next_step first_way between to first second = record {
     stored = only_more old new (λ a slot. IsAnySlot a slot ⊎ IsAnySlot a slot) IsAnySlot (λ a slot either. tt) (only_twice old mid new IsAnySlot IsAnySlot first.stored second.stored);
     at = second.at ∙ first.at;
     detached = second.detached ∙ first.detached;
@@ -194,34 +210,33 @@ module _ {A B D E : Type 0} (plans : Plans) (top left n : NodeId) (old mid new :
         step_moves sc v on known one (second.moves sc v (on_mid sc v on known one) (step_needs sc v on known one) (step_stale sc v on known one stale));
   }
 
--- all steps of a visit give what the visit gives
-module _ (plans : Plans) (top left n : NodeId) (old new : Grove) (is_old : IsGrove old) (k : ℕ) (vis : IsVisited plans old n k) (before after : Worklist) (from to : Way) (was now : List Instance) where
-  within : (m : ℕ) (sc : Scene) (v : Place) → IsOnStage plans sc old before top left n v → (a : Reference Place) → IsGivenBefore (rules_of sc.spec) plans (term_now sc) v k m a → IsGivenBy (rules_of sc.spec) plans (term_now sc) v k a
-  within m sc v on a given = visiting.gives_only sc.spec plans (term_now sc) on.staged.planned v k m (visit_here plans sc old is_old before top left n v on k vis) a given
+-- all steps from one on give what these steps give
+module _ (plans : Plans) (top left n : NodeId) (old new : Grove) (is_old : IsGrove old) (k from : ℕ) (vis : IsVisited plans old n k) (before after : Worklist) (first_way to : Way) (was now : List Instance) where
+  within : (m : ℕ) (sc : Scene) (v : Place) → IsOnStage plans sc old before top left n v → (a : Reference Place) → IsBetween plans k from m (rules_of sc.spec) (term_now sc) v a → IsGivenFrom plans k from (rules_of sc.spec) (term_now sc) v a
+  within m sc v on a given = (visiting.gives_only sc.spec plans (term_now sc) on.staged.planned v k m (visit_here plans sc old is_old before top left n v on k vis) a given.0, given.1)
 
-  pub all_steps : {A E : Type 0} (m : ℕ) (y : A) → m ≡ length (steps_of plans vis.op k) → Repairs {A = A} {E = E} plans (λ rules. IsKnown rules plans k) (λ rules. IsGiven rules plans k) (IsBefore plans k m) top left n old new before after from to was now (Ok y)
-      → Repairs {A = A} {E = E} plans (λ rules. IsKnown rules plans k) (λ rules. IsGiven rules plans k) (λ rules. IsGiven rules plans k) top left n old new before after from to was now (Ok y)
-  all_steps m y long gives = record {
+  steps_moves : {A E : Type 0} (m : ℕ) (r : Result A E) → ((sc : Scene) (v : Place) → IsOnStage plans sc old before top left n v → OnOk r ((a : Reference Place) → IsGivenFrom plans k from (rules_of sc.spec) (term_now sc) v a → IsBetween plans k from m (rules_of sc.spec) (term_now sc) v a))
+      → Repairs {A = A} {E = E} plans (IsKnownFrom plans k from) (IsGivenFrom plans k from) (IsBetween plans k from m) top left n old new before after first_way to was now r
+      → Repairs {A = A} {E = E} plans (IsKnownFrom plans k from) (IsGivenFrom plans k from) (IsGivenFrom plans k from) top left n old new before after first_way to was now r
+  steps_moves m r back gives = record {
     stored = gives.stored;
     at = gives.at;
     detached = gives.detached;
     tracked = gives.tracked;
-    moves = λ sc v on known stale. moves_again sc (IsBefore plans k m (rules_of sc.spec) (term_now sc) v) (IsGiven (rules_of sc.spec) plans k (term_now sc) v) old new before after was now (Ok y) (within m sc v on)
-        (λ a given.
-        let all = visiting.gives_all sc.spec plans (term_now sc) on.staged.planned v k a given in
-        let same : length (steps_of plans (operator_in (term_now sc) v) k) ≡ m = ap (λ op. length (steps_of plans op k)) (op_here plans sc old is_old before top left n v on vis.op vis.is) ∙ sym long in
-        subst (λ l. IsGivenBefore (rules_of sc.spec) plans (term_now sc) v k l a) same all) (gives.moves sc v on known stale);
+    moves = λ sc v on known stale. moves_again sc (IsBetween plans k from m (rules_of sc.spec) (term_now sc) v) (IsGivenFrom plans k from (rules_of sc.spec) (term_now sc) v) old new before after was now r (within m sc v on) (back sc v on) (gives.moves sc v on known stale);
   }
 
-  pub some_steps : {A E : Type 0} (m : ℕ) (e : E) → Repairs {A = A} {E = E} plans (λ rules. IsKnown rules plans k) (λ rules. IsGiven rules plans k) (IsBefore plans k m) top left n old new before after from to was now (Err e)
-      → Repairs {A = A} {E = E} plans (λ rules. IsKnown rules plans k) (λ rules. IsGiven rules plans k) (λ rules. IsGiven rules plans k) top left n old new before after from to was now (Err e)
-  some_steps m e gives = record {
-    stored = gives.stored;
-    at = gives.at;
-    detached = gives.detached;
-    tracked = gives.tracked;
-    moves = λ sc v on known stale. moves_again sc (IsBefore plans k m (rules_of sc.spec) (term_now sc) v) (IsGiven (rules_of sc.spec) plans k (term_now sc) v) old new before after was now (Err e) (within m sc v on) tt (gives.moves sc v on known stale);
-  }
+  pub all_steps : {A E : Type 0} (m : ℕ) (y : A) → length (steps_of plans vis.op k) ≤ m → Repairs {A = A} {E = E} plans (IsKnownFrom plans k from) (IsGivenFrom plans k from) (IsBetween plans k from m) top left n old new before after first_way to was now (Ok y)
+      → Repairs {A = A} {E = E} plans (IsKnownFrom plans k from) (IsGivenFrom plans k from) (IsGivenFrom plans k from) top left n old new before after first_way to was now (Ok y)
+  all_steps m y long gives = steps_moves m (Ok y) (λ sc v on a given.
+      let all = visiting.gives_all sc.spec plans (term_now sc) on.staged.planned v k a given.0 in
+      let same = ap (λ op. length (steps_of plans op k)) (op_here plans sc old is_old before top left n v on vis.op vis.is) in
+      let low = all.low in
+      (record { place = all.place; low = omega (arith, low, same, long); step = all.step; at = all.at; site = all.site; found = all.found; of_step = all.of_step }, given.1)) gives
+
+  pub some_steps : {A E : Type 0} (m : ℕ) (e : E) → Repairs {A = A} {E = E} plans (IsKnownFrom plans k from) (IsGivenFrom plans k from) (IsBetween plans k from m) top left n old new before after first_way to was now (Err e)
+      → Repairs {A = A} {E = E} plans (IsKnownFrom plans k from) (IsGivenFrom plans k from) (IsGivenFrom plans k from) top left n old new before after first_way to was now (Err e)
+  some_steps m e gives = steps_moves m (Err e) (λ sc v on. tt) gives
 
 -- nothing was done
 pub repairs_nothing : {A E : Type 0} (plans : Plans) (needs whole gives : Refs) (top left n : NodeId) (g : Grove) (w : Worklist) (way : Way) (was : List Instance) (x : A)
@@ -257,13 +272,35 @@ module _ {A B D E : Type 0} (plans : Plans) (needs whole gives : Refs) (top left
   }
 
 -- before the first step nothing is given, and a leaf has no visit
-pub no_steps : {A E : Type 0} (plans : Plans) (g : Grove) (w : Worklist) (way : Way) (was : List Instance) (top left n : NodeId) (k : ℕ) (y : A) → Repairs {A = A} {E = E} plans (λ rules. IsKnown rules plans k) (λ rules. IsGiven rules plans k) (IsBefore plans k 0) top left n g g w w way way was was (Ok y)
-no_steps plans g w way was top left n k y =
-    repairs_nothing plans (λ rules. IsKnown rules plans k) (λ rules. IsGiven rules plans k) (IsBefore plans k 0) top left n g w way was y (λ sc v on fine a given. absurd (visiting.gives_nothing (rules_of sc.spec) plans (term_now sc) v k a given))
+pub no_steps : {A E : Type 0} (plans : Plans) (g : Grove) (w : Worklist) (way : Way) (was : List Instance) (top left n : NodeId) (k from : ℕ) (y : A)
+    → Repairs {A = A} {E = E} plans (IsKnownFrom plans k from) (IsGivenFrom plans k from) (IsBetween plans k from from) top left n g g w w way way was was (Ok y)
+no_steps plans g w way was top left n k from y = repairs_nothing plans (IsKnownFrom plans k from) (IsGivenFrom plans k from) (IsBetween plans k from from) top left n g w way was y (λ sc v on fine a given. absurd (given.1 given.0))
 
-pub leaf_repairs : {A E : Type 0} (plans : Plans) (g : Grove) → IsGrove g → (w : Worklist) (way : Way) (was : List Instance) (top left n : NodeId) (k : ℕ) → op_at g n ≡ None → (y : A)
-    → Repairs {A = A} {E = E} plans (λ rules. IsKnown rules plans k) (λ rules. IsGiven rules plans k) (λ rules. IsGiven rules plans k) top left n g g w w way way was was (Ok y)
-leaf_repairs plans g is w way was top left n k none y =
-    repairs_nothing plans (λ rules. IsKnown rules plans k) (λ rules. IsGiven rules plans k) (λ rules. IsGiven rules plans k) top left n g w way was y (λ sc v on fine a given.
+pub leaf_repairs : {A E : Type 0} (plans : Plans) (g : Grove) → IsGrove g → (w : Worklist) (way : Way) (was : List Instance) (top left n : NodeId) (k from : ℕ) → op_at g n ≡ None → (y : A)
+    → Repairs {A = A} {E = E} plans (IsKnownFrom plans k from) (IsGivenFrom plans k from) (IsGivenFrom plans k from) top left n g g w w way way was was (Ok y)
+leaf_repairs plans g is w way was top left n k from none y =
+    repairs_nothing plans (IsKnownFrom plans k from) (IsGivenFrom plans k from) (IsGivenFrom plans k from) top left n g w way was y (λ sc v on fine a both.
+    let given = both.0 in
     let has = visiting.visit_there sc.spec plans (term_now sc) on.staged.planned v k given.site given.of_visit in
     absurd (none-some (operator_in (term_now sc) v) (sym none ∙ label_here plans sc g is w top left n v on (operator_in (term_now sc) v) has.node)))
+
+-- from the first step on a visit gives what it gives
+pub from_first : {A E : Type 0} (plans : Plans) (top left n : NodeId) (old new : Grove) (begin after : Worklist) (from to : Way) (was now : List Instance) (k : ℕ) (r : Result A E)
+    → Repairs plans (IsKnownFrom plans k 0) (IsGivenFrom plans k 0) (IsGivenFrom plans k 0) top left n old new begin after from to was now r
+    → Repairs plans (λ rules. IsKnown rules plans k) (λ rules. IsGiven rules plans k) (λ rules. IsGiven rules plans k) top left n old new begin after from to was now r
+from_first {A} {E} plans top left n old new begin after from to was now k r gives = record {
+  stored = gives.stored;
+  at = gives.at;
+  detached = gives.detached;
+  tracked = gives.tracked;
+  moves = λ sc v on known stale.
+      moves_again sc (IsGivenFrom plans k 0 (rules_of sc.spec) (term_now sc) v) (IsGiven (rules_of sc.spec) plans k (term_now sc) v) old new begin after was now r (λ a given. given.0) (by sc v r)
+      (gives.moves sc v on (λ a m is climbs. elim is [ inl one ↦ known a m one climbs | inr none ↦ absurd (nothing sc v a none) ]) (λ a m i given. stale a m i given.0));
+}
+  where
+    nothing : (sc : Scene) (v : Place) (a : Reference Place) → IsGivenBefore (rules_of sc.spec) plans (term_now sc) v k 0 a → ⊥
+    nothing sc v a is = visiting.gives_nothing (rules_of sc.spec) plans (term_now sc) v k a is
+
+    by : (sc : Scene) (v : Place) (x : Result A E) → OnOk x ((a : Reference Place) → IsGiven (rules_of sc.spec) plans k (term_now sc) v a → IsGivenFrom plans k 0 (rules_of sc.spec) (term_now sc) v a)
+    by sc v (Ok x) = λ a given. (given, nothing sc v a)
+    by sc v (Err e) = tt

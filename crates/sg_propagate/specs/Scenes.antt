@@ -12,7 +12,7 @@ use Rattle.sg_kinds.specs.declared.plans.Plans.{Plans}
 use Rattle.sg_kinds.specs.declared.spec.Occurrence.{Occurrence}
 use Rattle.sg_kinds.specs.declared.spec.Spec.{Spec}
 use Rattle.sg_forest.specs.declared.node_id.NodeId.{NodeId}
-use Rattle.sg_forest.specs.Trees.{IsBelow, IsInside, IsLive, Climbs}
+use Rattle.sg_forest.specs.Trees.{IsInside, IsLive, Climbs}
 use Rattle.sg_forest.specs.Steps.{SameSort}
 use Rattle.sg_groves.specs.Evaluated.{IsChanged, IsEvaluated}
 use Rattle.sg_groves.specs.Grove.{Grove, nodes}
@@ -79,7 +79,6 @@ pub record IsStaged (plans : Plans) (sc : Scene) (g : Grove) (w : Worklist) : Ty
   pub kept : (X slot : ℕ) → phylum_at sc.spec.ops (label_of (sub (term_now sc) sc.place)) ≡ Some X → IsAttr (rules_of sc.spec) X slot → value_there g sc.left slot ≡ value_was sc (record { node = sc.place; slot = slot })
   pub calm : (a : Reference Place) (m : NodeId) → IsCalm sc a → Climbs (nodes g) a.node m sc.root → value_there g m a.slot ≡ value_now sc a
   pub noted : AreNoted sc g w
-  pub awake : (m : NodeId) → IsBelow (nodes g) sc.top m → Contains w.active m.key
 
 -- a reference has its value; outside the new subterm its slot is noted where that is another one, and its node is active
 -- where besides the equation is that of the node above

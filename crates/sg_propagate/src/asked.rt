@@ -3,8 +3,6 @@ ghost use Rattle.std.specs.Prelude.{◌≡◌, ◌↔◌, Some, Contains, IsTrue
 ghost use Rattle.sg_kinds.specs.Specification.{rules_of};
 ghost use Rattle.sg_kinds.specs.declared.spec.Rule.{Rule};
 ghost use Rattle.sg_dependencies.specs.Vertices.{IsVertex};
-ghost use Rattle.sg_forest.specs.Trees.{IsLive};
-ghost use Rattle.sg_groves.specs.Grove.{nodes};
 ghost use Rattle.sg_terms.specs.Found.{op_at};
 ghost use Rattle.sg_propagate.specs.Scenes.{AreTops, ShowsOther};
 
@@ -42,22 +40,6 @@ fn shows_other(
     }
 }
 
-// Whether it is plain, before any argument at a node is looked at, that none shows another value: nothing is noted yet,
-// as on the way down to the new top, and the new top does not hang under that node.
-fn none_shows(terms: &Terms, n: NodeId, top: NodeId, work: &Work) -> bool
-    requires live { IsLive (nodes terms.now) top }
-    ensures { IsTrue result → (left : _) (o : _) → ShowsOther terms.now top left n work.now o → ⊥ }
-{
-    terms.facts();
-    if !work.is_quiet() {
-        return false;
-    }
-    match terms.parent(top) {
-        Some((above, _)) => above != n,
-        None => true,
-    }
-}
-
 /// Whether some argument of an equation at a node shows another value, in a look-up an argument.
 pub fn has_other(
     terms: &Terms,
@@ -72,9 +54,6 @@ pub fn has_other(
     ensures { (r : Rule) → slice_get terms.now.spec.rules rule ≡ Some r → IsTrue result
         ↔ ((o : _) × Contains r.args o × ShowsOther terms.now top left n work.now o) }
 {
-    if none_shows(terms, n, top, work) {
-        return false;
-    }
     terms.facts();
     for &o in item(terms.spec().rules.as_slice(), rule.number as usize)
         .args

@@ -5,7 +5,8 @@
 mod asked;
 mod repair;
 mod replacement;
+mod rise;
 mod start;
 mod update;
 
-pub use replacement::replace;
+pub use replacement::{Exchange, replace};

@@ -1,14 +1,14 @@
 //! The visits of the nodes outside the new subterm, as far as they are touched.
-ghost use Rattle.std.specs.Prelude.{◌≡◌, ◌≤◌, ℕ, false, Some};
-ghost use Rattle.sg_kinds.specs.Specification.{is_inherited, rules_of};
+ghost use Rattle.std.specs.Prelude.{◌≡◌, ◌≤◌, Some};
+ghost use Rattle.sg_kinds.specs.Specification.{rules_of};
 ghost use Rattle.sg_kinds.specs.ValidPlans.{AreValid};
 ghost use Rattle.sg_kinds.specs.Visits.{visit_count};
 ghost use Rattle.sg_eval.specs.Journal.{now_of, total_of};
-ghost use Rattle.sg_forest.specs.Trees.{IsLive, IsRoot};
+ghost use Rattle.sg_forest.specs.Trees.{IsLive};
 ghost use Rattle.sg_groves.specs.Grove.{nodes};
-ghost use Rattle.sg_attrib.specs.Visited.{HasEquation, IsGiven, IsKnown, IsNeeded, IsNothing, IsStepAt, IsStepGiven};
+ghost use Rattle.sg_attrib.specs.Visited.{IsNeeded, IsStepAt, IsStepGiven};
 ghost use Rattle.sg_propagate.specs.Scenes.{AreTops};
-ghost use Rattle.sg_propagate.specs.Moves.{Repairs};
+ghost use Rattle.sg_propagate.specs.Moves.{IsGivenFrom, IsKnownFrom, Repairs};
 
 use crate::update::update;
 use sg_attrib::visit;
@@ -16,7 +16,8 @@ use sg_eval::{Evaluator, Journal};
 use sg_forest::NodeId;
 use sg_kinds::memory::NoMemory;
 use sg_kinds::plans::{PlanStep, Plans};
-use sg_plans::{steps, visit_count};
+use sg_kinds::row::item;
+use sg_plans::steps;
 use sg_terms::Terms;
 use sg_trail::Trail;
 use sg_work::Work;
@@ -54,19 +55,23 @@ fn take(
                 return visit(terms, top, k, plans, ev, journal);
             }
             if work.is_active(below) {
-                return repair(terms, below, k, top, left, plans, ev, trail, work, journal);
+                return repair(
+                    terms, below, k, 0, top, left, plans, ev, trail, work, journal,
+                );
             }
             Ok(())
         }
     }
 }
 
-/// Brings what visit `k` of a node gives up to date, visits counted from 1.
+/// Brings what visit `k` of a node gives up to date, visits counted from 1, by its steps from step `from` on: what the
+/// steps before give is so already.
 #[cycle(repair)]
 pub fn repair(
     terms: &mut Terms,
     n: NodeId,
     k: u32,
+    from: usize,
     top: NodeId,
     left: NodeId,
     plans: &Plans,
@@ -81,9 +86,8 @@ pub fn repair(
     requires low { 1 ≤ k }
     requires high { (x : _) → nodes terms.old n ≡ Some x → k ≤ visit_count plans.now x.label.phylum }
     requires tops { AreTops terms.old top left }
-    ensures repairs { Repairs plans.now (λ rules. IsKnown rules plans.now k)
-        (λ rules. IsGiven rules plans.now k)
-        (λ rules. IsGiven rules plans.now k) top left n terms.old terms.new work.old work.new
+    ensures repairs { Repairs plans.now (IsKnownFrom plans.now k from) (IsGivenFrom plans.now k from)
+        (IsGivenFrom plans.now k from) top left n terms.old terms.new work.old work.new
         trail.old trail.new (now_of journal.old) (now_of journal.new) result }
     ensures total { total_of journal.new ≡ total_of journal.old }
 {
@@ -91,48 +95,13 @@ pub fn repair(
     let Some(op) = terms.op(n) else {
         return Ok(());
     };
-    for step in steps(plans, op, k) {
+    let all = steps(plans, op, k);
+    for m in from..all.len() {
         terms.facts();
-        take(terms, n, *step, top, left, plans, ev, trail, work, journal)?;
-    }
-    Ok(())
-}
-
-/// Brings every value of a tree up to date.
-pub fn repair_all(
-    terms: &mut Terms,
-    root: NodeId,
-    top: NodeId,
-    left: NodeId,
-    plans: &Plans,
-    ev: &Evaluator,
-    trail: &mut Trail,
-    work: &mut Work,
-    journal: &mut Journal,
-) -> Result<(), NoMemory>
-    requires valid { AreValid (rules_of terms.old.spec) plans.now }
-    requires same { ev.now ≡ terms.old.spec }
-    requires root { IsRoot (nodes terms.old) root }
-    requires inherits { (x : _) → nodes terms.old root ≡ Some x → (slot : ℕ)
-        → is_inherited terms.old.spec.phyla x.label.phylum slot ≡ false }
-    requires tops { AreTops terms.old top left }
-    ensures repairs { Repairs plans.now (λ rules. IsNothing) (λ rules. HasEquation rules)
-        (λ rules. HasEquation rules) top left root
-        terms.old terms.new work.old work.new
-        trail.old trail.new (now_of journal.old) (now_of journal.new) result }
-    ensures total { total_of journal.new ≡ total_of journal.old }
-{
-    terms.facts();
-    let Some(op) = terms.op(root) else {
-        return Ok(());
-    };
-    let last = visit_count(terms.spec(), plans, op);
-    for k in 0..last {
-        terms.facts();
-        repair(
+        take(
             terms,
-            root,
-            k + 1,
+            n,
+            *item(all, m),
             top,
             left,
             plans,

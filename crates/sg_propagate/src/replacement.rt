@@ -18,12 +18,12 @@ ghost use Rattle.sg_terms.specs.Entries.{Gained, GainedAll};
 ghost use Rattle.sg_terms.specs.Kept.{KeepsTermsNotOver};
 ghost use Rattle.sg_trail.specs.Trails.{IsAnySlot, IsExchanged, LeadsBack};
 ghost use Rattle.sg_propagate.specs.Asked.{IsAsked, root_then};
-ghost use Rattle.sg_propagate.specs.Exchanged.{Exchanges, IsRenewed, KeepsOtherRoots};
+ghost use Rattle.sg_propagate.specs.Exchanged.{Exchanges, IsReach, IsRenewed, KeepsOtherRoots, Reaches};
 ghost use Rattle.sg_propagate.specs.Moves.{Finishes, IsTracked};
 ghost use Rattle.sg_propagate.specs.Scenes.{AreTops, IsSetUp, Scene};
 
-use crate::repair::repair_all;
-use crate::start::{activate_above, take_over};
+use crate::rise::rise;
+use crate::start::take_over;
 use sg_attrib::attribute;
 use sg_eval::{Evaluator, Journal};
 use sg_forest::NodeId;
@@ -34,7 +34,8 @@ use sg_trail::Trail;
 use sg_work::Work;
 use std::alloc::Global;
 
-// Every value of a tree in which a subtree has just taken another's place.
+// Every value of a tree in which a subtree has just taken another's place: the way up begins at the node above. It
+// returns the node that the change reaches.
 fn bring_up_to_date(
     alloc: Global,
     terms: &mut Terms,
@@ -44,7 +45,7 @@ fn bring_up_to_date(
     ev: &Evaluator,
     trail: &mut Trail,
     journal: &mut Journal,
-) -> Result<(), NoMemory>
+) -> Result<NodeId, NoMemory>
     requires valid { AreValid (rules_of terms.old.spec) plans.now }
     requires same { ev.now ≡ terms.old.spec }
     requires tops { AreTops terms.old top left }
@@ -58,18 +59,25 @@ fn bring_up_to_date(
         → IsTracked first terms.new top trail.new }
     ensures finishes { (sc : Scene) → IsSetUp plans.now sc terms.old → sc.top ≡ top → sc.left ≡ left
         → Finishes sc terms.old terms.new (now_of journal.old) (now_of journal.new) result }
+    ensures reach { (sc : Scene) → IsSetUp plans.now sc terms.old → sc.top ≡ top → sc.left ≡ left
+        → IfOk result (IsReach sc terms.new) }
     ensures total { total_of journal.new ≡ total_of journal.old }
 {
     terms.facts();
     take_over(terms, top, left);
     terms.facts();
+    let Some((first, _)) = terms.parent(top) else {
+        return Ok(top);
+    };
     let mut work = Work::new(alloc);
-    let root = activate_above(terms, top, &mut work)?;
-    repair_all(terms, root, top, left, plans, ev, trail, &mut work, journal)
+    rise(
+        terms, first, top, left, plans, ev, trail, &mut work, journal,
+    )
 }
 
-// The exchange itself and what follows, all of which the trail leads back from.
-fn exchange(
+// The exchange itself and what follows, all of which the trail leads back from. It returns the node that the change
+// reaches.
+fn change_places(
     alloc: Global,
     terms: &mut Terms,
     at: NodeId,
@@ -78,7 +86,7 @@ fn exchange(
     ev: &Evaluator,
     trail: &mut Trail,
     journal: &mut Journal,
-) -> Result<(), NoMemory>
+) -> Result<NodeId, NoMemory>
     requires valid { AreValid (rules_of terms.old.spec) plans.now }
     requires same { ev.now ≡ terms.old.spec }
     requires live { IsLive (nodes terms.old) at }
@@ -89,6 +97,8 @@ fn exchange(
         → nodes terms.old root ≡ Some x → (slot : ℕ) → is_inherited terms.old.spec.phyla x.label.phylum slot ≡ false }
     ensures exchanges { Exchanges terms.old terms.new at detached trail.old trail.new
         (now_of journal.old) (now_of journal.new) result }
+    ensures reach { (root : _) (t : Term) (u : Place) (s : Term) → IsAsked terms.old at detached root t u s
+        → IfOk result (Reaches terms.old.spec terms.new (root_then u root detached) t u s) }
     ensures total { total_of journal.new ≡ total_of journal.old }
 {
     terms.facts();
@@ -96,9 +106,20 @@ fn exchange(
     terms.swap(at, detached);
     terms.facts();
     match above {
-        None => attribute(terms, detached, plans, ev, journal),
+        None => {
+            attribute(terms, detached, plans, ev, journal)?;
+            Ok(detached)
+        }
         Some(_) => bring_up_to_date(alloc, terms, detached, at, plans, ev, trail, journal),
     }
+}
+
+/// What a replacement leaves: the way back, and the node that the change reaches. That is the new root where the root
+/// was exchanged.
+#[derive(Drop)]
+pub struct Exchange {
+    pub trail: Trail,
+    pub reach: NodeId,
 }
 
 /// The tree under `at` and that of the root `detached`, of one phylum, change places: afterwards every attribute of the
@@ -106,8 +127,9 @@ fn exchange(
 /// with a changed argument, each once. The trail leads back. Where memory is wanting each node is as before, and only
 /// pool and journal may have grown.
 ///
-/// It takes time in the depth of `at`, the nodes of the new subtree and the evaluated equations, times the plan of one
-/// operator: nothing is sized by the forest, and no step is looked for.
+/// It takes time in the nodes of the new subtree, the evaluated equations and the nodes above that the change reaches,
+/// times the plan of one operator: it goes up from the change, to a node above only where a synthesized attribute of the
+/// node below has become another one.
 pub fn replace(
     alloc: Global,
     terms: &mut Terms,
@@ -116,7 +138,7 @@ pub fn replace(
     plans: &Plans,
     ev: &Evaluator,
     journal: &mut Journal,
-) -> Result<Trail, NoMemory>
+) -> Result<Exchange, NoMemory>
     requires valid { AreValid (rules_of terms.old.spec) plans.now }
     requires same { ev.now ≡ terms.old.spec }
     requires live { IsLive (nodes terms.old) at }
@@ -146,8 +168,10 @@ pub fn replace(
         → OnOk result ((m : _) (slot : ℕ) → number_at terms.new m slot ≢ number_at terms.old m slot
         → IsRenewed terms.old.spec terms.new detached root t u s m slot) }
 
-    // The way back.
-    ensures leads_back { IfOk result (LeadsBack terms.old terms.new) }
+    // How far it reaches, and the way back.
+    ensures reach { (root : _) (t : Term) (u : Place) (s : Term) → IsAsked terms.old at detached root t u s
+        → IfOk result (λ e. Reaches terms.old.spec terms.new (root_then u root detached) t u s e.reach) }
+    ensures leads_back { IfOk result (λ e. LeadsBack terms.old terms.new e.trail) }
     ensures as_before { OnErr result ((n : _) → nodes terms.new n ≡ nodes terms.old n) }
     ensures spec { terms.new.spec ≡ terms.old.spec }
     ensures grown { IsGrown terms.old.pool terms.new.pool }
@@ -155,8 +179,8 @@ pub fn replace(
 {
     terms.facts();
     let mut trail = Trail::save(alloc, terms, at, detached)?;
-    match exchange(alloc, terms, at, detached, plans, ev, &mut trail, journal) {
-        Ok(()) => Ok(trail),
+    match change_places(alloc, terms, at, detached, plans, ev, &mut trail, journal) {
+        Ok(reach) => Ok(Exchange { trail, reach }),
         Err(e) => {
             trail.back(terms);
             Err(e)

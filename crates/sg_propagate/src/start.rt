@@ -1,9 +1,8 @@
 //! What a replacement does before any equation is looked at.
-ghost use Rattle.std.specs.Prelude.{◌≡◌, ◌<◌, ◌^◌, ℕ, true, length, Some, Contains, IfOk, OnOk};
+ghost use Rattle.std.specs.Prelude.{◌≡◌, ◌<◌, ◌^◌, ℕ, true, length, Some};
 ghost use Rattle.sg_kinds.specs.Dependencies.{IsAttr};
 ghost use Rattle.sg_kinds.specs.Specification.{attrs_of, is_inherited, rules_of};
 ghost use Rattle.sg_dependencies.specs.Vertices.{AreInRange};
-ghost use Rattle.sg_forest.specs.Trees.{IsBelow, IsInside, IsLive, IsRoot};
 ghost use Rattle.sg_groves.specs.Grove.{nodes};
 ghost use Rattle.sg_groves.specs.Stored.{number_at};
 ghost use Rattle.sg_groves.specs.Unchanged.{OnlyStored};
@@ -13,31 +12,12 @@ ghost use Rattle.sg_propagate.specs.Scenes.{AreTops};
 use sg_forest::NodeId;
 use sg_kinds::ids::PhylumId;
 use sg_kinds::marks::Way;
-use sg_kinds::memory::NoMemory;
 use sg_kinds::row::item;
 use sg_kinds::spec::Spec;
 use sg_terms::Terms;
-use sg_work::Work;
-
-/// Makes the nodes above a node active, and returns the root.
-pub fn activate_above(terms: &Terms, n: NodeId, work: &mut Work) -> Result<NodeId, NoMemory>
-    requires { IsLive (nodes terms.now) n }
-    ensures root { IfOk result (IsRoot (nodes terms.now)) }
-    ensures inside { IfOk result (IsInside (nodes terms.now) n) }
-    ensures active { OnOk result ((m : _) → IsBelow (nodes terms.now) n m → Contains work.new.active m.key) }
-    ensures changed { work.new.changed ≡ work.old.changed }
-{
-    terms.facts();
-    let mut top = n;
-    while let Some((above, _)) = terms.parent(top) {
-        work.activate(above)?;
-        top = above;
-    }
-    Ok(top)
-}
 
 // whether an attribute of a phylum is inherited
-fn is_handed(spec: &Spec, phylum: PhylumId, slot: usize) -> bool
+pub fn is_handed(spec: &Spec, phylum: PhylumId, slot: usize) -> bool
     ensures { result ≡ is_inherited spec.now.phyla phylum slot }
 {
     let Some(phylum) = spec.phyla.place(phylum.number) else {
@@ -70,7 +50,7 @@ pub fn take_over(terms: &mut Terms, top: NodeId, left: NodeId)
 }
 
 // how many attributes a phylum has
-fn attr_count(spec: &Spec, phylum: PhylumId) -> usize
+pub fn attr_count(spec: &Spec, phylum: PhylumId) -> usize
     requires phylum { phylum < length spec.now.phyla }
     requires range { AreInRange (rules_of spec.now) }
     ensures count { result ≡ length (attrs_of spec.now.phyla phylum) }

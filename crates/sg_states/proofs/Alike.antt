@@ -21,7 +21,7 @@ use Rattle.sg_kinds.proofs.Elementary.{slice_get-All}
 use Rattle.sg_unparse.specs.Cells.{Mark, Closed, Writing, nothing, in_turn, plain, pieces, cells_in, ended, placed, goes_on, items_of, shows, items, content, reference, unparsed, unparsed_among, marks_of}
 use Rattle.sg_unparse.specs.Shown.{value_text}
 
-abbrev Same : Writing → Writing → Type 0
+abbrev pub Same : Writing → Writing → Type 0
 Same f g = (m : ℕ) → f m ≡ g m
 
 abbrev put_behind : List Mark → List Mark × ℕ → List Mark × ℕ
@@ -120,7 +120,7 @@ module _ (spec : Spec) (sound : HasSchemes spec) (value other : Reference Place 
         subst (λ i. sub t (i ∷ u) ≡ Some x) e (ap (option_and_then (child j)) at ∙ found)
 
     mutual
-      unparsed_same : (u : Place) (x : Term) → sub t u ≡ Some x → Same (unparsed spec value typed u x) (unparsed spec other others u x)
+      pub unparsed_same : (u : Place) (x : Term) → sub t u ≡ Some x → Same (unparsed spec value typed u x) (unparsed spec other others u x)
       unparsed_same u (Leaf p v) at = node_same u false (plain u (value_text spec p v)) (plain u (value_text spec p v)) (same_typed u (Leaf p v) at) (λ m. refl)
       unparsed_same u (Node op n elided ts) at =
           node_same u elided (items spec value typed u op (goes_on ts) (items_of spec op n) (unparsed_among spec value typed u 0 ts)) (items spec other others u op (goes_on ts) (items_of spec op n) (unparsed_among spec other others u 0 ts))

@@ -6,3 +6,4 @@ pub mod Righted
 pub mod Sheeted
 pub mod Looking
 pub mod Typing
+pub mod Foretold

@@ -1,5 +1,5 @@
 -- What is seen of a held term is what the definitions say of the term.
-use Rattle.std.specs.Prelude.{◌≡◌, ◌↔◌, refl, ℕ, zero, suc, ◌<◌, ◌≤◌, Bool, true, false, not, ◌&&◌, ◌||◌, ◌==◌, cond, if◌then◌else◌, nat_eq, nat_le, nat_lt, min, bytes_eq, List, [], ◌∷◌, Option, Some, None, IsTrue, option_map}
+use Rattle.std.specs.Prelude.{◌≡◌, ◌↔◌, refl, ℕ, zero, suc, ◌<◌, ◌≤◌, Bool, true, false, not, ◌&&◌, ◌||◌, ◌==◌, cond, if◌then◌else◌, nat_eq, nat_le, nat_lt, min, bytes_eq, List, [], ◌∷◌, Option, Some, None, IfSome, IsTrue, option_map}
 use Rattle.std.specs.Option.{option_map_or}
 use Rattle.std.specs.List.{AllByRecursion}
 use Rattle.std.proofs.Common.{sym, ap, ◌∙◌, subst, arith}
@@ -35,7 +35,9 @@ use Rattle.sg_unparse.specs.Written.{sheet_of}
 use Rattle.sg_unparse.proofs.Placed.{climbs_along}
 use Rattle.sg_states.specs.Selections.{elements_at, is_selection, settled_count, settled_selection, path_to, place_in}
 use Rattle.sg_states.specs.Seen.{first_line, marks_seen, nothing_typed, typed_at, seen}
-use Rattle.sg_states.specs.Paged.{IsWhole, IsLook, page_seen}
+use Rattle.sg_states.specs.Beginnings.{Begins}
+use Rattle.sg_states.specs.declared.looks.Found.{Found}
+use Rattle.sg_states.specs.Paged.{IsWhole, IsFound, IsLook, page_seen}
 use Rattle.sg_states.proofs.Righted.{stored_marks}
 use Rattle.sg_states.proofs.Selecting.{path_there, path_back}
 use Rattle.sg_states.proofs.Sheeted.{IsOf, MarkOf, Tells, marks_there, region_told}
@@ -93,12 +95,12 @@ module _ (g : Grove) (is : IsGrove g) (root : NodeId) (t : Term) where
             ap (λ (z : NodeId). z.key == n.key) same ∙ eq_itself n.key),
       )
 
-  all_tell : (u : Place) (n : NodeId) → IsPlaced g root t u n → (marks : List Mark) → AllByRecursion (MarkOf t) marks → AllByRecursion (λ m. Tells (node_along g root) n u (place_of_mark m)) marks
+  pub all_tell : (u : Place) (n : NodeId) → IsPlaced g root t u n → (marks : List Mark) → AllByRecursion (MarkOf t) marks → AllByRecursion (λ m. Tells (node_along g root) n u (place_of_mark m)) marks
   all_tell u n placed [] h = tt
   all_tell u n placed (m ∷ marks) h = (tells u n placed (place_of_mark m) h.0, all_tell u n placed marks h.1)
 
   module _ (whole : IsWhole g root t) where
-    placed_at : (u : Place) (n : NodeId) → Climbs (nodes g) u n root → IsPlaced g root t u n
+    pub placed_at : (u : Place) (n : NodeId) → Climbs (nodes g) u n root → IsPlaced g root t u n
     placed_at u n way = record { top = whole.top; holds = whole.holds; way = way }
 
     marks_told : (typed others : Place → Option Bytes) → ((u : Place) (x : Term) → sub t u ≡ Some x → typed u ≡ others u) → marks_of g.spec (stored g root) typed t ≡ marks_seen g.spec t others
@@ -160,20 +162,23 @@ module _ (g : Grove) (is : IsGrove g) (root : NodeId) (t : Term) where
         (λ e. absurd (none-some (place_of path) (sym none ∙ ap (option_map (λ _. place_of path)) (ap (sub t) (sym e) ∙ s.2)))),
       )
 
-  pub looked : (s : Selection) (height top first : ℕ) (path : List ℕ) (count : ℕ) (m : NodeId) (page : Sheet) → IsWhole g root t → Climbs (nodes g) (settled g.spec t (place_in s)) m root
+  pub looked : (s : Selection) (height top first : ℕ) (path : List ℕ) (count : ℕ) (m : NodeId) (f : Found) → IsWhole g root t → Climbs (nodes g) (settled g.spec t (place_in s)) m root
       → ((r : NodeId) (x : Term) (u : Place) → IsPlaced g r x u m → place_of path ≡ u)
       → ((v : Place) → IsPlaced g root t v m → rests g.spec t v ≡ true → count ≡ settled_count g.spec t (place_in s) v s.count)
-      → page ≡ page_seen g root t nothing_typed → ((u : Place) → Climbs (nodes g) u m root → first ≡ topped height (first_line g.spec t u) top)
-      → IsLook g root t (seen g.spec height t (settled_selection g.spec t s) top) (record { selected = m; spot = record { selection = record { path = path; count = count }; top = first }; page = page })
-  looked s height top first path count m page whole way named counted paged topped_at =
+      → ((u : Place) → Climbs (nodes g) u m root → IsFound g root t u f) → first ≡ topped height f.line top
+      → IsLook g root t (seen g.spec height t (settled_selection g.spec t s) top) (record { selected = m; spot = record { selection = record { path = path; count = count }; top = first }; page = f.page; begins = f.begins })
+  looked s height top first path count m f whole way named counted found topped_at =
       let v = settled g.spec t (place_in s) in
+      let back = sym (path_there v) in
       let path_is : path ≡ path_to v = sym (path_back path) ∙ ap path_to (named root t v (placed_at whole v m way)) in
       let count_is = counted v (placed_at whole v m way) (settled_rests g.spec t (place_in s)) in
-      let top_is = topped_at v way ∙ ap (λ z. topped height (first_line g.spec t z) top) (sym (path_there v)) in
+      let is_found = found v way in
+      let top_is = topped_at ∙ ap (λ l. topped height l top) is_found.line ∙ ap (λ z. topped height (first_line g.spec t z) top) back in
       record {
-        selected = subst (λ z. Climbs (nodes g) z m root) (sym (path_there v)) way;
+        selected = subst (λ z. Climbs (nodes g) z m root) back way;
         spot_is =
             ap (λ p. spot p count first) path_is ∙ ap (λ n. spot (path_to v) n first) count_is
             ∙ ap (λ n. spot (path_to v) (settled_count g.spec t (place_in s) v s.count) n) top_is;
-        page = paged;
+        page = is_found.page;
+        begins = subst (λ z. IfSome f.begins (Begins g.spec t z)) back is_found.begins;
       }

@@ -36,9 +36,10 @@ use Rattle.sg_plans.proofs.Bearers.{owed_site}
 use Rattle.sg_terms.specs.Found.{op_at}
 use Rattle.sg_attrib.proofs.Nodes.{leaf_value_there, label_op, op_label, not_held}
 use Rattle.sg_unparse.specs.Along.{node_along, kid_of, stored}
-use Rattle.sg_unparse.specs.Cells.{reference, marks_of}
+use Rattle.sg_unparse.specs.Begins.{none_typed}
+use Rattle.sg_unparse.specs.Cells.{reference, marks_of, unparsed}
 use Rattle.sg_unparse.proofs.Placed.{climbs_along, occurrence_stored}
-use Rattle.sg_states.proofs.Alike.{ShowsSame, marks_alike}
+use Rattle.sg_states.proofs.Alike.{ShowsSame, marks_alike, unparsed_same}
 
 -- slots and vertices
 types_long : (spec : Spec) (o : Option ℕ) → length (attr_types spec o) ≡ attr_count (rules_of spec) o
@@ -197,3 +198,7 @@ module _ (g : Grove) (is : IsGrove g) where
     pub stored_marks : (typed others : Place → Option Bytes) → ((u : Place) (x : Term) → sub t u ≡ Some x → typed u ≡ others u)
         → marks_of g.spec (stored g root) typed t ≡ marks_of g.spec (value_in g.spec t) others t
     stored_marks typed others alike = marks_alike g.spec is.sound.schemes (stored g root) (value_in g.spec t) typed others t alike shown_right
+
+    -- and what a node writes alone
+    pub stored_alone : (p : Place) (x : Term) → sub t p ≡ Some x → unparsed g.spec (stored g root) none_typed p x 0 ≡ unparsed g.spec (value_in g.spec t) none_typed p x 0
+    stored_alone p x at = unparsed_same g.spec is.sound.schemes (stored g root) (value_in g.spec t) none_typed none_typed t (λ u y there. refl) shown_right p x at 0

@@ -45,7 +45,7 @@ module _ (spec : Spec) (value : Reference Place → Value) (typed : Place → Op
       subst (λ i. sub t (i ∷ u) ≡ Some x) e (ap (option_and_then (child j)) at ∙ found)
 
   mutual
-    marks_of_term : (u : Place) (x : Term) → sub t u ≡ Some x → Each (MarkOf t) (unparsed spec value typed u x)
+    pub marks_of_term : (u : Place) (x : Term) → sub t u ≡ Some x → Each (MarkOf t) (unparsed spec value typed u x)
     marks_of_term u (Leaf p v) at =
         let here : IsOf t u = (Leaf p v, at) in
         let own = plain u (value_text spec p v) in

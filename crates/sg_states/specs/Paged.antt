@@ -1,5 +1,5 @@
 -- What is seen of the term that a root holds.
-use Rattle.std.specs.Prelude.{◌≡◌, ℕ, false, Option}
+use Rattle.std.specs.Prelude.{◌≡◌, ℕ, false, IfSome, Option}
 use Rattle.sg_kinds.specs.Values.{Bytes}
 use Rattle.sg_kinds.specs.Terms.{Term}
 use Rattle.sg_kinds.specs.Places.{Place}
@@ -14,7 +14,10 @@ use Rattle.sg_unparse.specs.Along.{node_along}
 use Rattle.sg_unparse.specs.Sheet.{Sheet}
 use Rattle.sg_unparse.specs.Written.{sheet_of}
 use Rattle.sg_states.specs.Selections.{place_in}
-use Rattle.sg_states.specs.Seen.{nothing_typed, marks_seen}
+use Rattle.sg_states.specs.Seen.{nothing_typed, marks_seen, first_line}
+use Rattle.sg_states.specs.Beginnings.{Begins, Foretells}
+use Rattle.sg_states.specs.declared.begins.Before.{Before}
+use Rattle.sg_states.specs.declared.looks.Found.{Found}
 use Rattle.sg_states.specs.declared.looks.Look.{Look}
 
 -- a right tree, whose root holds a term and inherits nothing
@@ -28,8 +31,23 @@ pub record IsWhole (g : Grove) (root : NodeId) (t : Term) : Type 0 where
 unfoldable pub page_seen : Grove → NodeId → Term → (Place → Option Bytes) → Sheet
 page_seen g root t typed = sheet_of (node_along g root) (marks_seen g.spec t typed)
 
--- a spot, its node, and the page without a typed text
+-- a spot, its node, and where it begins and the page without a typed text, where these are told
 pub record IsLook (g : Grove) (root : NodeId) (t : Term) (spot : Spot) (l : Look) : Type 0 where
   pub selected : Climbs (nodes g) (place_in spot.selection) l.selected root
   pub spot_is : l.spot ≡ spot
-  pub page : l.page ≡ page_seen g root t nothing_typed
+  pub page : IfSome l.page (λ p. p ≡ page_seen g root t nothing_typed)
+  pub begins : IfSome l.begins (Begins g.spec t (place_in spot.selection))
+
+-- the line in which the node at a place begins, and where it begins and the page, where these are told
+pub record IsFound (g : Grove) (root : NodeId) (t : Term) (u : Place) (f : Found) : Type 0 where
+  pub line : f.line ≡ first_line g.spec t u
+  pub page : IfSome f.page (λ p. p ≡ page_seen g root t nothing_typed)
+  pub begins : IfSome f.begins (Begins g.spec t u)
+
+-- what was told before a change holds of the term that the root holds now
+pub record IsForetold (g : Grove) (root : NodeId) (b : Before) : Type 0 where
+  pub term : Term
+  pub place : Place
+  pub whole : IsWhole g root term
+  pub way : Climbs (nodes g) place b.above root
+  pub tells : Foretells g.spec term place b

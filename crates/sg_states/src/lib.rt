@@ -1,9 +1,13 @@
 //! The state of a buffer, and what each call does to it.
 #![tactic(auto)]
 
+mod begins;
 pub mod laws;
 mod looks;
 mod marks;
 
-pub use looks::{Look, elements_at, line_on, look_at, page_of, page_with, target, top_at};
+pub use begins::{Before, begins_here, foretell};
+pub use looks::{
+    Look, elements_at, line_on, look_after, look_at, page_of, page_with, target, top_at,
+};
 pub use marks::{Extended, Mark, Move};

@@ -13,8 +13,9 @@ ghost use Rattle.sg_unparse.specs.Sheet.{region_on};
 ghost use Rattle.sg_states.specs.Selections.{elements_at as elements_there, is_selection as is_selection_there, settled_count, settled_selection};
 ghost use Rattle.sg_states.specs.Seen.{first_line as line_of, nothing_typed, seen, typed_at};
 ghost use Rattle.sg_states.specs.States.{target as target_from};
-ghost use Rattle.sg_states.specs.Paged.{IsLook, IsWhole, page_seen};
+ghost use Rattle.sg_states.specs.Paged.{IsForetold, IsFound, IsLook, IsWhole, page_seen};
 
+use crate::begins::{Before, begins_after, begins_here};
 use crate::marks::Move;
 use sg_changes::{Selection, Spot, topped};
 use sg_forest::NodeId;
@@ -23,7 +24,7 @@ use sg_select::{
     elements_from, first, next, node_along, path_of, prev, settle_path, sibling, spine_of, up,
 };
 use sg_terms::Terms;
-use sg_unparse::{Page, cells};
+use sg_unparse::{Beginning, Page, cells};
 use std::alloc::Global;
 
 /// What is selected and seen of a held term, where nothing is typed.
@@ -32,7 +33,18 @@ pub struct Look {
     /// the selected node, of a run its first element
     pub selected: NodeId,
     pub spot: Spot,
-    pub page: Page,
+    /// the page, where it was made
+    pub page: Option<Page>,
+    /// where the selected node begins, where that is told
+    pub begins: Option<Beginning>,
+}
+
+// the line in which a node begins, and what else was made to find it
+#[derive(Drop)]
+struct Found {
+    line: usize,
+    page: Option<Page>,
+    begins: Option<Beginning>,
 }
 
 /// The line in which a node begins on a page, from 1; 1 for a node that is not shown.
@@ -151,6 +163,71 @@ pub fn top_at(terms: &Terms, page: &Page, n: NodeId, height: usize, top: usize) 
     topped(height, line_on(page, n), top)
 }
 
+// the line in which a node begins: by what was told before the change, else on the page
+fn find_line(
+    alloc: Global,
+    terms: &Terms,
+    root: NodeId,
+    n: NodeId,
+    before: Option<Before>,
+) -> Result<Found, NoMemory>
+    requires root { IsRoot (nodes terms.now) root }
+    requires before { IfSome before (IsForetold terms.now root) }
+    ensures { (t : Term) (u : Place) → IsWhole terms.now root t → Climbs (nodes terms.now) u n root
+        → IfOk result (IsFound terms.now root t u) }
+{
+    terms.facts();
+    if let Some(begins) = begins_after(alloc, terms, root, n, before)? {
+        return Ok(Found {
+            line: begins.newlines + 1,
+            page: None,
+            begins: Some(begins),
+        });
+    }
+    let page = page_of(alloc, terms, root)?;
+    let line = line_on(&page, n);
+    let begins = begins_here(terms, &page, n);
+    Ok(Found {
+        line,
+        page: Some(page),
+        begins,
+    })
+}
+
+/// What is seen of the term that a root holds with this to be selected, settled, in a window of this height, from this
+/// top. Where the term changed, what was told before saves the page.
+pub fn look_after(
+    alloc: Global,
+    terms: &Terms,
+    root: NodeId,
+    select: &Selection,
+    height: usize,
+    top: usize,
+    before: Option<Before>,
+) -> Result<Look, NoMemory>
+    requires root { IsRoot (nodes terms.now) root }
+    requires tall { 0 < height }
+    requires before { IfSome before (IsForetold terms.now root) }
+    ensures { (t : Term) → IsWhole terms.now root t → IfOk result (IsLook terms.now root t
+        (seen terms.now.spec height t (settled_selection terms.now.spec t select.now) top)) }
+{
+    terms.facts();
+    let way = select.path.as_slice();
+    let selected = settle_path(terms, root, way);
+    let found = find_line(alloc, terms, root, selected, before)?;
+    let path = path_of(alloc, terms, selected)?;
+    let count = count_at(terms, root, way, select.count, selected);
+    let top = topped(height, found.line, top);
+    let selection = Selection { path, count };
+    let spot = Spot { selection, top };
+    Ok(Look {
+        selected,
+        spot,
+        page: found.page,
+        begins: found.begins,
+    })
+}
+
 /// What is seen of the term that a root holds with this to be selected, settled, in a window of this height, from this
 /// top.
 pub fn look_at(
@@ -166,18 +243,5 @@ pub fn look_at(
     ensures { (t : Term) → IsWhole terms.now root t → IfOk result (IsLook terms.now root t
         (seen terms.now.spec height t (settled_selection terms.now.spec t select.now) top)) }
 {
-    terms.facts();
-    let page = page_of(alloc, terms, root)?;
-    let way = select.path.as_slice();
-    let selected = settle_path(terms, root, way);
-    let path = path_of(alloc, terms, selected)?;
-    let count = count_at(terms, root, way, select.count, selected);
-    let top = top_at(terms, &page, selected, height, top);
-    let selection = Selection { path, count };
-    let spot = Spot { selection, top };
-    Ok(Look {
-        selected,
-        spot,
-        page,
-    })
+    look_after(alloc, terms, root, select, height, top, None)
 }

@@ -23,7 +23,7 @@ fn has_room(journal: &Journal) -> bool
 }
 
 /// What is printed. Where there is no memory it is asked for again.
-fn screen(rt: &impl Abort, editor: &Editor, message: Message, ev: u64) -> Vec<u8> {
+fn screen(rt: &impl Abort, editor: &mut Editor, message: Message, ev: u64) -> Vec<u8> {
     match editor.screen(message, ev) {
         Ok(screen) => screen,
         Err(_) => editor.screen(message, ev).ok().expect(rt, "memory"),

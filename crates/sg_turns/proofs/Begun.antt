@@ -64,8 +64,3 @@ module _ (empty built new : Grove) (spec : Spec) (root : NodeId) (t : Term) (spe
     root = root;
     gained = subst (λ (s : Spec). Gained built root t (Contains (instances (rules_of s) t)) was now) built_spec some;
   })
-
--- all entries are some of them
-pub noted_all : (new : Grove) (spec : Spec) (root : NodeId) (t : Term) (was now : List Instance) → new.spec ≡ spec → GainedAll new root t (Contains (instances (rules_of spec) t)) was now
-    → Noted spec t (Contains (instances (rules_of spec) t)) was now
-noted_all new spec root t was now same all = inr (record { grove = new; same = same; root = root; gained = all.gained })

@@ -12,4 +12,6 @@ pub mod Turnable
 pub mod Hanging
 pub mod Placing
 pub mod Stepping
+pub mod Localless
+pub mod Telling
 mod Worked

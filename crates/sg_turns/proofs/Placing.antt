@@ -4,7 +4,7 @@ use Rattle.std.proofs.Common.{sym, ap, ◌∙◌, subst, inl, inr}
 use Rattle.std.proofs.lemmas.Option.{none-some, same_Some}
 use Rattle.sg_kinds.specs.Terms.{Term}
 use Rattle.sg_kinds.specs.Fits.{Fits}
-use Rattle.sg_kinds.specs.Places.{Place, put, sub}
+use Rattle.sg_kinds.specs.Places.{Place, put}
 use Rattle.sg_kinds.specs.declared.spec.Spec.{Spec}
 use Rattle.sg_eval.specs.declared.journal.Instance.{Instance}
 use Rattle.sg_forest.specs.declared.node_id.NodeId.{NodeId}
@@ -27,10 +27,10 @@ use Rattle.sg_build.proofs.Roots.{one_phylum}
 use Rattle.sg_changes.specs.declared.spot.Selection.{Selection}
 use Rattle.sg_states.specs.Selections.{settled_selection}
 use Rattle.sg_states.specs.Seen.{seen}
-use Rattle.sg_states.specs.Paged.{IsLook}
+use Rattle.sg_states.specs.Paged.{IsLook, IsWhole}
 use Rattle.sg_turns.specs.Noted.{Noted}
 use Rattle.sg_turns.specs.Puts.{MayPut, IsPut}
-use Rattle.sg_turns.specs.Roots.{times, KeepsTree}
+use Rattle.sg_turns.specs.Roots.{KeepsTree}
 use Rattle.sg_turns.specs.Turns.{MayTurn, IsTurned, Notes, NotesSome}
 use Rattle.sg_turns.specs.declared.turns.Turned.{Turned}
 use Rattle.sg_turns.specs.declared.turns.What.TheVariants.{Tree}
@@ -83,12 +83,13 @@ module _ (old mid : Grove) (is : IsGrove old) (on : IsGrove mid) (root at d : No
   comes : term_at mid d ≡ s
   comes = held_at mid on d s held
 
-  module _ (new : Grove) (height : ℕ) (select : Selection) (top : ℕ) (r : Turned) (turned : IsTurned mid new root at (Tree d) t u height select top r) where
+  module _ (new : Grove) (spec : new.spec ≡ mid.spec) (height : ℕ) (select : Selection) (top : ℕ) (r : Turned) (turned : IsTurned mid new root at (Tree d) t u r.root)
+      (looks : (w : Term) → IsWhole new r.root w → IsLook new r.root w (seen new.spec height w (settled_selection new.spec w select) top) r.look) where
     put_as_built : IsPut old new root at t u (term_at mid d) height select top r
     put_as_built = record {
       whole = turned.whole;
       fits = subst (λ (z : Spec). Fits z (put t u (term_at mid d)) z.root) grew.spec turned.fits;
-      look = subst (λ (z : Spec). IsLook new r.root (put t u (term_at mid d)) (seen z height (put t u (term_at mid d)) (settled_selection z (put t u (term_at mid d)) select) top) r.look) grew.spec turned.look;
+      look = subst (λ (z : Spec). IsLook new r.root (put t u (term_at mid d)) (seen z height (put t u (term_at mid d)) (settled_selection z (put t u (term_at mid d)) select) top) r.look) (spec ∙ grew.spec) (looks (put t u (term_at mid d)) turned.whole);
       hanging = λ n x top apart holds. turned.hanging n x (grew_root old mid (d ∷ []) grew n top) apart (d_new n (root_is_live (nodes old) n top)) (terms n x holds);
       out = turned.out;
       roots = λ rest were. turned.roots rest (roots_alike mid (d ∷ (root ∷ rest)) (root ∷ (d ∷ rest)) (λ n. times_swap n root d rest) (grown_roots old mid d grew (root ∷ rest) were));

@@ -16,7 +16,7 @@ use Rattle.sg_pool.specs.Pools.{value_at}
 use Rattle.sg_forest.specs.declared.node_id.NodeId.{NodeId}
 use Rattle.sg_forest.specs.Node as forest
 use Rattle.sg_forest.specs.Steps.{IsPartSet, KeepsShape}
-use Rattle.sg_forest.specs.Trees.{Climbs, IsInside, IsLive, IsRoot}
+use Rattle.sg_forest.specs.Trees.{Climbs, IsLive, IsRoot}
 use Rattle.sg_forest.proofs.Paths.{cases_id}
 use Rattle.sg_forest.proofs.Shape as shapes
 use Rattle.sg_groves.specs.declared.kind.Kind.{Kind}
@@ -39,9 +39,8 @@ use Rattle.sg_states.specs.Selections.{settled_selection}
 use Rattle.sg_states.specs.Seen.{seen}
 use Rattle.sg_states.specs.Paged.{IsWhole, IsLook}
 use Rattle.sg_states.specs.declared.looks.Look.{Look}
-use Rattle.sg_turns.specs.Turns.{MayTurn, IsTurned}
+use Rattle.sg_turns.specs.Turns.{MayTurn, IsSeen, IsTurned}
 use Rattle.sg_turns.specs.declared.turns.What.TheVariants.{Shown}
-use Rattle.sg_turns.specs.declared.turns.Turned.{Turned}
 use Rattle.sg_turns.proofs.Free.{root_free}
 use Rattle.sg_turns.proofs.Values.{net_marked, value_marked}
 
@@ -141,12 +140,10 @@ module _ (old : Grove) (is : IsGrove old) (root at : NodeId) (m : Marks) (t : Te
       free = root_free new on root (marked t u m) marked_holds (subst (λ (s : Spec). Fits s (marked t u m) s.root) (sym spec) marked_fits) marked_top.node marked_top.found;
     }
 
-    pub marked_turn : (height : ℕ) (select : Selection) (top : ℕ) (look : Look) → ((r : Term) → IsWhole new root r → IsLook new root r (seen new.spec height r (settled_selection new.spec r select) top) look)
-        → IsTurned old new root at (Shown m) t u height select top (record { root = root; look = look })
-    marked_turn height select top look looks = record {
+    pub marked_turn : IsTurned old new root at (Shown m) t u root
+    marked_turn = record {
       whole = marked_whole;
       fits = marked_fits;
-      look = subst (λ z. IsLook new root (marked t u m) (seen z height (marked t u m) (settled_selection z (marked t u m) select) top) look) spec (looks (marked t u m) marked_whole);
       hanging = λ n s r apart other holds. others n s (λ inside. apart (sym (one_way old is u inside.path at root n may.whole.top r may.way inside.climbs).1)) holds;
       out = tt;
       roots = λ rest were. record {
@@ -156,6 +153,13 @@ module _ (old : Grove) (is : IsGrove old) (root at : NodeId) (m : Marks) (t : Te
           (λ one. shapes.IsRoot-shape (nodes old) (nodes new) shape n ((were.are n).1 one)),
         );
       };
+    }
+
+    pub marked_seen : (height : ℕ) (select : Selection) (top : ℕ) (look : Look) → ((r : Term) → IsWhole new root r → IsLook new root r (seen new.spec height r (settled_selection new.spec r select) top) look)
+        → IsSeen old new root at (Shown m) t u height select top (record { root = root; look = look })
+    marked_seen height select top look looks = record {
+      turned = marked_turn;
+      look = subst (λ z. IsLook new root (marked t u m) (seen z height (marked t u m) (settled_selection z (marked t u m) select) top) look) spec (looks (marked t u m) marked_whole);
     }
 
 -- marks that are put back

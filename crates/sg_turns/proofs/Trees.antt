@@ -1,5 +1,5 @@
 -- Trees that are the same in another grove.
-use Rattle.std.specs.Prelude.{◌≡◌, refl, ℕ, List, [], ◌∷◌, Option, None, Some, slice_get, option_map, option_and_then, unwrap_or}
+use Rattle.std.specs.Prelude.{◌≡◌, refl, ℕ, [], ◌∷◌, Option, None, Some, slice_get, option_map, option_and_then, unwrap_or}
 use Rattle.std.proofs.Common.{sym, ap, ◌∙◌, subst}
 use Rattle.sg_kinds.specs.Values.{Bytes}
 use Rattle.sg_kinds.specs.Evaluation.{untyped}
@@ -27,13 +27,10 @@ use Rattle.sg_groves.specs.Stored.{number_at, value_there}
 use Rattle.sg_groves.specs.TermAt.{term_at}
 use Rattle.sg_groves.proofs.Frames.{grown_term, number_stands}
 use Rattle.sg_groves.proofs.Held.{held_at, live_holds, one_term}
-use Rattle.sg_changes.specs.declared.spot.Spot.{Spot}
 use Rattle.sg_unparse.specs.Along.{node_along, kid_of}
 use Rattle.sg_unparse.specs.Written.{sheet_of}
-use Rattle.sg_states.specs.Selections.{place_in}
-use Rattle.sg_states.specs.Seen.{marks_seen, nothing_typed}
-use Rattle.sg_states.specs.Paged.{IsWhole, IsLook, page_seen}
-use Rattle.sg_states.specs.declared.looks.Look.{Look}
+use Rattle.sg_states.specs.Seen.{marks_seen}
+use Rattle.sg_states.specs.Paged.{IsWhole, page_seen}
 use Rattle.sg_turns.specs.Roots.{KeepsTree}
 
 -- a node that is there holds its term
@@ -149,13 +146,6 @@ module _ (old new : Grove) (root : NodeId) (k : KeepsTree old new root) where
     page_on t typed =
         ap (λ (s : Spec). sheet_of (node_along new root) (marks_seen s t typed)) k.spec
         ∙ (let same : node_along new root ≡ node_along old root = λ i u. along_on u i in ap (λ f. sheet_of f (marks_seen old.spec t typed)) same)
-
-    pub look_on : (t : Term) (spot : Spot) (l : Look) → IsLook old root t spot l → IsLook new root t spot l
-    look_on t spot l look = record {
-      selected = climbs_on (place_in spot.selection) l.selected look.selected;
-      spot_is = look.spot_is;
-      page = look.page ∙ sym (page_on t nothing_typed);
-    }
 
 pub kept_twice : (old mid new : Grove) (root : NodeId) → KeepsTree old mid root → KeepsTree mid new root → KeepsTree old new root
 kept_twice old mid new root one two = record {

@@ -1,5 +1,5 @@
 -- What a turn makes of the marks of a held node.
-use Rattle.std.specs.Prelude.{◌≡◌, ◌≢◌, refl, ℕ, ◌+◌, ◌%◌, ◌<◌, ◌≤◌, Bool, true, false, not, cond, nat_lt, length, Option, None, Some, All, slice_get, option_and_then, option_map, unwrap_or, MatchOption}
+use Rattle.std.specs.Prelude.{◌≡◌, ◌≢◌, refl, ℕ, ◌+◌, ◌%◌, ◌<◌, ◌≤◌, Bool, true, false, cond, nat_lt, length, Option, None, Some, All, slice_get, option_and_then, option_map, unwrap_or, MatchOption}
 use Rattle.std.proofs.Common.{sym, ap, ◌∙◌, subst, arith}
 use Rattle.std.proofs.lemmas.Option.{none-some}
 use Rattle.sg_kinds.specs.Terms.{Term, Leaf, Node}

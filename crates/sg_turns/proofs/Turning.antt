@@ -1,6 +1,6 @@
 -- What the exchange of two trees is as a turn of the edited term.
-use Rattle.std.specs.Prelude.{◌≡◌, ◌≢◌, ℕ, List, ◌∷◌}
-use Rattle.std.proofs.Common.{sym, ap, subst, inr}
+use Rattle.std.specs.Prelude.{◌≡◌, ◌≢◌, List, ◌∷◌}
+use Rattle.std.proofs.Common.{sym, subst, inr}
 use Rattle.sg_kinds.specs.Terms.{Term}
 use Rattle.sg_kinds.specs.Places.{Place, put}
 use Rattle.sg_eval.specs.declared.journal.Instance.{Instance}
@@ -14,18 +14,13 @@ use Rattle.sg_groves.specs.TermAt.{term_at}
 use Rattle.sg_groves.specs.Unchanged.{OnlyStored}
 use Rattle.sg_terms.specs.Entries.{Gained, GainedAll}
 use Rattle.sg_terms.specs.Kept.{KeepsTermsNotOver}
-use Rattle.sg_changes.specs.declared.spot.Selection.{Selection}
 use Rattle.sg_trail.specs.Trails.{IsAnySlot, IsExchanged}
 use Rattle.sg_propagate.specs.Asked.{IsAsked, root_then}
 use Rattle.sg_propagate.specs.Exchanged.{KeepsOtherRoots}
-use Rattle.sg_states.specs.Selections.{settled_selection}
-use Rattle.sg_states.specs.Seen.{seen}
-use Rattle.sg_states.specs.Paged.{IsWhole, IsLook}
-use Rattle.sg_states.specs.declared.looks.Look.{Look}
+use Rattle.sg_states.specs.Paged.{IsWhole}
 use Rattle.sg_turns.specs.Roots.{AreTheRoots}
 use Rattle.sg_turns.specs.Turns.{MayTurn, IsTurned, Notes, NotesSome}
 use Rattle.sg_turns.specs.declared.turns.What.TheVariants.{Tree}
-use Rattle.sg_turns.specs.declared.turns.Turned.{Turned}
 use Rattle.sg_turns.proofs.Swaps.{asked, fits_then, hanging_then, out_then, root_is, roots_then, whole_then}
 
 -- what a replacement did
@@ -52,15 +47,13 @@ module _ (old new : Grove) (is : IsGrove old) (on : IsGrove new) (spec : new.spe
     whole_now : IsWhole new (root_then u root d) (put t u s)
     whole_now = whole_then old is root at d t u may new on spec (does.right root t u s ask) (does.term root t u s ask) does.links.0 does.links.1 does.links.2 does.freed does.roots does.terms
 
-    pub swapped_whole : IsWhole new then (put t u s)
+    swapped_whole : IsWhole new then (put t u s)
     swapped_whole = subst (λ r. IsWhole new r (put t u s)) (sym then_is) whole_now
 
-    pub swapped_turn : (height : ℕ) (select : Selection) (top : ℕ) (look : Look) → ((r : Term) → IsWhole new then r → IsLook new then r (seen new.spec height r (settled_selection new.spec r select) top) look)
-        → IsTurned old new root at (Tree d) t u height select top (record { root = then; look = look })
-    swapped_turn height select top look looks = record {
+    pub swapped_turn : IsTurned old new root at (Tree d) t u then
+    swapped_turn = record {
       whole = swapped_whole;
       fits = fits_then old is root at d t u may new on spec (does.right root t u s ask) (does.term root t u s ask) does.links.0 does.links.1 does.links.2 does.freed does.roots does.terms;
-      look = subst (λ z. IsLook new then (put t u s) (seen z height (put t u s) (settled_selection z (put t u s) select) top) look) spec (looks (put t u s) swapped_whole);
       hanging = hanging_then old is root at d t u may new on spec (does.right root t u s ask) (does.term root t u s ask) does.links.0 does.links.1 does.links.2 does.freed does.roots does.terms;
       out = out_then old is root at d t u may new on spec (does.right root t u s ask) (does.term root t u s ask) does.links.0 does.links.1 does.links.2 does.freed does.roots does.terms;
       roots = λ rest were. subst (λ r. AreTheRoots new (r ∷ (at ∷ rest))) (sym then_is)
@@ -70,12 +63,10 @@ module _ (old new : Grove) (is : IsGrove old) (on : IsGrove new) (spec : new.spe
     pub swapped_notes : Notes old new then t u (Tree d) was now
     swapped_notes = subst (λ r. GainedAll new r (put t u s) (IsEvaluated old.spec t u s) was now) (sym then_is) (does.evaluated root t u s ask)
 
-    pub refused_later : NotesSome old t u (Tree d) was now
-    refused_later = inr (record { grove = new; same = spec; root = root_then u root d; gained = (does.evaluated root t u s ask).gained })
-
-  pub swapped_root : (may : (t : Term) × (u : Place) × MayTurn old root at (Tree d) t u) → IsRoot (nodes new) then
-  swapped_root m = (swapped_whole m.0 m.1 m.2).top
-
 pub refused_first : (old : Grove) (root at d : NodeId) (t : Term) (u : Place) (was now : List Instance)
     → (g : Grove) × IsExchanged old g at d × Gained g (root_then u root d) (put t u (term_at old d)) (IsEvaluated old.spec t u (term_at old d)) was now → NotesSome old t u (Tree d) was now
 refused_first old root at d t u was now p = inr (record { grove = p.0; same = p.1.spec; root = root_then u root d; gained = p.2 })
+
+-- a look that failed noted what the exchange did
+pub noted_already : (old new : Grove) (r : NodeId) (t : Term) (u : Place) (d : NodeId) (was now : List Instance) → new.spec ≡ old.spec → Notes old new r t u (Tree d) was now → NotesSome old t u (Tree d) was now
+noted_already old new r t u d was now spec notes = inr (record { grove = new; same = spec; root = r; gained = notes.gained })

@@ -1,12 +1,12 @@
 -- Other marks of a node change no value of a term, and neither its nodes nor its depth.
-use Rattle.std.specs.Prelude.{◌≡◌, refl, ℕ, zero, suc, ◌+◌, List, [], ◌∷◌, ◌++◌, length, map, filter, flat_map, Option, None, Some, slice_get, option_and_then}
+use Rattle.std.specs.Prelude.{◌≡◌, refl, ℕ, zero, suc, List, [], ◌∷◌, ◌++◌, length, map, filter, flat_map, Option, None, Some, slice_get, option_and_then}
 use Rattle.std.specs.Option.{is_some}
 use Rattle.std.proofs.Common.{sym, ap, ◌∙◌, arith, inl, inr}
 use Rattle.std.proofs.lemmas.Option.{none-some, same_Some}
 use Rattle.sg_kinds.specs.Terms.{Term, Terms, Leaf, Node, NoTerm, AndTerm, terms_of, nodes_of, height_of}
 use Rattle.sg_kinds.specs.Places.{Place, child, sub, put, with_child, with_kid, places_from, places_among, places_in}
 use Rattle.sg_kinds.specs.Nets.{Net, Reference, label_of, net_of, above}
-use Rattle.sg_kinds.specs.Instances.{site_of, instances, below, slots_of}
+use Rattle.sg_kinds.specs.Instances.{site_of, below, slots_of}
 use Rattle.sg_kinds.specs.FromScratch.{scratch, value_in}
 use Rattle.sg_kinds.specs.Sound.{IsSmall}
 use Rattle.sg_kinds.specs.Specification.{rules_of}

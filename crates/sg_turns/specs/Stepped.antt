@@ -10,6 +10,8 @@ use Rattle.sg_groves.specs.TermAt.{term_at}
 use Rattle.sg_changes.specs.declared.spot.Spot.{Spot}
 use Rattle.sg_changes.specs.declared.step.Step.{Step}
 use Rattle.sg_changes.specs.declared.step.Step.TheVariants.{Replaced, Marked}
+use Rattle.sg_select.specs.RestingPlaces.{settled}
+use Rattle.sg_states.specs.Selections.{place_in}
 use Rattle.sg_turns.specs.Turns.{MayTurn, IsTurned, made}
 use Rattle.sg_turns.specs.declared.turns.What.{What}
 use Rattle.sg_turns.specs.declared.turns.What.TheVariants.{Tree, Shown}
@@ -46,8 +48,11 @@ pub record MayStep (g : Grove) (root : NodeId) (t : Term) (u : Place) (what : Wh
   pub small : IsSmall t
   pub after : IsSmall (made (term_at g) t u what)
 
--- it came there, and the nodes are counted again
-pub record IsStepped (old new : Grove) (root : NodeId) (t : Term) (u : Place) (what : What) (height : ℕ) (spot : Spot) (r : Stepped) : Type 0 where
+-- it came there, the nodes are counted again, and this is selected, settled, in a window from that line on
+pub record IsStepped (old new : Grove) (root : NodeId) (t : Term) (u : Place) (what : What) (spot : Spot) (r : Stepped) : Type 0 where
   pub way : Climbs (nodes old) u r.out root
-  pub turned : IsTurned old new root r.out what t u height spot.selection spot.top r.turned
+  pub turned : IsTurned old new root r.out what t u r.root
   pub counted : r.nodes ≡ nodes_of (made (term_at old) t u what)
+  pub selected : Climbs (nodes new) (settled new.spec (made (term_at old) t u what) (place_in spot.selection)) r.selected r.root
+  pub count : r.count ≡ spot.selection.count
+  pub top : r.top ≡ spot.top

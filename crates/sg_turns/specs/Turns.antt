@@ -64,15 +64,19 @@ ComesOut g at (Shown m) s = ⊤
 abbrev pub KeepsHanging : Grove → Grove → NodeId → What → Type 0
 KeepsHanging old new root what = (n : NodeId) (s : Term) → IsRoot (nodes old) n → n ≢ root → IsOther what n → Holds old n s → Holds new n s
 
--- the term is that of the definition, right, and seen; what came out hangs, and all other roots stay
-pub record IsTurned (old new : Grove) (root at : NodeId) (what : What) (t : Term) (u : Place) (height : ℕ) (select : Selection) (top : ℕ) (r : Turned) : Type 0 where
-  pub whole : IsWhole new r.root (made (term_at old) t u what)
+-- the term is that of the definition, and right; what came out hangs, and all other roots stay
+pub record IsTurned (old new : Grove) (root at : NodeId) (what : What) (t : Term) (u : Place) (now : NodeId) : Type 0 where
+  pub whole : IsWhole new now (made (term_at old) t u what)
   pub fits : Fits old.spec (made (term_at old) t u what) old.spec.root
-  pub look : IsLook new r.root (made (term_at old) t u what)
-      (seen old.spec height (made (term_at old) t u what) (settled_selection old.spec (made (term_at old) t u what) select) top) r.look
   pub hanging : KeepsHanging old new root what
   pub out : ComesOut new at what (part_of t u)
-  pub roots : (rest : List NodeId) → AreTheRoots old (root ∷ goes_in what ++ rest) → AreTheRoots new (r.root ∷ comes_out what at ++ rest)
+  pub roots : (rest : List NodeId) → AreTheRoots old (root ∷ goes_in what ++ rest) → AreTheRoots new (now ∷ comes_out what at ++ rest)
+
+-- and it is looked at
+pub record IsSeen (old new : Grove) (root at : NodeId) (what : What) (t : Term) (u : Place) (height : ℕ) (select : Selection) (top : ℕ) (r : Turned) : Type 0 where
+  pub turned : IsTurned old new root at what t u r.root
+  pub look : IsLook new r.root (made (term_at old) t u what)
+      (seen old.spec height (made (term_at old) t u what) (settled_selection old.spec (made (term_at old) t u what) select) top) r.look
 
 -- the journal gained just what the exchange evaluates, and nothing for marks
 abbrev pub Notes : Grove → Grove → NodeId → Term → Place → What → List Instance → List Instance → Type 0

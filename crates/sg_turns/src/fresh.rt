@@ -11,8 +11,7 @@ ghost use Rattle.sg_terms.specs.Entries.{GainedAll};
 ghost use Rattle.sg_build.specs.Counted.{AreCounts};
 ghost use Rattle.sg_undo.specs.Timeline.{timeline};
 ghost use Rattle.sg_groves.specs.Grove.{IsGrove};
-ghost use Rattle.sg_states.specs.Paged.{IsWhole, page_seen};
-ghost use Rattle.sg_states.specs.Seen.{nothing_typed};
+ghost use Rattle.sg_states.specs.Paged.{IsWhole};
 ghost use Rattle.sg_turns.specs.Noted.{Noted};
 ghost use Rattle.sg_turns.specs.Roots.{AreTheRoots};
 
@@ -25,18 +24,15 @@ use sg_kinds::memory::NoMemory;
 use sg_kinds::plans::Plans;
 use sg_kinds::spec::Spec;
 use sg_kinds::term::Term;
-use sg_states::page_of;
 use sg_terms::Terms;
 use sg_undo::History;
-use sg_unparse::Page;
 use std::alloc::Global;
 
-/// Terms of which one is held, by the one root, with its values and its page, and room for the steps of its changes.
+/// Terms of which one is held, by the one root, with its values, and room for the steps of its changes.
 #[derive(Drop)]
 pub struct Fresh {
     pub terms: Terms,
     pub root: NodeId,
-    pub page: Page,
     pub history: History<Step>,
 }
 
@@ -87,7 +83,7 @@ fn attributed(
     Ok((terms, root))
 }
 
-/// A term with its values and its page, in terms of its own, and room for so many steps. The term is in the limits and
+/// A term with its values, in terms of its own, and room for so many steps. The term is in the limits and
 /// of the root's phylum. Without memory some of the equations may be evaluated.
 pub fn begin(
     alloc: Global,
@@ -108,7 +104,6 @@ pub fn begin(
     ensures grove { IfOk result (λ r. IsGrove r.terms) }
     ensures whole { IfOk result (λ r. IsWhole r.terms r.root t.now) }
     ensures roots { IfOk result (λ r. AreTheRoots r.terms (r.root ∷ [])) }
-    ensures page { IfOk result (λ r. r.page ≡ page_seen r.terms r.root t.now nothing_typed) }
     ensures history { IfOk result (λ r. r.history ≡ timeline [] [] steps) }
     ensures evaluated { IfOk result (λ r. GainedAll r.terms r.root t.now
         (Contains (instances (rules_of spec.now) t.now)) (now_of journal.old) (now_of journal.new)) }
@@ -118,12 +113,10 @@ pub fn begin(
 {
     let history = History::with_capacity(alloc, steps)?;
     let (terms, root) = attributed(alloc, spec, t, plans, ev, journal)?;
-    let page = page_of(alloc, &terms, root)?;
     terms.facts();
     Ok(Fresh {
         terms,
         root,
-        page,
         history,
     })
 }

@@ -7,6 +7,7 @@ mod marks;
 mod puts;
 mod stepped;
 mod steps;
+mod told;
 mod turns;
 
 pub use fresh::{Fresh, begin, within};
@@ -14,4 +15,5 @@ pub use marks::{Remark, turned_marks};
 pub use puts::{node_at, put_term, spot_at};
 pub use stepped::{Stepped, step_back, step_forth};
 pub use steps::{put_back, put_forth, remember};
+pub use told::Known;
 pub use turns::{Turned, What, remarked, turn};

@@ -1,5 +1,5 @@
 //! A term in the place of a node, and what is selected and seen before it comes there.
-ghost use Rattle.std.specs.Prelude.{◌≡◌, ◌<◌, Some, IfOk, OnErr};
+ghost use Rattle.std.specs.Prelude.{◌≡◌, ◌<◌, Some, IfOk, IfSome, OnErr};
 ghost use Rattle.sg_kinds.specs.Places.{Place, place_of, put, sub};
 ghost use Rattle.sg_kinds.specs.Specification.{rules_of};
 ghost use Rattle.sg_kinds.specs.Terms.{Term as IsTerm};
@@ -12,9 +12,11 @@ ghost use Rattle.sg_groves.specs.Grove.{nodes};
 ghost use Rattle.sg_groves.specs.Holds.{Holds, IsPlaced};
 ghost use Rattle.sg_terms.specs.Entries.{GainedAll};
 ghost use Rattle.sg_states.specs.Selections.{path_to};
+ghost use Rattle.sg_turns.specs.Known.{IsKnown};
 ghost use Rattle.sg_turns.specs.Noted.{Noted};
 ghost use Rattle.sg_turns.specs.Puts.{IsPut, MayPut};
 
+use crate::told::{Known, told_after, told_before};
 use crate::turns::{Turned, exchanged};
 use sg_build::build;
 use sg_changes::{Selection, Spot};
@@ -25,6 +27,7 @@ use sg_kinds::plans::Plans;
 use sg_kinds::row::Path;
 use sg_kinds::term::Term;
 use sg_select::{node_along, path_of};
+use sg_states::look_after;
 use sg_terms::Terms;
 use std::alloc::Global;
 
@@ -57,8 +60,8 @@ pub fn spot_at(
 }
 
 /// Puts a term in the place of a node of the edited term, where the whole stays in the limits, and looks at it then;
-/// the subtree that stood there hangs. Where memory is wanting each node is as before, and only the pool and the
-/// journal may have grown.
+/// the subtree that stood there hangs. What is known of the term before may save its page. Where memory is wanting each
+/// node is as before, and only the pool and the journal may have grown.
 pub fn put_term(
     alloc: Global,
     terms: &mut Terms,
@@ -68,6 +71,7 @@ pub fn put_term(
     select: &Selection,
     height: usize,
     top: usize,
+    known: Option<Known>,
     plans: &Plans,
     ev: &Evaluator,
     journal: &mut Journal,
@@ -76,6 +80,7 @@ pub fn put_term(
     requires same { ev.now ≡ terms.old.spec }
     requires tall { 0 < height }
     requires may { (whole : IsTerm) × (u : Place) × MayPut terms.old root at whole u t.now }
+    requires known { IfSome known (IsKnown terms.old root) }
     ensures put { (whole : IsTerm) (u : Place) → MayPut terms.old root at whole u t.now → IfOk result
         (IsPut terms.old terms.new root at whole u t.now height select.now top) }
     ensures noted { (whole : IsTerm) (u : Place) → MayPut terms.old root at whole u t.now → IfOk result (λ r.
@@ -90,15 +95,28 @@ pub fn put_term(
     ensures total { total_of journal.new ≡ total_of journal.old }
 {
     terms.facts();
+    let before = told_before(alloc, terms, root, at, known)?;
     let Ok(built) = build(alloc, terms, t) else {
         return Err(NoMemory);
     };
     terms.facts();
-    match exchanged(
-        alloc, terms, root, at, built, select, height, top, plans, ev, journal,
-    ) {
-        Ok(turned) => Ok(turned),
+    let done = match exchanged(alloc, terms, root, at, built, plans, ev, journal) {
+        Ok(done) => done,
         Err(e) => {
+            terms.drop_tree(built);
+            return Err(e);
+        }
+    };
+    terms.facts();
+    let before = told_after(terms, done.root, built, done.reach, before);
+    match look_after(alloc, terms, done.root, select, height, top, before) {
+        Ok(look) => Ok(Turned {
+            root: done.root,
+            look,
+        }),
+        Err(e) => {
+            done.trail.back(terms);
+            terms.facts();
             terms.drop_tree(built);
             Err(e)
         }

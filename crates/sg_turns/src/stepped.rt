@@ -1,5 +1,5 @@
 //! Steps of the history that are undone or done again.
-ghost use Rattle.std.specs.Prelude.{◌≡◌, ◌<◌, IfOk, OnErr};
+ghost use Rattle.std.specs.Prelude.{◌≡◌, IfOk, OnErr};
 ghost use Rattle.sg_kinds.specs.Places.{Place, place_of};
 ghost use Rattle.sg_kinds.specs.Sound.{IsSmall};
 ghost use Rattle.sg_kinds.specs.Specification.{rules_of};
@@ -13,7 +13,7 @@ ghost use Rattle.sg_turns.specs.Stepped.{IsStepped, MayStep, redoing, seen_after
 ghost use Rattle.sg_turns.specs.Turns.{MayTurn, Notes, NotesSome, made};
 
 use crate::puts::node_at;
-use crate::turns::{Turned, What, turn};
+use crate::turns::{What, turn};
 use sg_build::counts_below;
 use sg_changes::{Spot, Step};
 use sg_eval::{Evaluator, Journal};
@@ -21,6 +21,7 @@ use sg_forest::NodeId;
 use sg_kinds::memory::NoMemory;
 use sg_kinds::plans::Plans;
 use sg_kinds::row::Path;
+use sg_select::settle_path;
 use sg_terms::Terms;
 use std::alloc::Global;
 
@@ -31,7 +32,12 @@ pub struct Stepped {
     pub out: NodeId,
     /// how many nodes the term has
     pub nodes: usize,
-    pub turned: Turned,
+    /// its root
+    pub root: NodeId,
+    /// the selected node, of a run its first element
+    pub selected: NodeId,
+    pub count: usize,
+    pub top: usize,
 }
 
 // how many nodes the edited term has once something comes into the place of a node; both terms are in the limits
@@ -50,7 +56,7 @@ fn nodes_after(terms: &Terms, at: NodeId, what: What, nodes: usize) -> usize
     }
 }
 
-// something comes into a place of the edited term, and this is selected and seen then
+// something comes into a place of the edited term, and this spot is seen then
 fn turned_at(
     alloc: Global,
     terms: &mut Terms,
@@ -58,7 +64,6 @@ fn turned_at(
     path: &Path,
     what: What,
     spot: &Spot,
-    height: usize,
     known: usize,
     plans: &Plans,
     ev: &Evaluator,
@@ -66,12 +71,11 @@ fn turned_at(
 ) -> Result<Stepped, NoMemory>
     requires valid { AreValid (rules_of terms.old.spec) plans.now }
     requires same { ev.now ≡ terms.old.spec }
-    requires tall { 0 < height }
     requires may { (t : Term) × MayStep terms.old root t (place_of path.now) what known }
     ensures stepped { (t : Term) → MayStep terms.old root t (place_of path.now) what known → IfOk result
-        (IsStepped terms.old terms.new root t (place_of path.now) what height spot.now) }
+        (IsStepped terms.old terms.new root t (place_of path.now) what spot.now) }
     ensures noted { (t : Term) → MayStep terms.old root t (place_of path.now) what known → IfOk result (λ r.
-        Notes terms.old terms.new r.turned.root t (place_of path.now) what (now_of journal.old) (now_of journal.new)) }
+        Notes terms.old terms.new r.root t (place_of path.now) what (now_of journal.old) (now_of journal.new)) }
     ensures some { (t : Term) → MayStep terms.old root t (place_of path.now) what known → OnErr result
         (NotesSome terms.old t (place_of path.now) what (now_of journal.old) (now_of journal.new)) }
     ensures as_before { OnErr result ((n : _) → nodes terms.new n ≡ nodes terms.old n) }
@@ -82,32 +86,26 @@ fn turned_at(
     terms.facts();
     let out = node_at(terms, root, path);
     let nodes = nodes_after(terms, out, what, known);
-    match turn(
-        alloc,
-        terms,
-        root,
-        out,
-        what,
-        &spot.selection,
-        height,
-        spot.top,
-        plans,
-        ev,
-        journal,
-    ) {
-        Ok(turned) => Ok(Stepped { out, nodes, turned }),
+    match turn(alloc, terms, root, out, what, plans, ev, journal) {
+        Ok(now) => Ok(Stepped {
+            out,
+            nodes,
+            root: now,
+            selected: settle_path(terms, now, spot.selection.path.as_slice()),
+            count: spot.selection.count,
+            top: spot.top,
+        }),
         Err(e) => Err(e),
     }
 }
 
-/// Undoes a step in the edited term, and looks at it as before the step. Where memory is wanting each node is as
-/// before, and only the pool and the journal may have grown.
+/// Undoes a step in the edited term; what was selected before the step is found again. Where memory is wanting each node
+/// is as before, and only the pool and the journal may have grown.
 pub fn step_back(
     alloc: Global,
     terms: &mut Terms,
     root: NodeId,
     step: &Step,
-    height: usize,
     known: usize,
     plans: &Plans,
     ev: &Evaluator,
@@ -115,13 +113,12 @@ pub fn step_back(
 ) -> Result<Stepped, NoMemory>
     requires valid { AreValid (rules_of terms.old.spec) plans.now }
     requires same { ev.now ≡ terms.old.spec }
-    requires tall { 0 < height }
     requires may { (t : Term) × MayStep terms.old root t (step_place step.now) (undoing step.now) known }
     ensures stepped { (t : Term) → MayStep terms.old root t (step_place step.now) (undoing step.now) known
-        → IfOk result (IsStepped terms.old terms.new root t (step_place step.now) (undoing step.now) height
+        → IfOk result (IsStepped terms.old terms.new root t (step_place step.now) (undoing step.now)
         (seen_before step.now)) }
     ensures noted { (t : Term) → MayStep terms.old root t (step_place step.now) (undoing step.now) known
-        → IfOk result (λ r. Notes terms.old terms.new r.turned.root t (step_place step.now) (undoing step.now)
+        → IfOk result (λ r. Notes terms.old terms.new r.root t (step_place step.now) (undoing step.now)
         (now_of journal.old) (now_of journal.new)) }
     ensures some { (t : Term) → MayStep terms.old root t (step_place step.now) (undoing step.now) known
         → OnErr result (NotesSome terms.old t (step_place step.now) (undoing step.now)
@@ -140,7 +137,7 @@ pub fn step_back(
         } => {
             let what = What::Tree(*hangs);
             turned_at(
-                alloc, terms, root, path, what, before, height, known, plans, ev, journal,
+                alloc, terms, root, path, what, before, known, plans, ev, journal,
             )
         }
         Step::Marked {
@@ -151,20 +148,19 @@ pub fn step_back(
         } => {
             let what = What::Shown(*old);
             turned_at(
-                alloc, terms, root, path, what, before, height, known, plans, ev, journal,
+                alloc, terms, root, path, what, before, known, plans, ev, journal,
             )
         }
     }
 }
 
-/// Does a step again in the edited term, and looks at it as after the step. Where memory is wanting each node is as
-/// before, and only the pool and the journal may have grown.
+/// Does a step again in the edited term; what was selected after the step is found again. Where memory is wanting each
+/// node is as before, and only the pool and the journal may have grown.
 pub fn step_forth(
     alloc: Global,
     terms: &mut Terms,
     root: NodeId,
     step: &Step,
-    height: usize,
     known: usize,
     plans: &Plans,
     ev: &Evaluator,
@@ -172,13 +168,12 @@ pub fn step_forth(
 ) -> Result<Stepped, NoMemory>
     requires valid { AreValid (rules_of terms.old.spec) plans.now }
     requires same { ev.now ≡ terms.old.spec }
-    requires tall { 0 < height }
     requires may { (t : Term) × MayStep terms.old root t (step_place step.now) (redoing step.now) known }
     ensures stepped { (t : Term) → MayStep terms.old root t (step_place step.now) (redoing step.now) known
-        → IfOk result (IsStepped terms.old terms.new root t (step_place step.now) (redoing step.now) height
+        → IfOk result (IsStepped terms.old terms.new root t (step_place step.now) (redoing step.now)
         (seen_after step.now)) }
     ensures noted { (t : Term) → MayStep terms.old root t (step_place step.now) (redoing step.now) known
-        → IfOk result (λ r. Notes terms.old terms.new r.turned.root t (step_place step.now) (redoing step.now)
+        → IfOk result (λ r. Notes terms.old terms.new r.root t (step_place step.now) (redoing step.now)
         (now_of journal.old) (now_of journal.new)) }
     ensures some { (t : Term) → MayStep terms.old root t (step_place step.now) (redoing step.now) known
         → OnErr result (NotesSome terms.old t (step_place step.now) (redoing step.now)
@@ -197,7 +192,7 @@ pub fn step_forth(
         } => {
             let what = What::Tree(*hangs);
             turned_at(
-                alloc, terms, root, path, what, after, height, known, plans, ev, journal,
+                alloc, terms, root, path, what, after, known, plans, ev, journal,
             )
         }
         Step::Marked {
@@ -208,7 +203,7 @@ pub fn step_forth(
         } => {
             let what = What::Shown(*new);
             turned_at(
-                alloc, terms, root, path, what, after, height, known, plans, ev, journal,
+                alloc, terms, root, path, what, after, known, plans, ev, journal,
             )
         }
     }

@@ -11,8 +11,10 @@ ghost use Rattle.sg_forest.specs.Steps.{IsPartSet};
 ghost use Rattle.sg_groves.specs.Grove.{nodes};
 ghost use Rattle.sg_groves.specs.Stored.{number_at};
 ghost use Rattle.sg_terms.specs.Kept.{ChangesTerms, KeepsTermsWithout};
+ghost use Rattle.sg_trail.specs.Trails.{LeadsBack};
 ghost use Rattle.sg_changes.specs.Changes.{with_marks};
-ghost use Rattle.sg_turns.specs.Turns.{IsTurned, MayTurn, Notes, NotesSome};
+ghost use Rattle.sg_turns.specs.Known.{ReachesThen};
+ghost use Rattle.sg_turns.specs.Turns.{IsSeen, IsTurned, MayTurn, Notes, NotesSome};
 
 use sg_changes::{Marks, Selection};
 use sg_eval::{Evaluator, Journal};
@@ -22,6 +24,7 @@ use sg_kinds::plans::Plans;
 use sg_propagate::replace;
 use sg_states::{Look, look_at};
 use sg_terms::Terms;
+use sg_trail::Trail;
 use std::alloc::Global;
 
 /// What comes into the place of a node.
@@ -31,6 +34,14 @@ pub enum What {
     Tree(NodeId),
     /// the node as it is, shown with these marks
     Shown(Marks),
+}
+
+/// The term's root once a tree came into the place of a node, the way back, and the node that the change reaches.
+#[derive(Drop)]
+pub struct Swapped {
+    pub root: NodeId,
+    pub trail: Trail,
+    pub reach: NodeId,
 }
 
 /// The term's root after a turn, and what is seen.
@@ -48,46 +59,44 @@ fn root_after(root: NodeId, at: NodeId, detached: NodeId) -> NodeId
     if at == root { detached } else { root }
 }
 
-// the tree of a detached root in the place of a node
+/// The tree of a detached root in the place of a node, with the way back. Where memory is wanting each node is as
+/// before, and only the pool and the journal may have grown.
 pub fn exchanged(
     alloc: Global,
     terms: &mut Terms,
     root: NodeId,
     at: NodeId,
     detached: NodeId,
-    select: &Selection,
-    height: usize,
-    top: usize,
     plans: &Plans,
     ev: &Evaluator,
     journal: &mut Journal,
-) -> Result<Turned, NoMemory>
+) -> Result<Swapped, NoMemory>
     requires valid { AreValid (rules_of terms.old.spec) plans.now }
     requires same { ev.now ≡ terms.old.spec }
-    requires tall { 0 < height }
     requires may { (t : Term) × (u : Place) × MayTurn terms.old root at (What.Tree detached) t u }
-    ensures turned { (t : Term) (u : Place) → MayTurn terms.old root at (What.Tree detached) t u → IfOk result
-        (IsTurned terms.old terms.new root at (What.Tree detached) t u height select.now top) }
+    ensures turned { (t : Term) (u : Place) → MayTurn terms.old root at (What.Tree detached) t u → IfOk result (λ r.
+        IsTurned terms.old terms.new root at (What.Tree detached) t u r.root) }
     ensures noted { (t : Term) (u : Place) → MayTurn terms.old root at (What.Tree detached) t u → IfOk result (λ r.
         Notes terms.old terms.new r.root t u (What.Tree detached) (now_of journal.old) (now_of journal.new)) }
     ensures some { (t : Term) (u : Place) → MayTurn terms.old root at (What.Tree detached) t u → OnErr result
         (NotesSome terms.old t u (What.Tree detached) (now_of journal.old) (now_of journal.new)) }
+    ensures reach { (t : Term) (u : Place) → MayTurn terms.old root at (What.Tree detached) t u → IfOk result (λ r.
+        ReachesThen terms.old terms.new detached r.root t u r.reach) }
+    ensures leads_back { IfOk result (λ r. LeadsBack terms.old terms.new r.trail) }
     ensures as_before { OnErr result ((n : _) → nodes terms.new n ≡ nodes terms.old n) }
     ensures spec { terms.new.spec ≡ terms.old.spec }
     ensures grown { IsGrown terms.old.pool terms.new.pool }
     ensures total { total_of journal.new ≡ total_of journal.old }
 {
     terms.facts();
-    let trail = replace(alloc, terms, at, detached, plans, ev, journal)?;
+    let done = replace(alloc, terms, at, detached, plans, ev, journal)?;
     terms.facts();
-    let now = root_after(root, at, detached);
-    match look_at(alloc, terms, now, select, height, top) {
-        Ok(look) => Ok(Turned { root: now, look }),
-        Err(e) => {
-            trail.back(terms);
-            Err(e)
-        }
-    }
+    let root = root_after(root, at, detached);
+    Ok(Swapped {
+        root,
+        trail: done.trail,
+        reach: done.reach,
+    })
 }
 
 // the marks of a node of an operator
@@ -121,7 +130,7 @@ pub fn remarked(
     requires tall { 0 < height }
     requires may { (t : Term) × (u : Place) × MayTurn terms.old root at (What.Shown marks) t u }
     ensures turned { (t : Term) (u : Place) → MayTurn terms.old root at (What.Shown marks) t u → IfOk result
-        (IsTurned terms.old terms.new root at (What.Shown marks) t u height select.now top) }
+        (IsSeen terms.old terms.new root at (What.Shown marks) t u height select.now top) }
     ensures as_before { OnErr result ((n : _) → nodes terms.new n ≡ nodes terms.old n) }
     ensures spec { terms.new.spec ≡ terms.old.spec }
     ensures grown { IsGrown terms.old.pool terms.new.pool }
@@ -142,7 +151,7 @@ pub fn remarked(
     }
 }
 
-/// Puts a tree or marks in the place of a node, and looks at the term then. Where memory is wanting each node is as
+/// Puts a tree or marks in the place of a node, and gives the term's root then. Where memory is wanting each node is as
 /// before, and only the pool and the journal may have grown.
 pub fn turn(
     alloc: Global,
@@ -150,21 +159,17 @@ pub fn turn(
     root: NodeId,
     at: NodeId,
     what: What,
-    select: &Selection,
-    height: usize,
-    top: usize,
     plans: &Plans,
     ev: &Evaluator,
     journal: &mut Journal,
-) -> Result<Turned, NoMemory>
+) -> Result<NodeId, NoMemory>
     requires valid { AreValid (rules_of terms.old.spec) plans.now }
     requires same { ev.now ≡ terms.old.spec }
-    requires tall { 0 < height }
     requires may { (t : Term) × (u : Place) × MayTurn terms.old root at what t u }
     ensures turned { (t : Term) (u : Place) → MayTurn terms.old root at what t u → IfOk result
-        (IsTurned terms.old terms.new root at what t u height select.now top) }
+        (IsTurned terms.old terms.new root at what t u) }
     ensures noted { (t : Term) (u : Place) → MayTurn terms.old root at what t u → IfOk result (λ r.
-        Notes terms.old terms.new r.root t u what (now_of journal.old) (now_of journal.new)) }
+        Notes terms.old terms.new r t u what (now_of journal.old) (now_of journal.new)) }
     ensures some { (t : Term) (u : Place) → MayTurn terms.old root at what t u → OnErr result
         (NotesSome terms.old t u what (now_of journal.old) (now_of journal.new)) }
     ensures as_before { OnErr result ((n : _) → nodes terms.new n ≡ nodes terms.old n) }
@@ -172,10 +177,18 @@ pub fn turn(
     ensures grown { IsGrown terms.old.pool terms.new.pool }
     ensures total { total_of journal.new ≡ total_of journal.old }
 {
+    terms.facts();
     match what {
-        What::Tree(detached) => exchanged(
-            alloc, terms, root, at, detached, select, height, top, plans, ev, journal,
-        ),
-        What::Shown(marks) => remarked(alloc, terms, root, at, marks, select, height, top),
+        What::Tree(detached) => {
+            match exchanged(alloc, terms, root, at, detached, plans, ev, journal) {
+                Ok(done) => Ok(done.root),
+                Err(e) => Err(e),
+            }
+        }
+        What::Shown(marks) => {
+            put_marks(terms, at, marks);
+            terms.facts();
+            Ok(root)
+        }
     }
 }

@@ -18,7 +18,7 @@ use Rattle.sg_unparse.proofs.Streams.{all_cells-append, length-all_cells}
 use Rattle.sg_unparse.proofs.Spans.{Away, Within, Split, span_at, split_span, split_found}
 use Rattle.sg_unparse.proofs.TypedText.{before_typed}
 
-not_there : (u v : Place) → (IsAtOrBelow u v → ⊥) → is_at_or_below u v ≡ false
+pub not_there : (u v : Place) → (IsAtOrBelow u v → ⊥) → is_at_or_below u v ≡ false
 not_there u v n = by (is_at_or_below u v) refl
   where
     by : (b : Bool) → is_at_or_below u v ≡ b → is_at_or_below u v ≡ false
@@ -30,7 +30,7 @@ before_front v [] y ys h b = ap (λ t. if t then [] else y ∷ before v ys) (bel
 before_front v (x ∷ front) y ys h b =
     ap (λ t. if t then [] else x ∷ before v (front ++ (y ∷ ys))) (not_there (place_of_mark x) v h.0) ∙ ap (λ r. x ∷ r) (before_front v front y ys h.1 b)
 
-split_before : (v : Place) (xs : List Mark) (p : Split v xs) → before v xs ≡ p.front
+pub split_before : (v : Place) (xs : List Mark) (p : Split v xs) → before v xs ≡ p.front
 split_before v xs p = ap (before v) p.is ∙ by p.middle p.within (cells_in p.middle)
   where
     by : (middle : List Mark) → AllByRecursion (Within v) middle → (n : ℕ) → before v (p.front ++ (middle ++ (Closed v n ∷ p.rest))) ≡ p.front

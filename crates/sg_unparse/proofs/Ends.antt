@@ -22,7 +22,7 @@ use Rattle.sg_unparse.specs.Unparsed.{ends_of, child_places, shown_below, shows_
 abbrev Ends : Writing → List Place → Type 0
 Ends f us = (m : ℕ) → ends_of (f m).0 ≡ us
 
-ends_of-append : (xs ys : List Mark) → ends_of (xs ++ ys) ≡ ends_of xs ++ ends_of ys
+pub ends_of-append : (xs ys : List Mark) → ends_of (xs ++ ys) ≡ ends_of xs ++ ends_of ys
 ends_of-append [] ys = refl
 ends_of-append (Writes b u ∷ xs) ys = ends_of-append xs ys
 ends_of-append (Closed u n ∷ xs) ys = ap (λ us. u ∷ us) (ends_of-append xs ys)

@@ -10,7 +10,7 @@ use Rattle.std.proofs.lemmas.List.Splits.{length-slice_split}
 use Rattle.sg_kinds.specs.Values.{Bytes}
 use Rattle.sg_forest.specs.declared.node_id.NodeId.{NodeId}
 use Rattle.sg_unparse.specs.Page.{bytes_of, lines_of, is_newline, position_at, stands_at}
-use Rattle.sg_unparse.specs.Sheet.{Sheet, IsKept, kept_cells, starts_from, owner_in, no_node, line_on}
+use Rattle.sg_unparse.specs.Sheet.{is_of, Sheet, IsKept, kept_cells, starts_from, owner_in, no_node, line_on}
 use Rattle.sg_unparse.specs.declared.page.Span.{Span}
 use Rattle.sg_unparse.specs.declared.page.Run.{Run}
 use Rattle.sg_unparse.proofs.Lines.{stops_from, stop_is, stop_there, stop_at_most, stops_later, line_there, passed, passed_is, passed_within, passed_next, begun, newlines_before, cells_since, starts_counted, rising, after_within, after_last, after_begun, after_at_most, found_none, found_one}
@@ -111,6 +111,14 @@ found_has P p (y ∷ xs) x all e = by (p y) e (λ f. found_has P p xs x (λ i d 
     by : (t : Bool) → cond t (Some y) (find p xs) ≡ Some x → (find p xs ≡ Some x → P x) → P x
     by true e f = (let same : y ≡ x = ap (λ o. unwrap_or o x) e in subst P same (all 0 y (omega arith)))
     by false e f = f e
+
+-- a span of a kept page
+pub span_kept : (text : Bytes) (runs : List Run) (starts : List ℕ) (spans : List Span) (more : Bool) (p : Sheet) → record { cells = kept_cells text runs; spans = spans; more = more } ≡ p → IsKept text runs starts spans
+    → (n : NodeId) (seen : List Span) (s : Span) → seen ≡ spans → Some s ≡ find (is_of n) seen → (s.from ≤ s.to) × (s.to ≤ length p.cells)
+span_kept text runs starts spans more p is kept n seen s same found =
+    let t = text_of text runs starts spans more p is kept in
+    let ends = found_has (λ (s : Span). (s.from ≤ s.to) × (s.to ≤ length text)) (is_of n) spans s kept.written.ends (ap (find (is_of n)) (sym same) ∙ sym found) in
+    (ends.0, omega (arith, ends.1, t.count))
 
 pub last_within : (from to n : ℕ) → from ≤ to → to ≤ n → (if nat_lt from to then to - 1 else from) ≤ n
 last_within from to n h l = by (nat_lt from to)

@@ -98,7 +98,7 @@ on_way (k ∷ w) u = by (on_way w u)
 way_of : (v u : Place) → IsAtOrBelow v u → (v ≡ u) ⊎ ((j : ℕ) × IsAtOrBelow v (j ∷ u))
 way_of v u b = subst (λ z. (z ≡ u) ⊎ ((j : ℕ) × IsAtOrBelow z (j ∷ u))) (sym b.is) (on_way b.below u)
 
-one_child : (w : Place) (j k : ℕ) (u : Place) → IsAtOrBelow w (j ∷ u) → IsAtOrBelow w (k ∷ u) → j ≡ k
+pub one_child : (w : Place) (j k : ℕ) (u : Place) → IsAtOrBelow w (j ∷ u) → IsAtOrBelow w (k ∷ u) → j ≡ k
 one_child w j k u one two = ap head_of (sym (drop-append_seam one.below (j ∷ u)) ∙ ap (drop (length one.below)) (sym one.is) ∙ ap (λ n. drop n w) even ∙ ap (drop (length two.below)) two.is ∙ drop-append_seam two.below (k ∷ u))
   where
     head_of : Place → ℕ
@@ -111,7 +111,7 @@ one_child w j k u one two = ap head_of (sym (drop-append_seam one.below (j ∷ u
         let b : length w ≡ length two.below + length (k ∷ u) = ap length two.is ∙ length-append two.below (k ∷ u) in
         omega (arith, a, b)
 
-not_below_child : (u : Place) (k : ℕ) → IsAtOrBelow u (k ∷ u) → ⊥
+pub not_below_child : (u : Place) (k : ℕ) → IsAtOrBelow u (k ∷ u) → ⊥
 not_below_child u k b = let long : length u ≡ length b.below + length (k ∷ u) = ap length b.is ∙ length-append b.below (k ∷ u) in omega (arith, long)
 
 -- what is written for children of v
@@ -122,13 +122,13 @@ child_within v k (Closed w n ∷ xs) h = ((under_child w v k h.0, (λ same. not_
 
 -- where v is at or below a child of u, u and its other children write nothing for v
 module _ (v u : Place) (j : ℕ) (way : IsAtOrBelow v (j ∷ u)) where
-  own_away : IsAtOrBelow u v → ⊥
+  pub own_away : IsAtOrBelow u v → ⊥
   own_away b = not_below_child u j (over u v (j ∷ u) b way)
 
   other_away : (k : ℕ) → (IsAtOrBelow v (k ∷ u) → ⊥) → (w : Place) → IsAtOrBelow w (k ∷ u) → IsAtOrBelow w v → ⊥
   other_away k n w b c = n (subst (λ i. IsAtOrBelow v (i ∷ u)) (one_child w j k u (over w v (j ∷ u) c way) b) way)
 
-  owned_away : (k : ℕ) → (IsAtOrBelow v (k ∷ u) → ⊥) → (xs : List Mark) → AreOwned (k ∷ u) xs → AllByRecursion (Away v) xs
+  pub owned_away : (k : ℕ) → (IsAtOrBelow v (k ∷ u) → ⊥) → (xs : List Mark) → AreOwned (k ∷ u) xs → AllByRecursion (Away v) xs
   owned_away k n [] h = tt
   owned_away k n (x ∷ xs) h = (other_away k n (place_of_mark x) h.0, owned_away k n xs h.1)
 
@@ -173,7 +173,7 @@ module _ (spec : Spec) (value : Reference Place → Value) (typed : Place → Op
       let xs = (content spec value typed u o elided f m).0 in
       before_away v xs (Closed u (cells_in xs) ∷ []) (content_whole u (λ b. own) o elided f (k d.0 d.1) m) (own, tt)
 
-  among_away : (u : Place) (j : ℕ) → IsAtOrBelow v (j ∷ u) → (i : ℕ) (ts : Terms) → j < i → AllByRecursion (Each (Away v)) (unparsed_among spec value typed u i ts)
+  pub among_away : (u : Place) (j : ℕ) → IsAtOrBelow v (j ∷ u) → (i : ℕ) (ts : Terms) → j < i → AllByRecursion (Each (Away v)) (unparsed_among spec value typed u i ts)
   among_away u j way i NoTerm low = tt
   among_away u j way i (AndTerm t ts) low =
       let apart : IsAtOrBelow v (i ∷ u) → ⊥ = λ b. (let same = one_child v j i u way b in omega (arith, same, low)) in
@@ -206,7 +206,7 @@ abbrev Passes : Place → Mark → Type 0
 Passes v (Writes b u) = ⊤
 Passes v (Closed u n) = u ≡ v → ⊥
 
-away_passes : (v : Place) (xs : List Mark) → AllByRecursion (Away v) xs → AllByRecursion (Passes v) xs
+pub away_passes : (v : Place) (xs : List Mark) → AllByRecursion (Away v) xs → AllByRecursion (Passes v) xs
 away_passes v [] h = tt
 away_passes v (Writes b u ∷ xs) h = (tt, away_passes v xs h.1)
 away_passes v (Closed u n ∷ xs) h = ((λ same. h.0 (subst (λ z. IsAtOrBelow u z) same (below_itself u))), away_passes v xs h.1)
@@ -234,7 +234,7 @@ passed_over v n [] ys h = refl
 passed_over v n (Writes b u ∷ xs) ys h = passed_over v (suc n) xs ys h.1
 passed_over v n (Closed u k ∷ xs) ys h = ap (λ t. cond t (Some (span_at u k n)) (find (is_of v) (spans_behind n xs ++ ys))) (not_same u v h.0) ∙ passed_over v n xs ys h.1
 
-not_found : (v : Place) (n : ℕ) (xs : List Mark) → AllByRecursion (Passes v) xs → find (is_of v) (spans_behind n xs) ≡ None
+pub not_found : (v : Place) (n : ℕ) (xs : List Mark) → AllByRecursion (Passes v) xs → find (is_of v) (spans_behind n xs) ≡ None
 not_found v n [] h = refl
 not_found v n (Writes b u ∷ xs) h = not_found v (suc n) xs h.1
 not_found v n (Closed u k ∷ xs) h = ap (λ t. cond t (Some (span_at u k n)) (find (is_of v) (spans_behind n xs))) (not_same u v h.0) ∙ not_found v n xs h.1
@@ -279,7 +279,7 @@ abbrev IsNone : Option Span → Type 0
 IsNone None = ⊤
 IsNone (Some s) = ⊥
 
-none_is : (s : Span) → None ≡ Some s → ⊥
+pub none_is : (s : Span) → None ≡ Some s → ⊥
 none_is s e = subst IsNone e tt
 
 split_spans : (v : Place) (xs : List Mark) → Split v xs → (s : Span) → span_of xs v ≡ Some s → IsSpanOf v (all_cells xs) s
@@ -327,7 +327,7 @@ bytes_turned u v = by (bytes_eq v u) refl
     by true e = subst (λ z. bytes_eq u z ≡ bytes_eq z u) (sym (bytes_is v u e)) refl
     by false e = not_same u v (λ same. false≢true (sym e ∙ ap (bytes_eq v) same ∙ bytes_itself v)) ∙ sym e
 
-spans_end : (v : Place) (n : ℕ) (xs : List Mark) → is_some (find (is_of v) (spans_behind n xs)) ≡ list_any (bytes_eq v) (ends_of xs)
+pub spans_end : (v : Place) (n : ℕ) (xs : List Mark) → is_some (find (is_of v) (spans_behind n xs)) ≡ list_any (bytes_eq v) (ends_of xs)
 spans_end v n [] = refl
 spans_end v n (Writes b u ∷ xs) = spans_end v (suc n) xs
 spans_end v n (Closed u k ∷ xs) = ap (λ t. is_some (cond t (Some (span_at u k n)) (find (is_of v) (spans_behind n xs)))) (bytes_turned u v) ∙ by (spans_end v n xs) (bytes_eq v u)

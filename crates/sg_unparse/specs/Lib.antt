@@ -1,5 +1,7 @@
 pub mod Along
+pub mod Begins
 pub mod Cells
+pub mod Margins
 pub mod Owned
 pub mod Page
 pub mod Sheet

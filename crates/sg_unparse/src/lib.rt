@@ -2,13 +2,15 @@
 #![tactic(auto)]
 
 pub mod laws;
+mod margins;
 mod page;
 mod schemes;
 mod shown;
 mod unparsing;
 mod writer;
 
-pub use page::{Page, Region};
+pub use margins::ons;
+pub use page::{Beginning, Page, Region};
 pub use schemes::{current, scheme_count};
 pub use shown::{fault_text, scheme_of, write_text, write_value};
-pub use unparsing::cells;
+pub use unparsing::{cells, part};

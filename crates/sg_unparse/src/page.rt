@@ -3,6 +3,7 @@ ghost use Rattle.std.specs.Prelude.{◌≡◌, ◌≤◌, ◌<◌, ◌-◌, [], 
 ghost use Rattle.std.specs.List.{slice_split, range_with_len};
 ghost use Rattle.std.specs.List.Sorted.{IsNonDecreasingBy};
 ghost use Rattle.sg_unparse.specs.Page.{bytes_of, lines_of, is_newline, owner_at, position_at, stands_at};
+ghost use Rattle.sg_unparse.specs.Begins.{begins_on};
 ghost use Rattle.sg_unparse.specs.Sheet.{told, line_on, region_on, is_of, no_node, owner_in, starts_from, kept_cells, IsWritten};
 
 use crate::writer::Writer;
@@ -34,6 +35,13 @@ pub struct Region {
     pub col: usize,
     pub end_line: usize,
     pub end_col: usize,
+}
+
+/// How many newlines and how many cells are before the first cell of a node.
+#[derive(Clone, Copy, Debug, PartialEq, Eq)]
+pub struct Beginning {
+    pub newlines: usize,
+    pub cells: usize,
 }
 
 /// The page of a term: at most 1,048,576 cells, which are bytes with the nodes that own them, and the spans of its
@@ -225,6 +233,18 @@ impl Page {
             col,
             end_line,
             end_col,
+        })
+    }
+
+    /// Where a node begins; None exactly where it was not written.
+    pub fn begins(&self, n: NodeId) -> Option<Beginning>
+        ensures { result ≡ begins_on self.now n }
+    {
+        let span = find_span(&self.spans, n)?;
+        let (line, _) = self.position(span.from);
+        Some(Beginning {
+            newlines: line - 1,
+            cells: span.from as usize,
         })
     }
 

@@ -399,6 +399,20 @@ fn node(shown: &Shown, w: &mut Writer, room: &mut Vec<u8>, n: NodeId) -> Result<
     Ok(())
 }
 
+// the page of a node, whose margin begins at 0
+fn page(alloc: Global, shown: &Shown, n: NodeId) -> Result<Page, NoMemory>
+    requires { IsLive (nodes shown.now.terms.now) n }
+    ensures { (root : Id) (u : Place) (t : Term) → IsAlong shown.now.terms.now root u n t →
+        IfOk result (λ p. p ≡ sheet_of (node_along shown.now.terms.now root)
+        (unparsed_in shown.now.terms.now root shown.now.captured shown.now.text.now u t 0).0) }
+{
+    shown.terms.facts();
+    let mut w = Writer::new(alloc);
+    let mut room = Vec::new(alloc);
+    node(shown, &mut w, &mut room, n)?;
+    Page::of(alloc, w)
+}
+
 /// The page of the term that a node holds, with the values that are stored and in the schemes that are current; a
 /// captured node shows the text. The margin begins at 0. A margin of 2^64 blanks is answered as want of memory.
 pub fn cells(
@@ -412,14 +426,24 @@ pub fn cells(
     ensures { (t : Term) → Holds terms.now root t → IfOk result (λ p. p ≡ sheet_of (node_along terms.now root)
         (marks_of terms.now.spec (stored terms.now root) (typed_in terms.now root captured text.now) t)) }
 {
-    terms.facts();
     let shown = Shown {
         terms,
         captured,
         text,
     };
-    let mut w = Writer::new(alloc);
-    let mut room = Vec::new(alloc);
-    node(&shown, &mut w, &mut room, root)?;
-    Page::of(alloc, w)
+    page(alloc, &shown, root)
+}
+
+/// The page of a part of a term: what a node of it writes where the margin begins at 0 and nothing is typed.
+pub fn part(alloc: Global, terms: &Terms, n: NodeId) -> Result<Page, NoMemory>
+    requires { IsLive (nodes terms.now) n }
+    ensures { (root : Id) (u : Place) (t : Term) → IsAlong terms.now root u n t →
+        IfOk result (λ p. p ≡ sheet_of (node_along terms.now root) (unparsed_in terms.now root None [] u t 0).0) }
+{
+    let shown = Shown {
+        terms,
+        captured: None,
+        text: &[],
+    };
+    page(alloc, &shown, n)
 }

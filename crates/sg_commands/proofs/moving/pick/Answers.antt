@@ -1,14 +1,21 @@
-use Rattle.std.proofs.Common.{sym, subst}
+use Rattle.std.proofs.lemmas.Result.{err_from_is_err_and}
+use Rattle.std.proofs.Common.{ap, sym, subst}
 use Rattle.sg_screen.specs.declared.message.Message.TheVariants as message
 use Rattle.sg_states.specs.States.{picked}
 use Rattle.sg_buffer.specs.Held.{state_of}
 use Rattle.sg_commands.specs.Did.{Did}
 use Rattle.sg_commands.specs.Turns.{picks}
-use Rattle.sg_commands.proofs.Moved.{found_did}
+use Rattle.sg_commands.proofs.Moved.{found_did, stayed}
 use Rattle.sg_commands.proofs.moving.pick.Goals as goal
 
 pub returns-clause-did : goal.returns-clause-did
 returns-clause-did c = λ clip now.
     let b = c.args.buffer.now in
     subst (λ m. Did (picks b.grove.spec b.height clip (state_of b) c.args.line c.args.column) m c.pick.new.self clip now now) (sym c.said.ensures)
-    (found_did b c.pick.new.self clip now message.NoPlace (picked b.grove.spec b.height c.args.line c.args.column (state_of b)) c.pick.result c.pick.ensures.none)
+    (found_did b c.pick.new.self clip now message.NoPlace (picked b.grove.spec b.height c.args.line c.args.column (state_of b)) c.in_ok-done.done c.in_ok-done.ensures.none)
+
+pub returns-in_err-done-clause-gave_up : goal.returns-in_err-done-clause-gave_up
+returns-in_err-done-clause-gave_up c = λ turn clip now.
+    let p = err_from_is_err_and c.from_residual.result c.from_residual.ensures.1 in
+    rw p.1
+    (stayed c.args.buffer.now c.pick.new.self clip now turn (ap state_of c.in_err-done.ensures.err))

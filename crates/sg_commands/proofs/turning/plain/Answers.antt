@@ -14,42 +14,42 @@ pub returns-in-Next-clause-did : goal.returns-in-Next-clause-did
 returns-in-Next-clause-did c = λ reads are.
     let b = c.args.buffer.now in
     let was = now_of c.args.journal.now in
-    subst (λ x. Did (plain_turn b.grove.spec b.height reads c.args.clip.now (state_of b) x) c.go.result c.go.new.buffer c.args.clip.now was was)
+    subst (λ x. IfOk c.go.result (λ m. Did (plain_turn b.grove.spec b.height reads c.args.clip.now (state_of b) x) m c.go.new.buffer c.args.clip.now was was))
     (sym c.in-Next.is) (c.go.ensures.did c.args.clip.now was)
 
 pub returns-in-Prev-clause-did : goal.returns-in-Prev-clause-did
 returns-in-Prev-clause-did c = λ reads are.
     let b = c.args.buffer.now in
     let was = now_of c.args.journal.now in
-    subst (λ x. Did (plain_turn b.grove.spec b.height reads c.args.clip.now (state_of b) x) c.go-in-Prev.result c.go-in-Prev.new.buffer c.args.clip.now was was)
+    subst (λ x. IfOk c.go-in-Prev.result (λ m. Did (plain_turn b.grove.spec b.height reads c.args.clip.now (state_of b) x) m c.go-in-Prev.new.buffer c.args.clip.now was was))
     (sym c.in-Prev.is) (c.go-in-Prev.ensures.did c.args.clip.now was)
 
 pub returns-in-Up-clause-did : goal.returns-in-Up-clause-did
 returns-in-Up-clause-did c = λ reads are.
     let b = c.args.buffer.now in
     let was = now_of c.args.journal.now in
-    subst (λ x. Did (plain_turn b.grove.spec b.height reads c.args.clip.now (state_of b) x) c.go-in-Up.result c.go-in-Up.new.buffer c.args.clip.now was was)
+    subst (λ x. IfOk c.go-in-Up.result (λ m. Did (plain_turn b.grove.spec b.height reads c.args.clip.now (state_of b) x) m c.go-in-Up.new.buffer c.args.clip.now was was))
     (sym c.in-Up.is) (c.go-in-Up.ensures.did c.args.clip.now was)
 
 pub returns-in-First-clause-did : goal.returns-in-First-clause-did
 returns-in-First-clause-did c = λ reads are.
     let b = c.args.buffer.now in
     let was = now_of c.args.journal.now in
-    subst (λ x. Did (plain_turn b.grove.spec b.height reads c.args.clip.now (state_of b) x) c.go-in-First.result c.go-in-First.new.buffer c.args.clip.now was was)
+    subst (λ x. IfOk c.go-in-First.result (λ m. Did (plain_turn b.grove.spec b.height reads c.args.clip.now (state_of b) x) m c.go-in-First.new.buffer c.args.clip.now was was))
     (sym c.in-First.is) (c.go-in-First.ensures.did c.args.clip.now was)
 
 pub returns-in-Sibling-clause-did : goal.returns-in-Sibling-clause-did
 returns-in-Sibling-clause-did c = λ reads are.
     let b = c.args.buffer.now in
     let was = now_of c.args.journal.now in
-    subst (λ x. Did (plain_turn b.grove.spec b.height reads c.args.clip.now (state_of b) x) c.go-in-Sibling.result c.go-in-Sibling.new.buffer c.args.clip.now was was)
+    subst (λ x. IfOk c.go-in-Sibling.result (λ m. Did (plain_turn b.grove.spec b.height reads c.args.clip.now (state_of b) x) m c.go-in-Sibling.new.buffer c.args.clip.now was was))
     (sym c.in-Sibling.is) (c.go-in-Sibling.ensures.did c.args.clip.now was)
 
 pub returns-in-Goto-clause-did : goal.returns-in-Goto-clause-did
 returns-in-Goto-clause-did c = λ reads are.
     let b = c.args.buffer.now in
     let was = now_of c.args.journal.now in
-    subst (λ x. Did (plain_turn b.grove.spec b.height reads c.args.clip.now (state_of b) x) c.pick.result c.pick.new.buffer c.args.clip.now was was)
+    subst (λ x. IfOk c.pick.result (λ m. Did (plain_turn b.grove.spec b.height reads c.args.clip.now (state_of b) x) m c.pick.new.buffer c.args.clip.now was was))
     (sym c.in-Goto.is) (c.pick.ensures.did c.args.clip.now was)
 
 pub returns-in_ok-copy-in-Copy-clause-did : goal.returns-in_ok-copy-in-Copy-clause-did

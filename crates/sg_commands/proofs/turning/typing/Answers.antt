@@ -28,6 +28,13 @@ returns-in-Enter-clause-gave_up c = λ x at reads are clip.
     (subst (λ o. OnErr c.enter_typed.result (GaveUp b.grove.spec (found_or clip (state_of b) message.NotInText (λ y. enters_captured b.grove.spec b.height clip (state_of b) (λ entry. reads entry y.text)) o) b c.enter_typed.new.buffer clip clip was (now_of c.enter_typed.new.journal)))
     at (c.enter_typed.ensures.gave_up clip reads are))
 
+pub returns-in-Abandon-clause-did : goal.returns-in-Abandon-clause-did
+returns-in-Abandon-clause-did c = λ x at reads are clip.
+    let b = c.args.buffer.now in
+    let was = now_of c.args.journal.now in
+    subst (λ k. Did (typing_turn b.grove.spec b.height reads clip (state_of b) x k) c.abandon.result c.abandon.new.buffer clip was was)
+    (sym c.in-Abandon.is) (c.abandon.ensures.did clip was)
+
 pub returns-in-New-clause-did : goal.returns-in-New-clause-did
 returns-in-New-clause-did c = λ x at reads are clip.
     let b = c.args.buffer.now in

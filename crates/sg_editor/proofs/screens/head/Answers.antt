@@ -29,7 +29,7 @@ item-requires c =
     let fits : Fits b.grove.spec s.0 c.phylum-phylum.result =
     subst (λ (g : Grove). Fits g.spec s.0 c.phylum-phylum.result) c.terms.ensures
     (c.phylum-phylum.ensures.term s.0 (subst (λ (g : Grove). Holds g c.selected-n.result s.0) (sym c.terms.ensures) s.1)) in
-    let low = phylum_low spec c.spec.ensures.sound.shapes s.0 c.phylum-phylum.result (subst (λ (sp : Spec). Fits sp s.0 c.phylum-phylum.result) c.requires.spec_is fits) in
+    let low = phylum_low spec c.spec.ensures.sound.shapes s.0 c.phylum-phylum.result (subst (λ (sp : Spec). Fits sp s.0 c.phylum-phylum.result) c.requires.over.spec_is fits) in
     subst (λ (xs : List Phylum). c.phylum.inside.number < length xs) (sym (c.as_slice-2.ensures ∙ ap (λ (sp : Spec). sp.phyla) c.spec.ensures.spec))
     (subst (λ (p : ℕ). p < length spec.phyla) (sym c.phylum.view_is) low)
 
@@ -44,7 +44,7 @@ returns c =
     subst (λ (g : Grove). Fits g.spec s.0 c.phylum-phylum.result) c.terms.ensures
     (c.phylum-phylum.ensures.term s.0 (subst (λ (g : Grove). Holds g c.selected-n.result s.0) (sym c.terms.ensures) s.1)) in
     let number : c.phylum.inside.number ≡ phylum_in spec (selected_term st) =
-    c.phylum.view_is ∙ sym (fits_phylum spec s.0 c.phylum-phylum.result (subst (λ (sp : Spec). Fits sp s.0 c.phylum-phylum.result) c.requires.spec_is fits))
+    c.phylum.view_is ∙ sym (fits_phylum spec s.0 c.phylum-phylum.result (subst (λ (sp : Spec). Fits sp s.0 c.phylum-phylum.result) c.requires.over.spec_is fits))
     ∙ ap (phylum_in spec) (sym (ap (λ (o : Option Term). unwrap_or o st.term) s.2)) in
     let phyla : c.as_slice-2.result.now ≡ spec.phyla = c.as_slice-2.ensures ∙ ap (λ (sp : Spec). sp.phyla) c.spec.ensures.spec in
     let name : c.as_slice-3.result.now ≡ phylum_name spec.phyla (phylum_in spec (selected_term st)) =
@@ -52,5 +52,5 @@ returns c =
     ∙ (λ i. phylum_name (phyla i) (number i)) in
     let region : told c.unwrap_or.result ≡ unwrap_or (region_of (shown_in spec st) u) page_begin =
     ap told c.unwrap_or.ensures ∙ told_or c.region.result
-    ∙ ap (λ (o : Option RegionOf). unwrap_or o page_begin) (c.region.ensures ∙ region_shown spec b c.facts.ensures c.requires.spec_is c.page.result.now c.page.ensures c.selected-n.result c.selected-n.ensures.place) in
+    ∙ ap (λ (o : Option RegionOf). unwrap_or o page_begin) (c.region.ensures ∙ region_shown spec b c.facts.ensures c.requires.over.spec_is c.args.page.now c.requires.page c.selected-n.result c.selected-n.ensures.place) in
     λ i. record { name = c.as_slice.ensures i; region = region i; phylum = name i; top = c.top.ensures i; ev = c.args.ev; message = c.args.message }

@@ -25,10 +25,6 @@ is_row spec s rs i rule r same rows number found =
 abbrev nothing : Occurrence
 nothing = record { at = 0; slot = 0 }
 
--- where no argument is looked at
-pub returns-then-none_shows : goal.returns-then-none_shows
-returns-then-none_shows c = λ r at. (λ yes. absurd (false≢true yes), λ has. absurd (c.none_shows.ensures c.if-none_shows.true c.args.left has.0 has.2))
-
 pub item-requires : goal.item-requires
 item-requires c =
     let o = c.requires.operator in

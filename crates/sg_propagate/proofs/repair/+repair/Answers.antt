@@ -1,9 +1,8 @@
-use Rattle.std.proofs.Common.{◌≡◌, ◌+◌, ◌<◌, ◌∙◌, ℕ, List, length, get_or, refl, ap, sym, subst, arith}
+use Rattle.std.proofs.Common.{◌≡◌, ◌+◌, ◌∙◌, ℕ, List, length, refl, ap, sym, subst, arith}
 use Rattle.std.proofs.Common.{Bool, true, eqb}
 use Rattle.std.proofs.lemmas.Bool.{eqb-true, false≢true}
 use Rattle.std.proofs.lemmas.Result.{err_from_is_err_and}
 use Rattle.std.specs.Prelude.{Some, Ok, Err, slice_get}
-use Rattle.std.proofs.lemmas.Option.{slice_get-get_or}
 use Rattle.sg_kinds.specs.Specification.{rules_of}
 use Rattle.sg_kinds.specs.ValidPlans.{AreValid}
 use Rattle.sg_kinds.specs.declared.plans.PlanStep.{PlanStep}
@@ -18,15 +17,15 @@ use Rattle.sg_trail.specs.Trails.{IsAnySlot}
 use Rattle.sg_attrib.specs.Visited.{IsGiven, IsKnown, IsNeeded, IsStepGiven, IsVisited, Gives}
 use Rattle.sg_attrib.proofs.Calls.{step_operator, step_arity, step_visited, step_still, visit_row}
 use Rattle.sg_attrib.proofs.Nodes.{op_live}
-use Rattle.sg_propagate.specs.Moves.{Repairs}
+use Rattle.sg_propagate.specs.Moves.{IsGivenFrom, IsKnownFrom, Repairs}
 use Rattle.sg_propagate.proofs.Skipping.{idle_repairs, kid_repairs, top_repairs}
 use Rattle.sg_propagate.proofs.Tracked.{tops_still}
-use Rattle.sg_propagate.proofs.Stepped.{IsBefore, all_steps, next_step, no_steps, leaf_repairs, repairs_err, repairs_ok, some_steps}
+use Rattle.sg_propagate.proofs.Stepped.{IsBetween, all_steps, from_first, next_step, no_steps, leaf_repairs, repairs_err, repairs_ok, some_steps}
 use Rattle.sg_propagate.proofs.repair.+repair.Goals as goal
 
 -- the step at an index
-at_index : (xs : List PlanStep) (ys : List PlanStep) (i : ℕ) (s : PlanStep) → xs ≡ ys → i < length xs → s ≡ get_or xs i s → slice_get ys i ≡ Some s
-at_index xs ys i s same low is = ap (λ l. slice_get l i) (sym same) ∙ slice_get-get_or xs i s low ∙ ap (λ z. Some z) (sym is)
+read_at : (xs ys : List PlanStep) (m : ℕ) (s : PlanStep) → xs ≡ ys → slice_get xs m ≡ Some s → slice_get ys m ≡ Some s
+read_at xs ys m s same at = ap (λ l. slice_get l m) (sym same) ∙ at
 
 pub take-update-requires-clause-operator : goal.take-update-requires-clause-operator
 take-update-requires-clause-operator t c =
@@ -91,7 +90,8 @@ take-returns-then-is_active-clause-repairs t c =
     (now_of c.args.journal.now) (now_of c.repair.new.journal) c.repair.result)
     (sym c.in-Visit.is)
     (kid_repairs plans c.args.terms.now c.repair.new.terms c.facts.ensures c.args.work.now c.repair.new.work c.args.trail.now c.repair.new.trail (now_of c.args.journal.now) (now_of c.repair.new.journal) c.args.top c.args.left c.args.n c.kid-below.result c.in-Visit.kid c.in-Visit.k
-    c.kid-below.ensures.child (differs_by_test c.kid-below.result c.args.top c.eq.result c.eq.ensures c.if-eq.false) c.repair.result c.repair.ensures.repairs)
+    c.kid-below.ensures.child (differs_by_test c.kid-below.result c.args.top c.eq.result c.eq.ensures c.if-eq.false) c.repair.result
+    (from_first plans c.args.top c.args.left c.kid-below.result c.args.terms.now c.repair.new.terms c.args.work.now c.repair.new.work c.args.trail.now c.repair.new.trail (now_of c.args.journal.now) (now_of c.repair.new.journal) c.in-Visit.k c.repair.result c.repair.ensures.repairs))
 
 -- an idle child is skipped
 pub take-returns-else-is_active-clause-repairs : goal.take-returns-else-is_active-clause-repairs
@@ -108,51 +108,51 @@ take-returns-else-is_active-clause-repairs t c =
 -- the steps of a visit
 pub repair-returns-in_default-clause-repairs : goal.repair-returns-in_default-clause-repairs
 repair-returns-in_default-clause-repairs t c =
-    leaf_repairs c.args.plans.now c.args.terms.now c.facts.ensures c.args.work.now c.args.trail.now (now_of c.args.journal.now) c.args.top c.args.left c.args.n c.args.k (sym c.op.ensures.op ∙ c.in_default.is) (tt {0})
+    leaf_repairs c.args.plans.now c.args.terms.now c.facts.ensures c.args.work.now c.args.trail.now (now_of c.args.journal.now) c.args.top c.args.left c.args.n c.args.k c.args.from (sym c.op.ensures.op ∙ c.in_default.is) (tt {0})
 
-pub repair-steps-step-items-requires-clause-there : goal.repair-steps-step-items-requires-clause-there
-repair-steps-step-items-requires-clause-there t c =
+pub repair-steps-all-requires-clause-there : goal.repair-steps-all-requires-clause-there
+repair-steps-all-requires-clause-there t c =
     visit_row c.args.terms.now c.facts.ensures c.args.plans.now c.requires.valid c.args.n c.args.k (record { op = c.in-Some.op; is = sym c.op.ensures.op ∙ c.in-Some.is; low = c.requires.low; high = c.requires.high })
 
-pub repair-loop-step-init : goal.repair-loop-step-init
-repair-loop-step-init t c = record {
-  repairs = no_steps c.args.plans.now c.args.terms.now c.args.work.now c.args.trail.now (now_of c.args.journal.now) c.args.top c.args.left c.args.n c.args.k (tt {0});
+pub repair-loop-m-init : goal.repair-loop-m-init
+repair-loop-m-init t c = record {
+  repairs = no_steps c.args.plans.now c.args.terms.now c.args.work.now c.args.trail.now (now_of c.args.journal.now) c.args.top c.args.left c.args.n c.args.k c.args.from (tt {0});
   total = refl;
 }
 
 pub repair-take-requires : goal.repair-take-requires
 repair-take-requires t c =
     let old = c.args.terms.now in
-    let inv = c.loop-step.invariant.repairs in
+    let inv = c.loop-m.invariant.repairs in
     let room = inv.stored.room c.args.n in
     let v : IsVisited c.args.plans.now old c.args.n c.args.k = record { op = c.in-Some.op; is = sym c.op.ensures.op ∙ c.in-Some.is; low = c.requires.low; high = c.requires.high } in
-    let at = at_index c.steps-step-items.result.now (steps_of c.args.plans.now c.in-Some.op c.args.k) c.loop-step.step-index c.step-item.result c.steps-step-items.ensures c.loop-step-test.true c.step-item.is in (
+    let at = read_at c.steps-all.result.now (steps_of c.args.plans.now c.in-Some.op c.args.k) c.loop-m.m c.item.result.now c.steps-all.ensures c.item.ensures in (
       omega (arith, room),
       (
         subst (λ (sp : Spec). AreValid (rules_of sp) c.args.plans.now) (sym inv.stored.spec) c.requires.valid,
         (
           c.requires.same ∙ sym inv.stored.spec,
           (
-            step_still c.args.plans.now old c.loop-step.terms IsAnySlot inv.stored c.args.n c.args.k c.facts.ensures v c.loop-step.step-index c.step-item.result at,
-            tops_still old c.loop-step.terms IsAnySlot inv.stored c.args.top c.args.left c.requires.tops,
+            step_still c.args.plans.now old c.loop-m.terms IsAnySlot inv.stored c.args.n c.args.k c.facts.ensures v c.loop-m.m c.item.result.now at,
+            tops_still old c.loop-m.terms IsAnySlot inv.stored c.args.top c.args.left c.requires.tops,
           ),
         ),
       ),
     )
 
-pub repair-loop-step-preserved : goal.repair-loop-step-preserved
-repair-loop-step-preserved t c =
+pub repair-loop-m-preserved : goal.repair-loop-m-preserved
+repair-loop-m-preserved t c =
     let old = c.args.terms.now in
     let new = c.take.new.terms in
     let plans = c.args.plans.now in
-    let inv = c.loop-step.invariant in
+    let inv = c.loop-m.invariant in
     let v : IsVisited plans old c.args.n c.args.k = record { op = c.in-Some.op; is = sym c.op.ensures.op ∙ c.in-Some.is; low = c.requires.low; high = c.requires.high } in
-    let at = at_index c.steps-step-items.result.now (steps_of plans c.in-Some.op c.args.k) c.loop-step.step-index c.step-item.result c.steps-step-items.ensures c.loop-step-test.true c.step-item.is in
+    let at = read_at c.steps-all.result.now (steps_of plans c.in-Some.op c.args.k) c.loop-m.m c.item.result.now c.steps-all.ensures c.item.ensures in
     record {
-      repairs = repairs_ok plans (λ rules. IsKnown rules plans c.args.k) (λ rules. IsGiven rules plans c.args.k) (IsBefore plans c.args.k (c.loop-step.step-index + 1)) c.args.top c.args.left c.args.n old new c.args.work.now c.take.new.work c.args.trail.now c.take.new.trail
+      repairs = repairs_ok plans (IsKnownFrom plans c.args.k c.args.from) (IsGivenFrom plans c.args.k c.args.from) (IsBetween plans c.args.k c.args.from (c.loop-m.m + 1)) c.args.top c.args.left c.args.n old new c.args.work.now c.take.new.work c.args.trail.now c.take.new.trail
           (now_of c.args.journal.now) (now_of c.take.new.journal) c.in_ok-take.field-0 tt
-          (next_step plans c.args.top c.args.left c.args.n old c.loop-step.terms new c.facts.ensures c.facts-in-loop-step.ensures c.args.k c.loop-step.step-index c.step-item.result v at c.args.work.now c.loop-step.work c.take.new.work (now_of c.args.journal.now) (now_of c.loop-step.journal)
-          (now_of c.take.new.journal) tt (Ok c.in_ok-take.field-0) c.args.trail.now c.loop-step.trail c.take.new.trail inv.repairs c.in_ok-take.ensures.repairs);
+          (next_step plans c.args.top c.args.left c.args.n old c.loop-m.terms new c.facts.ensures c.facts-in-loop-m.ensures c.args.k c.args.from c.loop-m.m c.loop-m.auto.m c.item.result.now v at c.args.work.now c.loop-m.work c.take.new.work (now_of c.args.journal.now) (now_of c.loop-m.journal)
+          (now_of c.take.new.journal) tt (Ok c.in_ok-take.field-0) c.args.trail.now c.loop-m.trail c.take.new.trail inv.repairs c.in_ok-take.ensures.repairs);
       total = c.in_ok-take.ensures.total ∙ inv.total;
     }
 
@@ -162,16 +162,16 @@ repair-returns-in_err-take-clause-repairs t c =
     let old = c.args.terms.now in
     let new = c.take.new.terms in
     let plans = c.args.plans.now in
-    let inv = c.loop-step.invariant in
+    let inv = c.loop-m.invariant in
     let v : IsVisited plans old c.args.n c.args.k = record { op = c.in-Some.op; is = sym c.op.ensures.op ∙ c.in-Some.is; low = c.requires.low; high = c.requires.high } in
-    let at = at_index c.steps-step-items.result.now (steps_of plans c.in-Some.op c.args.k) c.loop-step.step-index c.step-item.result c.steps-step-items.ensures c.loop-step-test.true c.step-item.is in
+    let at = read_at c.steps-all.result.now (steps_of plans c.in-Some.op c.args.k) c.loop-m.m c.item.result.now c.steps-all.ensures c.item.ensures in
     let p = err_from_is_err_and c.from_residual.result c.from_residual.ensures.1 in
     rw p.1
-    (repairs_err plans (λ rules. IsKnown rules plans c.args.k) (λ rules. IsGiven rules plans c.args.k) (λ rules. IsGiven rules plans c.args.k) c.args.top c.args.left c.args.n old new c.args.work.now c.take.new.work c.args.trail.now c.take.new.trail (now_of c.args.journal.now)
+    (repairs_err plans (IsKnownFrom plans c.args.k c.args.from) (IsGivenFrom plans c.args.k c.args.from) (IsGivenFrom plans c.args.k c.args.from) c.args.top c.args.left c.args.n old new c.args.work.now c.take.new.work c.args.trail.now c.take.new.trail (now_of c.args.journal.now)
     (now_of c.take.new.journal) c.in_err-take.field-0.0 p.0
-    (some_steps plans c.args.top c.args.left c.args.n old new c.facts.ensures c.args.k v c.args.work.now c.take.new.work c.args.trail.now c.take.new.trail (now_of c.args.journal.now) (now_of c.take.new.journal) (c.loop-step.step-index + 1) c.in_err-take.field-0.0
-    (next_step plans c.args.top c.args.left c.args.n old c.loop-step.terms new c.facts.ensures c.facts-in-loop-step.ensures c.args.k c.loop-step.step-index c.step-item.result v at c.args.work.now c.loop-step.work c.take.new.work (now_of c.args.journal.now) (now_of c.loop-step.journal)
-    (now_of c.take.new.journal) tt (Err c.in_err-take.field-0.0) c.args.trail.now c.loop-step.trail c.take.new.trail inv.repairs c.in_err-take.ensures.repairs)))
+    (some_steps plans c.args.top c.args.left c.args.n old new c.facts.ensures c.args.k c.args.from v c.args.work.now c.take.new.work c.args.trail.now c.take.new.trail (now_of c.args.journal.now) (now_of c.take.new.journal) (c.loop-m.m + 1) c.in_err-take.field-0.0
+    (next_step plans c.args.top c.args.left c.args.n old c.loop-m.terms new c.facts.ensures c.facts-in-loop-m.ensures c.args.k c.args.from c.loop-m.m c.loop-m.auto.m c.item.result.now v at c.args.work.now c.loop-m.work c.take.new.work (now_of c.args.journal.now) (now_of c.loop-m.journal)
+    (now_of c.take.new.journal) tt (Err c.in_err-take.field-0.0) c.args.trail.now c.loop-m.trail c.take.new.trail inv.repairs c.in_err-take.ensures.repairs)))
 
 -- after all steps
 pub repair-returns-clause-repairs : goal.repair-returns-clause-repairs
@@ -179,9 +179,9 @@ repair-returns-clause-repairs t c =
     let old = c.args.terms.now in
     let plans = c.args.plans.now in
     let v : IsVisited plans old c.args.n c.args.k = record { op = c.in-Some.op; is = sym c.op.ensures.op ∙ c.in-Some.is; low = c.requires.low; high = c.requires.high } in
-    let long = ap length c.steps-step-items.ensures in
-    let past = c.loop-step-test.false in
-    repairs_ok plans (λ rules. IsKnown rules plans c.args.k) (λ rules. IsGiven rules plans c.args.k) (λ rules. IsGiven rules plans c.args.k) c.args.top c.args.left c.args.n old c.loop-step.terms c.args.work.now c.loop-step.work c.args.trail.now c.loop-step.trail
-    (now_of c.args.journal.now) (now_of c.loop-step.journal) tt tt
-    (all_steps plans c.args.top c.args.left c.args.n old c.loop-step.terms c.facts.ensures c.args.k v c.args.work.now c.loop-step.work c.args.trail.now c.loop-step.trail (now_of c.args.journal.now) (now_of c.loop-step.journal) c.loop-step.step-index tt (omega (arith, long, past))
-    c.loop-step.invariant.repairs)
+    let long = ap length c.steps-all.ensures in
+    let past = c.loop-m-test.false in
+    repairs_ok plans (IsKnownFrom plans c.args.k c.args.from) (IsGivenFrom plans c.args.k c.args.from) (IsGivenFrom plans c.args.k c.args.from) c.args.top c.args.left c.args.n old c.loop-m.terms c.args.work.now c.loop-m.work c.args.trail.now c.loop-m.trail
+    (now_of c.args.journal.now) (now_of c.loop-m.journal) tt tt
+    (all_steps plans c.args.top c.args.left c.args.n old c.loop-m.terms c.facts.ensures c.args.k c.args.from v c.args.work.now c.loop-m.work c.args.trail.now c.loop-m.trail (now_of c.args.journal.now) (now_of c.loop-m.journal) c.loop-m.m tt (omega (arith, long, past))
+    c.loop-m.invariant.repairs)

@@ -6,7 +6,6 @@ use Rattle.sg_forest.specs.declared.node_id.NodeId.{NodeId}
 use Rattle.sg_groves.specs.TermAt.{term_at}
 use Rattle.sg_turns.specs.Turns.{MayTurn, made}
 use Rattle.sg_turns.specs.declared.turns.What.{What}
-use Rattle.sg_turns.specs.declared.turns.What.TheVariants.{Tree}
 use Rattle.sg_turns.proofs.Stepping.{nodes_remarked, nodes_turned, tree_live, turned_live}
 use Rattle.sg_turns.proofs.stepped.nodes_after.Goals as goal
 

@@ -13,7 +13,7 @@ returns-in-Replaced-clause-noted c =
     let old = c.args.terms.now in
     subst
     (λ (s : Step). (t : Term) → MayStep old c.args.root t (step_place s) (undoing s) c.args.known → IfOk c.turned_at.result (λ (r : Stepped).
-    Notes old c.turned_at.new.terms r.turned.root t (step_place s) (undoing s) (now_of c.args.journal.now) (now_of c.turned_at.new.journal)))
+    Notes old c.turned_at.new.terms r.root t (step_place s) (undoing s) (now_of c.args.journal.now) (now_of c.turned_at.new.journal)))
     (sym c.in-Replaced.is)
     c.turned_at.ensures.noted
 
@@ -31,7 +31,7 @@ returns-in-Marked-clause-noted c =
     let old = c.args.terms.now in
     subst
     (λ (s : Step). (t : Term) → MayStep old c.args.root t (step_place s) (undoing s) c.args.known → IfOk c.turned_at-in-Marked.result (λ (r : Stepped).
-    Notes old c.turned_at-in-Marked.new.terms r.turned.root t (step_place s) (undoing s) (now_of c.args.journal.now) (now_of c.turned_at-in-Marked.new.journal)))
+    Notes old c.turned_at-in-Marked.new.terms r.root t (step_place s) (undoing s) (now_of c.args.journal.now) (now_of c.turned_at-in-Marked.new.journal)))
     (sym c.in-Marked.is)
     c.turned_at-in-Marked.ensures.noted
 

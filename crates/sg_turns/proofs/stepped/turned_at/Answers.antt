@@ -1,4 +1,10 @@
+use Rattle.std.proofs.Common.{refl, subst}
 use Rattle.sg_kinds.specs.Places.{place_of}
+use Rattle.sg_forest.specs.Trees.{Climbs}
+use Rattle.sg_groves.specs.Grove.{nodes}
+use Rattle.sg_groves.specs.TermAt.{term_at}
+use Rattle.sg_select.specs.RestingPlaces.{settled}
+use Rattle.sg_turns.specs.Turns.{made}
 use Rattle.sg_turns.proofs.Stepping.{may_here, place_there}
 use Rattle.sg_turns.proofs.stepped.turned_at.Goals as goal
 
@@ -15,14 +21,26 @@ turn-requires-clause-may c =
     let u = place_of c.args.path.now in
     (c.requires.may.0, u, may_here c.args.terms.now c.facts.ensures c.args.root c.requires.may.0 u c.args.what c.args.known c.requires.may.1 c.node_at-out.result c.node_at-out.ensures)
 
+pub settle_path-requires : goal.settle_path-requires
+settle_path-requires c =
+    let u = place_of c.args.path.now in
+    let may = c.requires.may in
+    (c.in-Ok.ensures.turned may.0 u (may_here c.args.terms.now c.facts.ensures c.args.root may.0 u c.args.what c.args.known may.1 c.node_at-out.result c.node_at-out.ensures)).whole.top
+
 pub returns-in-Ok-clause-stepped : goal.returns-in-Ok-clause-stepped
 returns-in-Ok-clause-stepped c = λ t may.
+    let g = c.args.terms.now in
     let u = place_of c.args.path.now in
-    let here = may_here c.args.terms.now c.facts.ensures c.args.root t u c.args.what c.args.known may c.node_at-out.result c.node_at-out.ensures in
+    let here = may_here g c.facts.ensures c.args.root t u c.args.what c.args.known may c.node_at-out.result c.node_at-out.ensures in
+    let turned = c.in-Ok.ensures.turned t u here in
     record {
       way = c.node_at-out.ensures;
-      turned = c.in-Ok.ensures.turned t u here;
+      turned = turned;
       counted = c.nodes_after-nodes.ensures c.args.root t u here may.counted may.small may.after;
+      selected = subst (λ p. Climbs (nodes c.turn.new.terms) (settled c.turn.new.terms.spec (made (term_at g) t u c.args.what) (place_of p)) c.settle_path.result c.in-Ok.now) c.as_slice.ensures
+          (c.settle_path.ensures.settled (made (term_at g) t u c.args.what) turned.whole.holds);
+      count = refl;
+      top = refl;
     }
 
 pub returns-in-Ok-clause-noted : goal.returns-in-Ok-clause-noted

@@ -1,27 +1,32 @@
-use Rattle.std.specs.Prelude.{IfOk, OnErr}
 use Rattle.std.proofs.Common.{sym, subst}
+use Rattle.sg_forest.proofs.Shape.{KeepsShape-part_set}
+use Rattle.sg_groves.specs.Grove.{nodes}
 use Rattle.sg_kinds.specs.Places.{Place}
 use Rattle.sg_kinds.specs.Terms.{Term}
-use Rattle.sg_eval.specs.Journal.{now_of}
-use Rattle.sg_turns.specs.Turns.{MayTurn, Notes, NotesSome}
-use Rattle.sg_turns.specs.declared.turns.Turned.{Turned}
+use Rattle.sg_turns.specs.Turns.{IsTurned, MayTurn}
 use Rattle.sg_turns.specs.declared.turns.What.{What}
+use Rattle.sg_turns.proofs.Putting.{marked_live, marked_turn}
 use Rattle.sg_turns.proofs.turns.turn.Goals as goal
 
-pub returns-in-Tree-clause-noted : goal.returns-in-Tree-clause-noted
-returns-in-Tree-clause-noted c =
-    let old = c.args.terms.now in
-    subst
-    (λ (w : What). (t : Term) (u : Place) → MayTurn old c.args.root c.args.at w t u → IfOk c.exchanged.result (λ (r : Turned).
-    Notes old c.exchanged.new.terms r.root t u w (now_of c.args.journal.now) (now_of c.exchanged.new.journal)))
-    (sym c.in-Tree.is)
-    c.exchanged.ensures.noted
+pub put_marks-requires-clause-live : goal.put_marks-requires-clause-live
+put_marks-requires-clause-live c =
+    let g = c.args.terms.now in
+    let m = c.requires.may in
+    marked_live g c.facts.ensures c.args.root c.args.at c.in-Shown.marks m.0 m.1 (subst (λ (w : What). MayTurn g c.args.root c.args.at w m.0 m.1) c.in-Shown.is m.2)
 
-pub returns-in-Tree-clause-some : goal.returns-in-Tree-clause-some
-returns-in-Tree-clause-some c =
-    let old = c.args.terms.now in
-    subst
-    (λ (w : What). (t : Term) (u : Place) → MayTurn old c.args.root c.args.at w t u → OnErr c.exchanged.result
-    (NotesSome old t u w (now_of c.args.journal.now) (now_of c.exchanged.new.journal)))
-    (sym c.in-Tree.is)
-    c.exchanged.ensures.some
+pub returns-in-Ok-clause-turned : goal.returns-in-Ok-clause-turned
+returns-in-Ok-clause-turned c =
+    let g = c.args.terms.now in
+    subst (λ (w : What). (t : Term) (u : Place) → MayTurn g c.args.root c.args.at w t u → IsTurned g c.exchanged.new.terms c.args.root c.args.at w t u c.in-Ok.done.root)
+    (sym c.in-Tree.is) c.in-Ok.ensures.turned
+
+pub returns-in-Shown-clause-turned : goal.returns-in-Shown-clause-turned
+returns-in-Shown-clause-turned c =
+    let g = c.args.terms.now in
+    subst (λ (w : What). (t : Term) (u : Place) → MayTurn g c.args.root c.args.at w t u → IsTurned g c.put_marks.new.terms c.args.root c.args.at w t u c.args.root)
+    (sym c.in-Shown.is)
+    (λ t u may.
+    let l = marked_live g c.facts.ensures c.args.root c.args.at c.in-Shown.marks t u may in
+    let e = c.put_marks.ensures in
+    let shape = KeepsShape-part_set (nodes g) (nodes c.put_marks.new.terms) c.args.at _ l (e.set l.node l.found) in
+    marked_turn g c.facts.ensures c.args.root c.args.at c.in-Shown.marks t u may c.put_marks.new.terms c.facts-in-Shown.ensures e.spec e.pool shape e.over e.others e.numbers)

@@ -43,8 +43,9 @@ pub returns-in-SaveText-clause-ok : goal.returns-in-SaveText-clause-ok
 unfolding ask
 returns-in-SaveText-clause-ok g c = λ r given.
     let e = c.args.self.now in
-    subst (λ (x : Command). IfOk c.save_text.result (λ m. Stepped (ask (spec_in e) (height_in e) r (session_in e.kept) x) e m (now_of c.args.journal.now) c.args.replies.now.items c.save_text.new.replies.items (shelf_state (g.S.Shelf.files c.args.shelf.now) (g.S.Shelf.faults c.args.shelf.now) (g.S.Shelf.calls c.args.shelf.now)) (shelf_state (g.S.Shelf.files c.save_text.new.shelf) (g.S.Shelf.faults c.save_text.new.shelf) (g.S.Shelf.calls c.save_text.new.shelf)))) (sym c.in-SaveText.is)
-    (subst (λ (es : List Instance). IfOk c.save_text.result (λ m. Stepped (keeps c.in-SaveText.file (session_in e.kept) (saved_text (spec_in e) (session_in e.kept))) e m es c.args.replies.now.items c.save_text.new.replies.items (shelf_state (g.S.Shelf.files c.args.shelf.now) (g.S.Shelf.faults c.args.shelf.now) (g.S.Shelf.calls c.args.shelf.now)) (shelf_state (g.S.Shelf.files c.save_text.new.shelf) (g.S.Shelf.faults c.save_text.new.shelf) (g.S.Shelf.calls c.save_text.new.shelf)))) (sym c.requires.begun) c.save_text.ensures.ok)
+    subst (λ (z : Editing). IfOk c.save_text.result (λ m. Stepped (ask (spec_in e) (height_in e) r (session_in e.kept) c.args.command.now) z m (now_of c.args.journal.now) c.args.replies.now.items c.save_text.new.replies.items (shelf_state (g.S.Shelf.files c.args.shelf.now) (g.S.Shelf.faults c.args.shelf.now) (g.S.Shelf.calls c.args.shelf.now)) (shelf_state (g.S.Shelf.files c.save_text.new.shelf) (g.S.Shelf.faults c.save_text.new.shelf) (g.S.Shelf.calls c.save_text.new.shelf)))) (sym c.save_text.ensures.same)
+    (subst (λ (x : Command). IfOk c.save_text.result (λ m. Stepped (ask (spec_in e) (height_in e) r (session_in e.kept) x) e m (now_of c.args.journal.now) c.args.replies.now.items c.save_text.new.replies.items (shelf_state (g.S.Shelf.files c.args.shelf.now) (g.S.Shelf.faults c.args.shelf.now) (g.S.Shelf.calls c.args.shelf.now)) (shelf_state (g.S.Shelf.files c.save_text.new.shelf) (g.S.Shelf.faults c.save_text.new.shelf) (g.S.Shelf.calls c.save_text.new.shelf)))) (sym c.in-SaveText.is)
+    (subst (λ (es : List Instance). IfOk c.save_text.result (λ m. Stepped (keeps c.in-SaveText.file (session_in e.kept) (saved_text (spec_in e) (session_in e.kept))) e m es c.args.replies.now.items c.save_text.new.replies.items (shelf_state (g.S.Shelf.files c.args.shelf.now) (g.S.Shelf.faults c.args.shelf.now) (g.S.Shelf.calls c.args.shelf.now)) (shelf_state (g.S.Shelf.files c.save_text.new.shelf) (g.S.Shelf.faults c.save_text.new.shelf) (g.S.Shelf.calls c.save_text.new.shelf)))) (sym c.requires.begun) c.save_text.ensures.ok))
 
 pub returns-in-SaveText-clause-err : goal.returns-in-SaveText-clause-err
 unfolding ask

@@ -1,0 +1,123 @@
+-- Where nodes begin, on pages and after changes.
+use Rattle.std.specs.Prelude.{◌≡◌, refl, ℕ, suc, ◌+◌, ◌-◌, ◌<◌, ◌≤◌, Bool, true, false, cond, bytes_eq, List, [], ◌∷◌, ◌++◌, find, Option, Some, None, option_map, IfSome}
+use Rattle.std.specs.Option.{option_map_or}
+use Rattle.std.proofs.Common.{sym, ap, ◌∙◌, subst, arith}
+use Rattle.std.proofs.lemmas.Option.{none-some, same_Some}
+use Rattle.sg_kinds.specs.Terms.{Term}
+use Rattle.sg_kinds.specs.Places.{Place, put, sub}
+use Rattle.sg_kinds.specs.FromScratch.{value_in}
+use Rattle.sg_kinds.specs.declared.spec.Spec.{Spec}
+use Rattle.sg_kinds.proofs.Elementary.{bytes_is}
+use Rattle.sg_forest.specs.declared.node_id.NodeId.{NodeId}
+use Rattle.sg_forest.specs.Trees.{Climbs, IsLive, IsRoot}
+use Rattle.sg_groves.specs.Evaluated.{IsAtOrBelow}
+use Rattle.sg_groves.specs.Grove.{Grove, nodes, IsGrove}
+use Rattle.sg_groves.specs.Holds.{Holds}
+use Rattle.sg_groves.proofs.Held.{held_fits, one_term, part_held}
+use Rattle.sg_unparse.specs.Along.{IsAlong, node_along, unparsed_in}
+use Rattle.sg_unparse.specs.Begins.{begins_at, begins_in, begins_on, margin_bound}
+use Rattle.sg_unparse.specs.Cells.{Mark, Writes, Closed}
+use Rattle.sg_unparse.specs.Owned.{AreOwned}
+use Rattle.sg_unparse.specs.Page.{Span, Region, all_cells, region_of, span_of, spans_behind}
+use Rattle.sg_unparse.specs.Sheet.{Sheet}
+use Rattle.sg_unparse.specs.Written.{sheet_of}
+use Rattle.sg_unparse.specs.declared.page.Beginning.{Beginning}
+use Rattle.sg_unparse.proofs.Moved.{moved}
+use Rattle.sg_unparse.proofs.Owners.{unparsed_owned}
+use Rattle.sg_unparse.proofs.Placed.{climbs_along}
+use Rattle.sg_unparse.proofs.Told.{page_told, line_told}
+use Rattle.sg_states.specs.Beginnings.{Begins, BeginsAlone, Foretells, WillForetell, foretold, marks_alone}
+use Rattle.sg_states.specs.Paged.{IsForetold, IsWhole, page_seen}
+use Rattle.sg_states.specs.Seen.{first_line, marks_seen, nothing_typed}
+use Rattle.sg_states.specs.declared.begins.Before.{Before}
+use Rattle.sg_states.proofs.Looking.{all_tell, placed_at}
+use Rattle.sg_states.proofs.Righted.{stored_alone}
+use Rattle.sg_states.proofs.Sheeted.{marks_of_term, marks_there}
+
+-- a node above a place is there
+pub climber_live : (g : Grove) (u : Place) (n root : NodeId) → IsRoot (nodes g) root → Climbs (nodes g) u n root → IsLive (nodes g) n
+climber_live g [] n root top same = let here : IsRoot (nodes g) n = subst (IsRoot (nodes g)) (sym same) top in record { node = here.node; found = here.found }
+climber_live g (k ∷ u) n root top climbs = record { node = climbs.1.node; found = climbs.1.found }
+
+-- what begins among owned marks is owned
+found_owned : (p v : Place) (k : ℕ) (marks : List Mark) (s : Span) → AreOwned p marks → find (λ z. bytes_eq z.node v) (spans_behind k marks) ≡ Some s → IsAtOrBelow v p
+found_owned p v k [] s owned at = absurd (none-some s at)
+found_owned p v k (Writes b u ∷ marks) s owned at = found_owned p v (suc k) marks s owned.1 at
+found_owned p v k (Closed u n ∷ marks) s owned at = by (found_owned p v k marks s owned.1) (bytes_eq u v) refl at
+  where
+    here : Span
+    here = record { node = u; from = k - n; to = k }
+
+    by : (find (λ z. bytes_eq z.node v) (spans_behind k marks) ≡ Some s → IsAtOrBelow v p) → (t : Bool) → bytes_eq u v ≡ t
+        → cond t (Some here) (find (λ z. bytes_eq z.node v) (spans_behind k marks)) ≡ Some s → IsAtOrBelow v p
+    by again true same e = subst (λ z. IsAtOrBelow z p) (bytes_is u v same) owned.0
+    by again false same e = again e
+
+begun_owned : (p v : Place) (marks : List Mark) (b : Beginning) → AreOwned p marks → begins_in marks v ≡ Some b → IsAtOrBelow v p
+begun_owned p v marks b owned begins = by (span_of marks v) refl begins
+  where
+    by : (o : Option Span) → span_of marks v ≡ o → option_map (λ (s : Span). begins_at (all_cells marks) s.from) o ≡ Some b → IsAtOrBelow v p
+    by None e h = absurd (none-some b h)
+    by (Some s) e h = found_owned p v 0 marks s owned e
+
+module _ (g : Grove) (is : IsGrove g) (root : NodeId) (t : Term) (whole : IsWhole g root t) where
+  -- by the page of the term
+  pub begun_here : (u : Place) (n : NodeId) (p : Sheet) (b : Beginning) → Climbs (nodes g) u n root → p ≡ page_seen g root t nothing_typed → begins_on p n ≡ Some b → b.cells < 1048576 → Begins g.spec t u b
+  unfolding page_seen
+  begun_here u n p b way page on low =
+      let marks = marks_seen g.spec t nothing_typed in
+      let alone = all_tell g is root t u n (placed_at g is root t whole u n way) marks (marks_there g.spec (value_in g.spec t) nothing_typed t) in
+      record { now = b; there = page_told (node_along g root) n u marks b alone (ap (λ z. begins_on z n) (sym page) ∙ on) low; newlines = refl; cells = omega arith }
+
+  -- by the page of what a node writes alone
+  pub begun_alone : (p v : Place) (x : Term) (above n : NodeId) (s : Sheet) (b : Beginning) → Climbs (nodes g) p above root → Climbs (nodes g) v n root → sub t p ≡ Some x
+      → ((r : NodeId) (u : Place) (y : Term) → IsAlong g r u above y → s ≡ sheet_of (node_along g r) (unparsed_in g r None [] u y 0).0)
+      → begins_on s n ≡ Some b → b.cells < 1048576 → BeginsAlone g.spec t p x v b
+  begun_alone p v x above n s b way to at written on low =
+      let y = part_held g is p above root t way whole.holds in
+      let same : y.0 ≡ x = same_Some y.0 x (sym y.2 ∙ at) in
+      let holds : Holds g above x = subst (Holds g above) same y.1 in
+      let marks = marks_alone g.spec t p x in
+      let right = stored_alone g is root t whole.top whole.holds whole.right whole.top.node.label.phylum (held_fits g is root whole.top.node t whole.top.found whole.holds) whole.free p x at in
+      let sheet : s ≡ sheet_of (node_along g root) marks =
+      written root p x (record { along = climbs_along g is root p above way; holds = holds }) ∙ ap (λ z. sheet_of (node_along g root) z.0) right in
+      let alone = all_tell g is root t v n (placed_at g is root t whole v n to) marks (marks_of_term g.spec (value_in g.spec t) nothing_typed t p x at 0) in
+      let there = page_told (node_along g root) n v marks b alone (ap (λ z. begins_on z n) (sym sheet) ∙ on) low in
+      record { below = begun_owned p v marks b (unparsed_owned g.spec (value_in g.spec t) nothing_typed p x 0) there; there = there }
+
+  -- after a change
+  pub begun_after : (b : Before) (u : Place) (n : NodeId) (to r : Beginning) → IsForetold g root b → Climbs (nodes g) u n root
+      → ((x : Term) (p : Place) → Climbs (nodes g) p b.above root → sub t p ≡ Some x → BeginsAlone g.spec t p x u to) → r ≡ foretold b to → Begins g.spec t u r
+  begun_after b u n to r told way alone is_r =
+      let same : told.term ≡ t = one_term g root told.term t told.whole.holds whole.holds in
+      let tells : Foretells g.spec t told.place b = subst (λ z. Foretells g.spec z told.place b) same told.tells in
+      let y = part_held g is told.place b.above root t told.way whole.holds in
+      subst (Begins g.spec t u) (sym is_r) (tells.tells y.0 u to y.2 (alone y.0 told.place told.way y.2))
+
+-- what is told before a change
+pub will_foretell : (spec : Spec) (t x : Term) (p v : Place) (above : NodeId) (old from : Beginning) (m : ℕ) → sub t p ≡ Some x → Begins spec t v old → BeginsAlone spec t p x v from → m ≡ margin_bound spec t
+    → WillForetell spec t p (record { above = above; old = old; from = from; margin = m })
+will_foretell spec t x p v above old from m at begins alone wide z s some alike = record {
+  tells = λ y w to now there.
+      let new = moved spec (value_in spec t) (value_in spec (put t (z ++ p) s)) t p z s x y v w begins.now from to m some alike at now alone.below there.below begins.there alone.there there.there (omega (arith, wide)) in
+      let most = begins.cells in
+      let lines = begins.newlines in
+      record { now = new.now; there = new.begins; newlines = ap (λ n. (n - from.newlines) + to.newlines) lines ∙ sym new.newlines; cells = (let few = new.cells in omega (arith, most, few)) };
+}
+
+-- the line
+pub line_is : (spec : Spec) (t : Term) (u : Place) (b : Beginning) (line : ℕ) → Begins spec t u b → b.cells ≤ 1048576 → line ≡ b.newlines + 1 → line ≡ first_line spec t u
+unfolding first_line
+line_is spec t u b line begins low is =
+    let most = begins.cells in
+    let lines = begins.newlines in
+    by (region_of (marks_seen spec t nothing_typed) u) (line_told (marks_seen spec t nothing_typed) u begins.now begins.there (omega (arith, low, most)))
+  where
+    by : (o : Option Region) → option_map (λ r. r.first.line) o ≡ Some (1 + begins.now.newlines) → line ≡ option_map_or (λ r. r.first.line) o 1
+    by None e = absurd (none-some (1 + begins.now.newlines) e)
+    by (Some r) e = let same = same_Some r.first.line (1 + begins.now.newlines) e in let lines = begins.newlines in omega (arith, same, lines, is)
+
+-- what holds of some value
+pub if_some : {A : Type 0} (P Q : A → Type 0) (o : Option A) → ((a : A) → P a → Q a) → IfSome o P → IfSome o Q
+if_some P Q None f h = tt
+if_some P Q (Some a) f h = f a h
