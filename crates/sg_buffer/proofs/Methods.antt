@@ -137,6 +137,7 @@ module _ (b v : Held) (view : b ≡ v) (count room : ℕ) (page : Option Sheet) 
         place = selected_place (state_of b);
         whole = is.stands.whole;
         way = is.stands.selected;
+        rests = rests_now b count room page begins is;
         begins = subst (λ o. KeepsBeginning o b.grove.spec (state_of b)) kept is.begins_is;
         counted = is.counted;
       })

@@ -19,8 +19,6 @@ use Rattle.sg_changes.specs.declared.step.Step.{Step}
 use Rattle.sg_changes.specs.declared.step.Step.TheVariants.{Replaced, Marked}
 use Rattle.sg_changes.proofs.Telling.{forth_past, forth_future, forth_undoes}
 use Rattle.sg_undo.specs.Timeline.{Timeline}
-use Rattle.sg_select.specs.RestingPlaces.{settled}
-use Rattle.sg_select.proofs.Settling.{settled_itself}
 use Rattle.sg_unparse.specs.Sheet.{Sheet}
 use Rattle.sg_unparse.specs.declared.page.Beginning.{Beginning}
 use Rattle.sg_states.specs.Selections.{place_in}
@@ -34,7 +32,7 @@ use Rattle.sg_turns.specs.Stepped.{IsStepped, MayStep, seen_after, step_place, r
 use Rattle.sg_turns.specs.Turns.{Notes, NotesSome, comes_out, goes_in, made}
 use Rattle.sg_turns.specs.declared.stepped.Stepped.{Stepped}
 use Rattle.sg_turns.proofs.Hanging.{agree_then, keeps_by, listed_apart, listed_root, roots_alike, times_future, times_past}
-use Rattle.sg_turns.proofs.Stepping.{in_after, made_after, may_mark, may_swap, out_after, part_after, spot_after}
+use Rattle.sg_turns.proofs.Stepping.{HasPlace, in_after, made_after, may_mark, may_swap, out_after, part_after, rests_there, spot_after}
 use Rattle.sg_turns.proofs.Times.{times_append, times_cons, times_same}
 use Rattle.sg_buffer.specs.Gains.{GainedForth, NotedForth, OfFirst}
 use Rattle.sg_buffer.specs.Held.{Held, state_of}
@@ -46,12 +44,13 @@ use Rattle.sg_buffer.proofs.Undoing.{stepped_held}
 -- a step may be done again
 pub may_forth : (g : Grove) → IsGrove g → (root : NodeId) (t : Term) (count : ℕ) → IsWhole g root t → Fits g.spec t g.spec.root → count ≡ nodes_of t → IsSmall t
     → (s : Step) → ((n : NodeId) → times n (hanging s) ≢ 0 → IsRoot (nodes g) n × (n ≢ root)) → HasOld t (future_change (term_at g) t s) → IsProper g.spec (future_change (term_at g) t s) → IsSmall (redone_term t (future_change (term_at g) t s))
-    → MayStep g root t (step_place s) (redoing s) count
-may_forth g is root t count whole fits counted small (Replaced path hangs before after) roots at proper later =
+    → HasPlace (made (term_at g) t (step_place s) (redoing s)) (place_in (seen_after s).selection)
+    → MayStep g root t (step_place s) (redoing s) (seen_after s) count
+may_forth g is root t count whole fits counted small (Replaced path hangs before after) roots at proper later there =
     let top = roots hangs (let e = times_same hangs [] in λ z. absurd (omega (arith, e, z))) in
-    may_swap g is root t (step_place (Replaced path hangs before after)) count whole fits counted small hangs (part_of t (place_of path)) proper.0 top.0 top.1 at proper.1 proper.2 later
-may_forth g is root t count whole fits counted small (Marked path old new before after) roots at proper later =
-    may_mark g is root t (step_place (Marked path old new before after)) count whole fits counted small old new at proper.1 later
+    may_swap g is root t (step_place (Replaced path hangs before after)) after count whole fits counted small hangs (part_of t (place_of path)) proper.0 top.0 top.1 at proper.1 proper.2 later there
+may_forth g is root t count whole fits counted small (Marked path old new before after) roots at proper later there =
+    may_mark g is root t (step_place (Marked path old new before after)) after count whole fits counted small old new at proper.1 later there
 
 module _ (b : Held) (count room : ℕ) (page : Option Sheet) (begins : Option Beginning) (is : IsBuffer b count room page begins) (s : Step) (rest : List Step) (future_is : b.future ≡ s ∷ rest) where
   abbrev st : State
@@ -84,8 +83,19 @@ module _ (b : Held) (count room : ℕ) (page : Option Sheet) (begins : Option Be
       let more : times n (tops b.past (s ∷ rest)) ≢ 0 = λ z. some (omega (arith, e, z)) in
       (listed_root g b.root (tops b.past (s ∷ rest)) roots_now n more, listed_apart g b.root (tops b.past (s ∷ rest)) roots_now n more)
 
-  pub may_redo : MayStep g b.root st.term (step_place s) (redoing s) count
-  may_redo = may_forth g is.stands.grove b.root st.term count is.stands.whole is.stands.fits is.counted is.stands.small s hangs can.stands can.proper can.small
+  made_is : made (term_at g) st.term (step_place s) (redoing s) ≡ redone_term st.term c
+  made_is = made_after (term_at g) st.term s
+
+  -- the spot of the step is one of the term then, so it has that place
+  there_then : HasPlace (made (term_at g) st.term (step_place s) (redoing s)) (place_in (seen_after s).selection)
+  there_then =
+      let t = made (term_at g) st.term (step_place s) (redoing s) in
+      let u = place_in (seen_after s).selection in
+      let spot : is_spot g.spec b.height t (seen_after s) ≡ true = subst (λ z. is_spot g.spec b.height t z ≡ true) (sym (spot_after (term_at g) st.term s)) (subst (λ z. is_spot g.spec b.height z (after_of c) ≡ true) (sym made_is) can.after) in
+      rests_there g.spec t u (selection_rests g.spec t u (seen_after s).selection.count (spot_selects g.spec b.height t (seen_after s) spot))
+
+  pub may_redo : MayStep g b.root st.term (step_place s) (redoing s) (seen_after s) count
+  may_redo = may_forth g is.stands.grove b.root st.term count is.stands.whole is.stands.fits is.counted is.stands.small s hangs can.stands can.proper can.small there_then
 
   roots_split : AreTheRoots g (b.root ∷ (goes_in (redoing s) ++ tops b.past rest))
   roots_split = roots_alike g (b.root ∷ tops b.past (s ∷ rest)) (b.root ∷ (goes_in (redoing s) ++ tops b.past rest)) same roots_now
@@ -107,9 +117,6 @@ module _ (b : Held) (count room : ℕ) (page : Option Sheet) (begins : Option Be
     abbrev now : Term
     now = redone_term st.term c
 
-    made_is : made (term_at g) st.term (step_place s) (redoing s) ≡ now
-    made_is = made_after (term_at g) st.term s
-
     agree : Agree (term_at g) (term_at new) (tops b.past rest)
     agree = agree_then g new is.stands.grove on b.root (goes_in (redoing s)) (tops b.past rest) roots_split (keeps_by g new b.root (redoing s) stepped.turned.hanging)
 
@@ -119,14 +126,8 @@ module _ (b : Held) (count room : ℕ) (page : Option Sheet) (begins : Option Be
     whole : IsWhole new r.root now
     whole = subst (IsWhole new r.root) made_is stepped.turned.whole
 
-    -- the spot of the step is one of the term then, so it is settled there
     selected : Climbs (nodes new) (place_in (after_of c).selection) r.selected r.root
-    selected =
-        let t = made (term_at g) st.term (step_place s) (redoing s) in
-        let u = place_in (seen_after s).selection in
-        let spot : is_spot g.spec b.height t (seen_after s) ≡ true = subst (λ z. is_spot g.spec b.height t z ≡ true) (sym (spot_after (term_at g) st.term s)) (subst (λ z. is_spot g.spec b.height z (after_of c) ≡ true) (sym made_is) can.after) in
-        subst (λ (z : Spot). Climbs (nodes new) (place_in z.selection) r.selected r.root) (spot_after (term_at g) st.term s)
-        (subst (λ z. Climbs (nodes new) z r.selected r.root) (ap (λ (z : Spec). settled z t u) spec ∙ settled_itself g.spec t u (selection_rests g.spec t u (seen_after s).selection.count (spot_selects g.spec b.height t (seen_after s) spot))) stepped.selected)
+    selected = subst (λ (z : Spot). Climbs (nodes new) (place_in z.selection) r.selected r.root) (spot_after (term_at g) st.term s) stepped.selected
 
     roots_then : AreTheRoots new (r.root ∷ tops (hung s r.out ∷ b.past) rest)
     roots_then = roots_alike new (r.root ∷ (comes_out (redoing s) r.out ++ tops b.past rest)) (r.root ∷ tops (hung s r.out ∷ b.past) rest) same (stepped.turned.roots (tops b.past rest) roots_split)
@@ -197,7 +198,7 @@ module _ (b v : Held) (view : b ≡ v) (count room : ℕ) (page : Option Sheet) 
         no_cons x xs = cc
 
     pub redone_here : v.capture ≡ None → (new : Grove) → IsGrove new → new.spec ≡ b.grove.spec → (r : Stepped)
-        → ((t : Term) → MayStep b.grove b.root t (step_place s) (redoing s) count → IsStepped b.grove new b.root t (step_place s) (redoing s) (seen_after s) r)
+        → ((t : Term) → MayStep b.grove b.root t (step_place s) (redoing s) (seen_after s) count → IsStepped b.grove new b.root t (step_place s) (redoing s) (seen_after s) r)
         → (h : Timeline Step) → h.past ≡ hung s r.out ∷ b.past → h.future ≡ rest → h.room ≡ room
         → IsBuffer (stepped_held b new r h.past h.future) r.nodes h.room None None × (state_of (stepped_held b new r h.past h.future) ≡ redone (state_of v))
     redone_here none new on spec r stepped h past future room_is =
@@ -210,7 +211,7 @@ module _ (b v : Held) (view : b ≡ v) (count room : ℕ) (page : Option Sheet) 
         )
 
     pub gained_here : (new : Grove) (root : NodeId) (was now : List Instance)
-        → ((t : Term) → MayStep b.grove b.root t (step_place s) (redoing s) count → Notes b.grove new root t (step_place s) (redoing s) was now)
+        → ((t : Term) → MayStep b.grove b.root t (step_place s) (redoing s) (seen_after s) count → Notes b.grove new root t (step_place s) (redoing s) was now)
         → OfFirst (state_of v).future (GainedForth v.grove.spec (state_of v).term was now new root)
     gained_here new root was now notes =
         subst (λ (z : Held). OfFirst (state_of z).future (GainedForth z.grove.spec (state_of z).term was now new root)) view
@@ -218,7 +219,7 @@ module _ (b v : Held) (view : b ≡ v) (count room : ℕ) (page : Option Sheet) 
         (gained_forth b.grove new root (state_of b).term s was now (notes (state_of b).term (may_redo b count room page begins is s rest future_is))))
 
     pub noted_here : (was now : List Instance)
-        → ((t : Term) → MayStep b.grove b.root t (step_place s) (redoing s) count → NotesSome b.grove t (step_place s) (redoing s) was now)
+        → ((t : Term) → MayStep b.grove b.root t (step_place s) (redoing s) (seen_after s) count → NotesSome b.grove t (step_place s) (redoing s) was now)
         → OfFirst (state_of v).future (NotedForth v.grove.spec (state_of v).term was now)
     noted_here was now notes =
         subst (λ (z : Held). OfFirst (state_of z).future (NotedForth z.grove.spec (state_of z).term was now)) view

@@ -20,8 +20,6 @@ use Rattle.sg_changes.specs.declared.step.Step.{Step}
 use Rattle.sg_changes.specs.declared.step.Step.TheVariants.{Replaced, Marked}
 use Rattle.sg_changes.proofs.Telling.{back_future, back_past, back_redoes}
 use Rattle.sg_undo.specs.Timeline.{Timeline}
-use Rattle.sg_select.specs.RestingPlaces.{settled}
-use Rattle.sg_select.proofs.Settling.{settled_itself}
 use Rattle.sg_unparse.specs.Sheet.{Sheet}
 use Rattle.sg_unparse.specs.declared.page.Beginning.{Beginning}
 use Rattle.sg_states.specs.Selections.{place_in}
@@ -35,7 +33,7 @@ use Rattle.sg_turns.specs.Stepped.{IsStepped, MayStep, seen_before, step_place, 
 use Rattle.sg_turns.specs.Turns.{Notes, NotesSome, comes_out, goes_in, made}
 use Rattle.sg_turns.specs.declared.stepped.Stepped.{Stepped}
 use Rattle.sg_turns.proofs.Hanging.{agree_then, keeps_by, listed_apart, listed_root, roots_alike, times_future, times_past}
-use Rattle.sg_turns.proofs.Stepping.{in_before, made_before, may_mark, may_swap, out_before, part_before, spot_before}
+use Rattle.sg_turns.proofs.Stepping.{HasPlace, in_before, made_before, may_mark, may_swap, out_before, part_before, rests_there, spot_before}
 use Rattle.sg_turns.proofs.Times.{times_append, times_cons, times_same}
 use Rattle.sg_buffer.specs.Gains.{GainedBack, NotedBack, OfFirst}
 use Rattle.sg_buffer.specs.Held.{Held, state_of}
@@ -73,12 +71,13 @@ no_step (x ∷ ss) e = absurd (none-some x e)
 -- a step may be undone
 pub may_back : (g : Grove) → IsGrove g → (root : NodeId) (t : Term) (count : ℕ) → IsWhole g root t → Fits g.spec t g.spec.root → count ≡ nodes_of t → IsSmall t
     → (s : Step) → ((n : NodeId) → times n (hanging s) ≢ 0 → IsRoot (nodes g) n × (n ≢ root)) → HasNew t (past_change (term_at g) t s) → IsProper g.spec (past_change (term_at g) t s) → IsSmall (undone_term t (past_change (term_at g) t s))
-    → MayStep g root t (step_place s) (undoing s) count
-may_back g is root t count whole fits counted small (Replaced path hangs before after) roots at proper later =
+    → HasPlace (made (term_at g) t (step_place s) (undoing s)) (place_in (seen_before s).selection)
+    → MayStep g root t (step_place s) (undoing s) (seen_before s) count
+may_back g is root t count whole fits counted small (Replaced path hangs before after) roots at proper later there =
     let top = roots hangs (let e = times_same hangs [] in λ z. absurd (omega (arith, e, z))) in
-    may_swap g is root t (step_place (Replaced path hangs before after)) count whole fits counted small hangs (part_of t (place_of path)) proper.0 top.0 top.1 at proper.2 proper.1 later
-may_back g is root t count whole fits counted small (Marked path old new before after) roots at proper later =
-    may_mark g is root t (step_place (Marked path old new before after)) count whole fits counted small new old at proper.0 later
+    may_swap g is root t (step_place (Replaced path hangs before after)) before count whole fits counted small hangs (part_of t (place_of path)) proper.0 top.0 top.1 at proper.2 proper.1 later there
+may_back g is root t count whole fits counted small (Marked path old new before after) roots at proper later there =
+    may_mark g is root t (step_place (Marked path old new before after)) before count whole fits counted small new old at proper.0 later there
 
 module _ (b : Held) (count room : ℕ) (page : Option Sheet) (begins : Option Beginning) (is : IsBuffer b count room page begins) (s : Step) (rest : List Step) (past_is : b.past ≡ s ∷ rest) where
   abbrev st : State
@@ -111,8 +110,19 @@ module _ (b : Held) (count room : ℕ) (page : Option Sheet) (begins : Option Be
       let more : times n (tops (s ∷ rest) b.future) ≢ 0 = λ z. some (omega (arith, e, z)) in
       (listed_root g b.root (tops (s ∷ rest) b.future) roots_now n more, listed_apart g b.root (tops (s ∷ rest) b.future) roots_now n more)
 
-  pub may_undo : MayStep g b.root st.term (step_place s) (undoing s) count
-  may_undo = may_back g is.stands.grove b.root st.term count is.stands.whole is.stands.fits is.counted is.stands.small s hangs can.stands can.proper can.small
+  made_is : made (term_at g) st.term (step_place s) (undoing s) ≡ undone_term st.term c
+  made_is = made_before (term_at g) st.term s
+
+  -- the spot of the step is one of the term then, so it has that place
+  there_then : HasPlace (made (term_at g) st.term (step_place s) (undoing s)) (place_in (seen_before s).selection)
+  there_then =
+      let t = made (term_at g) st.term (step_place s) (undoing s) in
+      let u = place_in (seen_before s).selection in
+      let spot : is_spot g.spec b.height t (seen_before s) ≡ true = subst (λ z. is_spot g.spec b.height t z ≡ true) (sym (spot_before (term_at g) st.term s)) (subst (λ z. is_spot g.spec b.height z (before_of c) ≡ true) (sym made_is) can.before) in
+      rests_there g.spec t u (selection_rests g.spec t u (seen_before s).selection.count (spot_selects g.spec b.height t (seen_before s) spot))
+
+  pub may_undo : MayStep g b.root st.term (step_place s) (undoing s) (seen_before s) count
+  may_undo = may_back g is.stands.grove b.root st.term count is.stands.whole is.stands.fits is.counted is.stands.small s hangs can.stands can.proper can.small there_then
 
   roots_split : AreTheRoots g (b.root ∷ (goes_in (undoing s) ++ tops rest b.future))
   roots_split = roots_alike g (b.root ∷ tops (s ∷ rest) b.future) (b.root ∷ (goes_in (undoing s) ++ tops rest b.future)) same roots_now
@@ -134,9 +144,6 @@ module _ (b : Held) (count room : ℕ) (page : Option Sheet) (begins : Option Be
     abbrev now : Term
     now = undone_term st.term c
 
-    made_is : made (term_at g) st.term (step_place s) (undoing s) ≡ now
-    made_is = made_before (term_at g) st.term s
-
     agree : Agree (term_at g) (term_at new) (tops rest b.future)
     agree = agree_then g new is.stands.grove on b.root (goes_in (undoing s)) (tops rest b.future) roots_split (keeps_by g new b.root (undoing s) stepped.turned.hanging)
 
@@ -146,14 +153,8 @@ module _ (b : Held) (count room : ℕ) (page : Option Sheet) (begins : Option Be
     whole : IsWhole new r.root now
     whole = subst (IsWhole new r.root) made_is stepped.turned.whole
 
-    -- the spot of the step is one of the term then, so it is settled there
     selected : Climbs (nodes new) (place_in (before_of c).selection) r.selected r.root
-    selected =
-        let t = made (term_at g) st.term (step_place s) (undoing s) in
-        let u = place_in (seen_before s).selection in
-        let spot : is_spot g.spec b.height t (seen_before s) ≡ true = subst (λ z. is_spot g.spec b.height t z ≡ true) (sym (spot_before (term_at g) st.term s)) (subst (λ z. is_spot g.spec b.height z (before_of c) ≡ true) (sym made_is) can.before) in
-        subst (λ (z : Spot). Climbs (nodes new) (place_in z.selection) r.selected r.root) (spot_before (term_at g) st.term s)
-        (subst (λ z. Climbs (nodes new) z r.selected r.root) (ap (λ (z : Spec). settled z t u) spec ∙ settled_itself g.spec t u (selection_rests g.spec t u (seen_before s).selection.count (spot_selects g.spec b.height t (seen_before s) spot))) stepped.selected)
+    selected = subst (λ (z : Spot). Climbs (nodes new) (place_in z.selection) r.selected r.root) (spot_before (term_at g) st.term s) stepped.selected
 
     roots_then : AreTheRoots new (r.root ∷ tops rest (hung s r.out ∷ b.future))
     roots_then = roots_alike new (r.root ∷ (comes_out (undoing s) r.out ++ tops rest b.future)) (r.root ∷ tops rest (hung s r.out ∷ b.future)) same (stepped.turned.roots (tops rest b.future) roots_split)
@@ -224,7 +225,7 @@ module _ (b v : Held) (view : b ≡ v) (count room : ℕ) (page : Option Sheet) 
         no_cons x xs = cc
 
     pub undone_here : v.capture ≡ None → (new : Grove) → IsGrove new → new.spec ≡ b.grove.spec → (r : Stepped)
-        → ((t : Term) → MayStep b.grove b.root t (step_place s) (undoing s) count → IsStepped b.grove new b.root t (step_place s) (undoing s) (seen_before s) r)
+        → ((t : Term) → MayStep b.grove b.root t (step_place s) (undoing s) (seen_before s) count → IsStepped b.grove new b.root t (step_place s) (undoing s) (seen_before s) r)
         → (h : Timeline Step) → h.past ≡ rest → h.future ≡ hung s r.out ∷ b.future → h.room ≡ room
         → IsBuffer (stepped_held b new r h.past h.future) r.nodes h.room None None × (state_of (stepped_held b new r h.past h.future) ≡ undone (state_of v))
     undone_here none new on spec r stepped h past future room_is =
@@ -237,7 +238,7 @@ module _ (b v : Held) (view : b ≡ v) (count room : ℕ) (page : Option Sheet) 
         )
 
     pub gained_here : (new : Grove) (root : NodeId) (was now : List Instance)
-        → ((t : Term) → MayStep b.grove b.root t (step_place s) (undoing s) count → Notes b.grove new root t (step_place s) (undoing s) was now)
+        → ((t : Term) → MayStep b.grove b.root t (step_place s) (undoing s) (seen_before s) count → Notes b.grove new root t (step_place s) (undoing s) was now)
         → OfFirst (state_of v).past (GainedBack v.grove.spec (state_of v).term was now new root)
     gained_here new root was now notes =
         subst (λ (z : Held). OfFirst (state_of z).past (GainedBack z.grove.spec (state_of z).term was now new root)) view
@@ -245,7 +246,7 @@ module _ (b v : Held) (view : b ≡ v) (count room : ℕ) (page : Option Sheet) 
         (gained_back b.grove new root (state_of b).term s was now (notes (state_of b).term (may_undo b count room page begins is s rest past_is))))
 
     pub noted_here : (was now : List Instance)
-        → ((t : Term) → MayStep b.grove b.root t (step_place s) (undoing s) count → NotesSome b.grove t (step_place s) (undoing s) was now)
+        → ((t : Term) → MayStep b.grove b.root t (step_place s) (undoing s) (seen_before s) count → NotesSome b.grove t (step_place s) (undoing s) was now)
         → OfFirst (state_of v).past (NotedBack v.grove.spec (state_of v).term was now)
     noted_here was now notes =
         subst (λ (z : Held). OfFirst (state_of z).past (NotedBack z.grove.spec (state_of z).term was now)) view

@@ -24,13 +24,10 @@ pub enum Choice {
     Put { at: Path, term: Term, select: Path },
 }
 
-// the path of a node, or of its first child
-fn path_below(alloc: Global, terms: &Terms, n: NodeId, first: bool) -> Result<Path, NoMemory>
-    requires { IsLive (nodes terms.now) n }
-    ensures { IfOk result (λ path. (root : _) (t : IsTerm) (u : Place) → IsPlaced terms.now root t u n
-        → place_of path ≡ (if first then 0 ∷ u else u)) }
+// a path, or that of the first child there
+fn path_below(path: Path, first: bool) -> Result<Path, NoMemory>
+    ensures { IfOk result (λ below. place_of below ≡ (if first then 0 ∷ place_of path else place_of path)) }
 {
-    let path = path_of(alloc, terms, n)?;
     if !first {
         return Ok(path);
     }
@@ -53,7 +50,16 @@ pub fn put(
     ensures { IfOk result (λ c. (root : _) (t : IsTerm) (u v : Place) → IsPlaced terms.now root t u at
         → IsPlaced terms.now root t v select → choice_of c ≡ Put u term (if first then 0 ∷ v else v)) }
 {
-    let select = path_below(alloc, terms, select, first)?;
-    let at = path_of(alloc, terms, at)?;
-    Ok(Choice::Put { at, term, select })
+    let place = path_of(alloc, terms, at)?;
+    let path = if at == select {
+        place.copy(alloc)?
+    } else {
+        path_of(alloc, terms, select)?
+    };
+    let select = path_below(path, first)?;
+    Ok(Choice::Put {
+        at: place,
+        term,
+        select,
+    })
 }

@@ -1,7 +1,7 @@
 -- The nearest resting place above a place, by a walk up that keeps the lowest good one met.
-use Rattle.std.specs.Prelude.{◌≡◌, ◌↔◌, refl, ℕ, Bool, true, false, ◌&&◌, cond, [], ◌∷◌, Option, Some, None, is_some, unwrap_or, option_map, nat_eq}
+use Rattle.std.specs.Prelude.{◌≡◌, ◌↔◌, ◌⊎◌, IsTrue, refl, ℕ, Bool, true, false, ◌&&◌, cond, [], ◌∷◌, Option, Some, None, is_some, unwrap_or, option_map, nat_eq}
 use Rattle.std.specs.List.{find}
-use Rattle.std.proofs.Common.{sym, ap, ◌∙◌, subst}
+use Rattle.std.proofs.Common.{sym, ap, ◌∙◌, subst, inl, inr}
 use Rattle.std.proofs.lemmas.Bool.{false≢true}
 use Rattle.sg_kinds.proofs.Elementary.{eq_is, eq_itself}
 use Rattle.sg_kinds.specs.Terms.{Term}
@@ -13,8 +13,9 @@ use Rattle.sg_forest.specs.Trees.{Climbs}
 use Rattle.sg_groves.specs.Grove.{Grove, nodes, IsGrove}
 use Rattle.sg_groves.specs.Holds.{IsPlaced}
 use Rattle.sg_groves.proofs.Ways.{one_node, one_way}
-use Rattle.sg_select.specs.Leads.{LeadsTo}
-use Rattle.sg_select.proofs.Climbing.{Knows}
+use Rattle.sg_select.specs.Leads.{IsOpenAt, LeadsTo}
+use Rattle.sg_select.proofs.Climbing.{IsStep, Knows}
+use Rattle.sg_select.proofs.Around.{reached_from}
 use Rattle.sg_select.specs.Kept.{IsKept, nearest, or_kept}
 use Rattle.sg_select.proofs.Within.{open_child, rests_child, closed_rests}
 
@@ -137,6 +138,35 @@ settled_at g root at t u kept h top = by kept h.place h.leads h.known
     by None (Some v) leads known = absurd leads
     by (Some m) None leads known = absurd leads
     by (Some m) (Some v) leads known = subst (λ z. Climbs (nodes g) z m root) (sym (settled_kept g.spec t u v known)) leads
+
+-- where the place of a walk can be reached, what is kept is settled
+pub settled_met : (g : Grove) (root m : NodeId) (t : Term) (u w : Place) (kept : Option NodeId) → IsKeeping g root t u w kept → kept ≡ Some m → is_open g.spec t w ≡ true
+    → Climbs (nodes g) (settled g.spec t u) m root
+settled_met g root m t u w kept h is way = by h.place (subst (LeadsTo g root h.place) is h.leads) h.known
+  where
+    by : (o : Option Place) → LeadsTo g root o (Some m) → IsKept g.spec t u w o → Climbs (nodes g) (settled g.spec t u) m root
+    by None leads known = absurd leads
+    by (Some v) leads known = subst (λ z. Climbs (nodes g) z m root) (sym (ap (λ o. unwrap_or o []) (known.reached way))) leads
+
+-- a walk that met a node which can be reached is at a place that can be
+pub record HasMet (g : Grove) (kept : Option NodeId) (met : Bool) (n root : NodeId) (t : Term) (u w : Place) : Type 0 where
+  pub keeps : IsKeeping g root t u w kept
+  pub way : IsOpenAt g root t n → met ≡ true → is_open g.spec t w ≡ true
+
+abbrev pub Meets : Grove → Option NodeId → Bool → NodeId → Knows
+Meets g kept met n root t u w = HasMet g kept met n root t u w
+
+pub met_here : (g : Grove) (root n at : NodeId) (t : Term) (u w : Place) (kept : Option NodeId) (met now : Bool) → Climbs (nodes g) w at root → HasMet g kept met n root t u w
+    → (IsTrue now → IsTrue met ⊎ (at ≡ n)) → IsOpenAt g root t n → now ≡ true → is_open g.spec t w ≡ true
+met_here g root n at t u w kept met now here h either reached on = elim (either on) [
+  | inl was ↦ h.way reached was
+  | inr same ↦ reached w (subst (λ z. Climbs (nodes g) w z root) same here)
+]
+
+pub met_up : (g : Grove) (root n at p : NodeId) (t : Term) (u w : Place) (k : ℕ) (x y : Term) (kept : Option NodeId) (met now : Bool) → IsStep g root t k w p at x y → HasMet g kept met n root t u (k ∷ w)
+    → (IsTrue now → IsTrue met ⊎ (at ≡ n)) → IsOpenAt g root t n → now ≡ true → is_open g.spec t w ≡ true
+met_up g root n at p t u w k x y kept met now s h either reached on =
+    (reached_from g.spec t k w x s.there (met_here g root n at t u (k ∷ w) kept met now s.below.way h either reached on)).way
 
 -- a node is where its walk settles exactly where it rests
 pub itself_rests : (g : Grove) → IsGrove g → (root n m : NodeId) (t : Term) (u : Place) → IsPlaced g root t u n → Climbs (nodes g) (settled g.spec t u) m root

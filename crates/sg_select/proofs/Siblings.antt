@@ -7,7 +7,7 @@ use Rattle.std.proofs.lemmas.Option.{none-some, same_Some}
 use Rattle.sg_kinds.specs.Terms.{Term}
 use Rattle.sg_kinds.specs.Places.{Place, sub, places_in}
 use Rattle.sg_kinds.specs.declared.spec.Spec.{Spec}
-use Rattle.sg_kinds.proofs.Elementary.{bytes_is, bytes_itself}
+use Rattle.sg_kinds.proofs.Elementary.{bytes_itself}
 use Rattle.sg_groves.specs.Evaluated.{IsAtOrBelow, is_at_or_below}
 use Rattle.sg_groves.proofs.Below.{below_from, below_to, below_itself}
 use Rattle.sg_groves.proofs.Lists.{contains_first, contains_later, contains_none, contains_either, filter_from}

@@ -10,6 +10,6 @@ mod runs;
 mod schemes;
 
 pub use cells::at_cell;
-pub use moves::{first, next, prev, rests, settle, sibling, up};
-pub use paths::{node_along, path_of, settle_path};
+pub use moves::{first, next, prev, rests, settle, settle_below, sibling, up};
+pub use paths::{node_along, path_of, settle_path, settle_path_below};
 pub use runs::{elements_from, spine_of};

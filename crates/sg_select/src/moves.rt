@@ -1,5 +1,5 @@
 // The moves from one resting place to another.
-ghost use Rattle.std.specs.Prelude.{◌≡◌, ◌∷◌, IfSome, None, Option, slice_get, true};
+ghost use Rattle.std.specs.Prelude.{◌≡◌, ◌∷◌, ◌⊎◌, IfSome, IsTrue, None, Option, Some, slice_get, true};
 ghost use Rattle.sg_kinds.specs.Places.{Place};
 ghost use Rattle.sg_kinds.specs.Terms.{Term};
 ghost use Rattle.sg_forest.specs.Trees.{Climbs, IsChild, IsLive};
@@ -7,7 +7,7 @@ ghost use Rattle.sg_groves.specs.Grove.{nodes};
 ghost use Rattle.sg_groves.specs.Holds.{IsPlaced};
 ghost use Rattle.sg_select.specs.Around.{after};
 ghost use Rattle.sg_select.specs.Kept.{IsKept};
-ghost use Rattle.sg_select.specs.Leads.{LeadsTo};
+ghost use Rattle.sg_select.specs.Leads.{IsOpenAt, LeadsTo};
 ghost use Rattle.sg_select.specs.RestingPlaces.{is_open as reaches, rests as rests_there, settled, next_from, prev_from, up_from, first_from as first_below, sibling_from};
 
 use crate::inside::{first_from, first_inside, last_before};
@@ -91,6 +91,43 @@ pub fn settle(terms: &Terms, n: NodeId) -> NodeId
         at = above;
     }
     kept.unwrap_or(at)
+}
+
+// whether a walk up has come to a node, once it is at another
+fn has_met(met: bool, at: NodeId, n: NodeId) -> bool
+    ensures { IsTrue result → IsTrue met ⊎ (at ≡ n) }
+{
+    met || at == n
+}
+
+// what is kept, where the walk has met what it looks for
+fn kept_if(met: bool, kept: Option<NodeId>) -> Option<NodeId>
+    ensures { IfSome result (λ n. IsTrue met × (kept ≡ Some n)) }
+{
+    if met { kept } else { None }
+}
+
+/// The nearest resting place at or above a node; the root is one. From another node on, which can be reached, the first
+/// one kept is it.
+pub fn settle_below(terms: &Terms, n: NodeId, reached: NodeId) -> NodeId
+    requires { IsLive (nodes terms.now) n }
+    ensures live { IsLive (nodes terms.now) result }
+    ensures settled { (root : _) (t : Term) (u : Place) → IsPlaced terms.now root t u n
+        → IsOpenAt terms.now root t reached → Climbs (nodes terms.now) (settled terms.now.spec t u) result root }
+{
+    terms.facts();
+    let mut nearest: Option<NodeId> = None;
+    let mut met = false;
+    let mut at = n;
+    while let Some((above, k)) = terms.parent(at) {
+        met = has_met(met, at, reached);
+        if let Some(found) = kept_if(met, nearest) {
+            return found;
+        }
+        nearest = kept_over(terms, above, k, at, nearest);
+        at = above;
+    }
+    nearest.unwrap_or(at)
 }
 
 /// Whether a node is a resting place.

@@ -1,16 +1,16 @@
 // Where paths from a root lead.
-ghost use Rattle.std.specs.Prelude.{◌≡◌, IfOk, IfSome, false};
+ghost use Rattle.std.specs.Prelude.{◌≡◌, IfOk, IfSome, IsTrue, false};
 ghost use Rattle.sg_kinds.specs.Places.{Place, place_of};
 ghost use Rattle.sg_kinds.specs.Terms.{Term};
 ghost use Rattle.sg_forest.specs.Trees.{Climbs, IsLive, IsRoot};
 ghost use Rattle.sg_groves.specs.Grove.{nodes};
 ghost use Rattle.sg_groves.specs.Holds.{Holds, IsPlaced};
-ghost use Rattle.sg_select.specs.Leads.{LeadsTo};
+ghost use Rattle.sg_select.specs.Leads.{IsOpenAt, LeadsTo};
 ghost use Rattle.sg_select.specs.Paths.{GoesTo, there};
 ghost use Rattle.sg_select.specs.RestingPlaces.{settled};
 
 use crate::inside::kid_count;
-use crate::moves::settle;
+use crate::moves::{settle, settle_below};
 use sg_forest::NodeId;
 use sg_kinds::memory::NoMemory;
 use sg_kinds::row::{Path, Row};
@@ -55,6 +55,47 @@ pub fn settle_path(terms: &Terms, root: NodeId, path: &[u32]) -> NodeId
         → Climbs (nodes terms.now) (settled terms.now.spec t (place_of path.now)) result root }
 {
     settle(terms, deepest(terms, root, path).0)
+}
+
+// the nearest resting place at or above a node, with another that can be reached, where one is told
+fn settle_from(terms: &Terms, n: NodeId, reached: Option<NodeId>) -> NodeId
+    requires { IsLive (nodes terms.now) n }
+    ensures live { IsLive (nodes terms.now) result }
+    ensures settled { (root : _) (t : Term) (u : Place) → IsPlaced terms.now root t u n
+        → IfSome reached (IsOpenAt terms.now root t)
+        → Climbs (nodes terms.now) (settled terms.now.spec t u) result root }
+{
+    match reached {
+        Some(reached) => settle_below(terms, n, reached),
+        None => settle(terms, n),
+    }
+}
+
+// whether a whole path led to a node that rests
+fn stays(is_whole: bool, to: NodeId, n: NodeId) -> bool
+    ensures { IsTrue result → IsTrue is_whole × (n ≡ to) }
+{
+    is_whole && n == to
+}
+
+/// The nearest resting place at or above the place that a path names, and whether it is that place. What is above a
+/// node that can be reached need not be seen, where one is told.
+pub fn settle_path_below(
+    terms: &Terms,
+    root: NodeId,
+    path: &[u32],
+    reached: Option<NodeId>,
+) -> (NodeId, bool)
+    requires { IsRoot (nodes terms.now) root }
+    ensures live { IsLive (nodes terms.now) result.0 }
+    ensures settled { (t : Term) → Holds terms.now root t → IfSome reached (IsOpenAt terms.now root t)
+        → Climbs (nodes terms.now) (settled terms.now.spec t (place_of path.now)) result.0 root }
+    ensures there { (t : Term) → Holds terms.now root t → IsTrue result.1
+        → Climbs (nodes terms.now) (place_of path.now) result.0 root }
+{
+    let (n, is_whole) = deepest(terms, root, path);
+    let to = settle_from(terms, n, reached);
+    (to, stays(is_whole, to, n))
 }
 
 /// The path of a node from its root, the one call here that takes memory.

@@ -14,6 +14,9 @@ use Rattle.sg_groves.specs.Evaluated.{IsAtOrBelow}
 use Rattle.sg_groves.specs.Grove.{Grove, nodes, IsGrove}
 use Rattle.sg_groves.specs.Holds.{Holds}
 use Rattle.sg_groves.proofs.Held.{held_fits, one_term, part_held}
+use Rattle.sg_groves.proofs.Ways.{one_way}
+use Rattle.sg_select.specs.Leads.{IsOpenAt}
+use Rattle.sg_select.specs.RestingPlaces.{is_open}
 use Rattle.sg_unparse.specs.Along.{IsAlong, node_along, unparsed_in}
 use Rattle.sg_unparse.specs.Begins.{begins_at, begins_in, begins_on, margin_bound}
 use Rattle.sg_unparse.specs.Cells.{Mark, Writes, Closed}
@@ -84,6 +87,17 @@ module _ (g : Grove) (is : IsGrove g) (root : NodeId) (t : Term) (whole : IsWhol
       let alone = all_tell g is root t v n (placed_at g is root t whole v n to) marks (marks_of_term g.spec (value_in g.spec t) nothing_typed t p x at 0) in
       let there = page_told (node_along g root) n v marks b alone (ap (λ z. begins_on z n) (sym sheet) ∙ on) low in
       record { below = begun_owned p v marks b (unparsed_owned g.spec (value_in g.spec t) nothing_typed p x 0) there; there = there }
+
+  -- the node above a change can be reached
+  above_open : (b : Before) → IsForetold g root b → IsOpenAt g root t b.above
+  above_open b told p way =
+      let same : told.term ≡ t = one_term g root told.term t told.whole.holds whole.holds in
+      let place : p ≡ told.place = (one_way g is p told.place b.above root root whole.top whole.top way told.way).0 in
+      subst (λ z. is_open g.spec z p ≡ true) same (subst (λ z. is_open g.spec told.term z ≡ true) (sym place) told.reached)
+
+  pub all_open : (o : Option Before) → IfSome o (IsForetold g root) → IfSome (option_map (λ (b : Before). b.above) o) (IsOpenAt g root t)
+  all_open None h = tt
+  all_open (Some b) h = above_open b h
 
   -- after a change
   pub begun_after : (b : Before) (u : Place) (n : NodeId) (to r : Beginning) → IsForetold g root b → Climbs (nodes g) u n root

@@ -1,5 +1,5 @@
 -- What is seen of a held term is what the definitions say of the term.
-use Rattle.std.specs.Prelude.{◌≡◌, ◌↔◌, refl, ℕ, zero, suc, ◌<◌, ◌≤◌, Bool, true, false, not, ◌&&◌, ◌||◌, ◌==◌, cond, if◌then◌else◌, nat_eq, nat_le, nat_lt, min, bytes_eq, List, [], ◌∷◌, Option, Some, None, IfSome, IsTrue, option_map}
+use Rattle.std.specs.Prelude.{◌≡◌, ◌↔◌, refl, ℕ, zero, suc, ◌<◌, ◌≤◌, Bool, true, false, not, ◌&&◌, ◌||◌, ◌==◌, cond, if◌then◌else◌, nat_eq, nat_le, nat_lt, min, bytes_eq, List, [], ◌∷◌, Option, Some, None, Result, Ok, Err, IfOk, IfSome, IsTrue, option_map}
 use Rattle.std.specs.Option.{option_map_or}
 use Rattle.std.specs.List.{AllByRecursion}
 use Rattle.std.proofs.Common.{sym, ap, ◌∙◌, subst, arith}
@@ -162,15 +162,24 @@ module _ (g : Grove) (is : IsGrove g) (root : NodeId) (t : Term) where
         (λ e. absurd (none-some (place_of path) (sym none ∙ ap (option_map (λ _. place_of path)) (ap (sub t) (sym e) ∙ s.2)))),
       )
 
+  -- the path of a node is that which leads to it
+  pub path_copied : {E : Type 0} (path : List ℕ) (n : NodeId) (u : Place) (r : Result (List ℕ) E) → IfOk r (λ p. p ≡ path) → IsPlaced g root t u n → Climbs (nodes g) (place_of path) n root → IfOk r (λ p. place_of p ≡ u)
+  path_copied path n u (Err e) h placed way = tt
+  path_copied path n u (Ok p) h placed way = ap place_of h ∙ (one_way g is (place_of path) u n root root placed.top placed.top way placed.way).0
+
+  pub path_climbed : {E : Type 0} (n : NodeId) (u : Place) (r : Result (List ℕ) E) → IfOk r (λ p. (root : NodeId) (t : Term) (u : Place) → IsPlaced g root t u n → place_of p ≡ u) → IsPlaced g root t u n → IfOk r (λ p. place_of p ≡ u)
+  path_climbed n u (Err e) h placed = tt
+  path_climbed n u (Ok p) h placed = h root t u placed
+
   pub looked : (s : Selection) (height top first : ℕ) (path : List ℕ) (count : ℕ) (m : NodeId) (f : Found) → IsWhole g root t → Climbs (nodes g) (settled g.spec t (place_in s)) m root
-      → ((r : NodeId) (x : Term) (u : Place) → IsPlaced g r x u m → place_of path ≡ u)
+      → ((u : Place) → IsPlaced g root t u m → place_of path ≡ u)
       → ((v : Place) → IsPlaced g root t v m → rests g.spec t v ≡ true → count ≡ settled_count g.spec t (place_in s) v s.count)
       → ((u : Place) → Climbs (nodes g) u m root → IsFound g root t u f) → first ≡ topped height f.line top
       → IsLook g root t (seen g.spec height t (settled_selection g.spec t s) top) (record { selected = m; spot = record { selection = record { path = path; count = count }; top = first }; page = f.page; begins = f.begins })
   looked s height top first path count m f whole way named counted found topped_at =
       let v = settled g.spec t (place_in s) in
       let back = sym (path_there v) in
-      let path_is : path ≡ path_to v = sym (path_back path) ∙ ap path_to (named root t v (placed_at whole v m way)) in
+      let path_is : path ≡ path_to v = sym (path_back path) ∙ ap path_to (named v (placed_at whole v m way)) in
       let count_is = counted v (placed_at whole v m way) (settled_rests g.spec t (place_in s)) in
       let is_found = found v way in
       let top_is = topped_at ∙ ap (λ l. topped height l top) is_found.line ∙ ap (λ z. topped height (first_line g.spec t z) top) back in

@@ -1,5 +1,5 @@
 -- What is seen of the term that a root holds.
-use Rattle.std.specs.Prelude.{◌≡◌, ℕ, false, IfSome, Option}
+use Rattle.std.specs.Prelude.{◌≡◌, ℕ, false, true, IfSome, Option}
 use Rattle.sg_kinds.specs.Values.{Bytes}
 use Rattle.sg_kinds.specs.Terms.{Term}
 use Rattle.sg_kinds.specs.Places.{Place}
@@ -10,6 +10,7 @@ use Rattle.sg_forest.specs.Trees.{Climbs, IsRoot}
 use Rattle.sg_groves.specs.Grove.{Grove, nodes}
 use Rattle.sg_groves.specs.Holds.{Holds}
 use Rattle.sg_groves.specs.IsRight.{IsRight}
+use Rattle.sg_select.specs.RestingPlaces.{is_open}
 use Rattle.sg_unparse.specs.Along.{node_along}
 use Rattle.sg_unparse.specs.Sheet.{Sheet}
 use Rattle.sg_unparse.specs.Written.{sheet_of}
@@ -44,10 +45,11 @@ pub record IsFound (g : Grove) (root : NodeId) (t : Term) (u : Place) (f : Found
   pub page : IfSome f.page (λ p. p ≡ page_seen g root t nothing_typed)
   pub begins : IfSome f.begins (Begins g.spec t u)
 
--- what was told before a change holds of the term that the root holds now
+-- what was told before a change holds of the term that the root holds now, where the node above can be reached
 pub record IsForetold (g : Grove) (root : NodeId) (b : Before) : Type 0 where
   pub term : Term
   pub place : Place
   pub whole : IsWhole g root term
   pub way : Climbs (nodes g) place b.above root
+  pub reached : is_open g.spec term place ≡ true
   pub tells : Foretells g.spec term place b

@@ -3,6 +3,7 @@ ghost use Rattle.std.specs.Prelude.{◌≡◌, ◌<◌, ◌≤◌, ◌*◌, Some
 ghost use Rattle.sg_kinds.specs.Places.{Place, sub};
 ghost use Rattle.sg_kinds.specs.Terms.{Term, nodes_of};
 ghost use Rattle.sg_forest.specs.Trees.{Climbs, IsLive, IsRoot};
+ghost use Rattle.sg_groves.specs.Evaluated.{IsAtOrBelow};
 ghost use Rattle.sg_groves.specs.Grove.{nodes};
 ghost use Rattle.sg_unparse.specs.Begins.{begins_on};
 ghost use Rattle.sg_unparse.specs.Margins.{ons_of};
@@ -89,7 +90,7 @@ pub fn foretell(
     requires { IsLive (nodes terms.now) above }
     ensures { (root : _) (t : Term) (p v : Place) → IsWhole terms.now root t → Climbs (nodes terms.now) p above root
         → Climbs (nodes terms.now) v selected root → Begins terms.now.spec t v begins → count ≡ nodes_of t
-        → IfOk result (λ r. IfSome r (λ b. (b.above ≡ above) × WillForetell terms.now.spec t p b)) }
+        → IfOk result (λ r. IfSome r (λ b. (b.above ≡ above) × IsAtOrBelow v p × WillForetell terms.now.spec t p b)) }
 {
     terms.facts();
     let Some(from) = begins_alone(alloc, terms, above, selected)? else {

@@ -1,5 +1,5 @@
 //! What is seen of a held term.
-ghost use Rattle.std.specs.Prelude.{◌≡◌, ◌<◌, ◌↔◌, None, Some, IfOk, IfSome, IsTrue, min, true};
+ghost use Rattle.std.specs.Prelude.{◌≡◌, ◌<◌, ◌↔◌, None, Some, IfOk, IfSome, IsTrue, min, option_map, true};
 ghost use Rattle.std.specs.Option.{option_map_or};
 ghost use Rattle.sg_kinds.specs.Places.{Place, place_of};
 ghost use Rattle.sg_kinds.specs.Terms.{Term};
@@ -20,8 +20,9 @@ use crate::marks::Move;
 use sg_changes::{Selection, Spot, topped};
 use sg_forest::NodeId;
 use sg_kinds::memory::NoMemory;
+use sg_kinds::row::Path;
 use sg_select::{
-    elements_from, first, next, node_along, path_of, prev, settle_path, sibling, spine_of, up,
+    elements_from, first, next, node_along, path_of, prev, settle_path_below, sibling, spine_of, up,
 };
 use sg_terms::Terms;
 use sg_unparse::{Beginning, Page, cells};
@@ -194,6 +195,34 @@ fn find_line(
     })
 }
 
+// the node above a change
+fn reached(before: Option<Before>) -> Option<NodeId>
+    ensures { result ≡ option_map (λ b. b.above) before }
+{
+    Some(before?.above)
+}
+
+// the path of a node: a copy of one that leads there, else found on the way up
+fn path_at(
+    alloc: Global,
+    terms: &Terms,
+    path: &Path,
+    is_there: bool,
+    n: NodeId,
+) -> Result<Path, NoMemory>
+    requires { IsLive (nodes terms.now) n }
+    ensures { (root : _) (t : Term) (u : Place) → IsPlaced terms.now root t u n
+        → (IsTrue is_there → Climbs (nodes terms.now) (place_of path.now) n root)
+        → IfOk result (λ p. place_of p ≡ u) }
+{
+    terms.facts();
+    if is_there {
+        path.copy(alloc)
+    } else {
+        path_of(alloc, terms, n)
+    }
+}
+
 /// What is seen of the term that a root holds with this to be selected, settled, in a window of this height, from this
 /// top. Where the term changed, what was told before saves the page.
 pub fn look_after(
@@ -213,9 +242,9 @@ pub fn look_after(
 {
     terms.facts();
     let way = select.path.as_slice();
-    let selected = settle_path(terms, root, way);
+    let (selected, is_there) = settle_path_below(terms, root, way, reached(before));
     let found = find_line(alloc, terms, root, selected, before)?;
-    let path = path_of(alloc, terms, selected)?;
+    let path = path_at(alloc, terms, &select.path, is_there, selected)?;
     let count = count_at(terms, root, way, select.count, selected);
     let top = topped(height, found.line, top);
     let selection = Selection { path, count };

@@ -15,3 +15,4 @@ pub mod Stepping
 pub mod Localless
 pub mod Telling
 mod Worked
+mod Reached

@@ -1,11 +1,13 @@
 -- Steps that are undone or done again.
-use Rattle.std.specs.Prelude.{◌≡◌, ◌≢◌, refl, ℕ, ◌+◌, ◌-◌, ◌^◌, ◌<◌, ◌≤◌, min, [], ◌∷◌, Option, None, Some, IsSome, option_map, option_and_then}
+use Rattle.std.specs.Prelude.{◌≡◌, ◌≢◌, refl, ℕ, ◌+◌, ◌-◌, ◌^◌, ◌<◌, ◌≤◌, min, [], ◌∷◌, Option, None, Some, IsSome, option_map, option_and_then, unwrap_or, false, true}
 use Rattle.std.proofs.Common.{sym, ap, ◌∙◌, subst, arith}
+use Rattle.std.proofs.lemmas.Bool.{and_parts, false≢true}
 use Rattle.std.proofs.lemmas.Option.{none-some}
 use Rattle.sg_kinds.specs.Terms.{Term, Leaf, Node, nodes_of}
 use Rattle.sg_kinds.specs.Fits.{Fits}
 use Rattle.sg_kinds.specs.Sound.{IsSmall}
 use Rattle.sg_kinds.specs.Places.{Place, place_of, put, sub}
+use Rattle.sg_kinds.specs.declared.spec.Spec.{Spec}
 use Rattle.sg_forest.specs.declared.node_id.NodeId.{NodeId}
 use Rattle.sg_forest.specs.Node as forest
 use Rattle.sg_forest.specs.Trees.{Climbs, IsLive, IsRoot}
@@ -26,18 +28,41 @@ use Rattle.sg_build.proofs.Placed.{part_nodes}
 use Rattle.sg_build.proofs.Roots.{one_phylum}
 use Rattle.sg_changes.specs.Changes.{marked, marks_at, marks_of, part_of, redone, undone, before_of, after_of}
 use Rattle.sg_changes.specs.Told.{HoldsPart, future_change, hanging, hung, past_change}
+use Rattle.sg_changes.specs.declared.spot.Spot.{Spot}
 use Rattle.sg_changes.specs.declared.step.Marks.{Marks}
 use Rattle.sg_changes.specs.declared.step.Step.{Step}
 use Rattle.sg_changes.specs.declared.step.Step.TheVariants.{Replaced, Marked}
 use Rattle.sg_select.specs.Leads.{LeadsTo}
 use Rattle.sg_select.specs.Paths.{there}
+use Rattle.sg_select.specs.RestingPlaces.{is_open, rests, rests_under, stands_resting}
 use Rattle.sg_states.specs.Paged.{IsWhole}
+use Rattle.sg_states.specs.Selections.{place_in}
 use Rattle.sg_turns.specs.Stepped.{MayStep, redoing, seen_after, seen_before, step_place, undoing}
 use Rattle.sg_turns.specs.Turns.{MayTurn, comes_out, ComesOut, goes_in, made}
 use Rattle.sg_turns.specs.declared.turns.What.{What}
 use Rattle.sg_turns.specs.declared.turns.What.TheVariants.{Tree, Shown}
 use Rattle.sg_turns.proofs.Trees.{holds_at}
 use Rattle.sg_turns.proofs.Values.{nodes_marked}
+
+-- a term has a place
+abbrev pub HasPlace : Term → Place → Type 0
+HasPlace t u = (x : Term) × (sub t u ≡ Some x)
+
+-- a resting place is one of the term
+pub rests_there : (spec : Spec) (t : Term) (u : Place) → rests spec t u ≡ true → HasPlace t u
+rests_there spec t [] rest = (t, refl)
+rests_there spec t (k ∷ u) rest = by (sub t u) refl
+  where
+    stands : stands_resting spec t k u ≡ true
+    stands = (and_parts (is_open spec t (k ∷ u)) (stands_resting spec t k u) rest).1
+
+    kid : (x : Term) → sub t u ≡ Some x → (o : Option Term) → sub t (k ∷ u) ≡ o → unwrap_or (option_map (rests_under spec x k) o) false ≡ true → HasPlace t (k ∷ u)
+    kid x at None is h = absurd (false≢true h)
+    kid x at (Some y) is h = (y, is)
+
+    by : (o : Option Term) → sub t u ≡ o → HasPlace t (k ∷ u)
+    by None is = absurd (false≢true (subst (λ o. unwrap_or (option_and_then (λ x. option_map (rests_under spec x k) (sub t (k ∷ u))) o) false ≡ true) is stands))
+    by (Some x) is = kid x is (sub t (k ∷ u)) refl (subst (λ o. unwrap_or (option_and_then (λ x. option_map (rests_under spec x k) (sub t (k ∷ u))) o) false ≡ true) is stands)
 
 abbrev TheNode : Type 0
 TheNode = forest.Node Kind Part
@@ -57,7 +82,7 @@ pub the_node : (g : Grove) (root m : NodeId) (t x : Term) (u : Place) (o : Optio
 the_node g root m t x u o at leads same = subst (LeadsTo g root (Some u)) same (leads_by g root t x u o at leads)
 
 -- the node at the place of a step
-module _ (g : Grove) (is : IsGrove g) (root : NodeId) (t : Term) (u : Place) (what : What) (count : ℕ) (may : MayStep g root t u what count) where
+module _ (g : Grove) (is : IsGrove g) (root : NodeId) (t : Term) (u : Place) (what : What) (spot : Spot) (count : ℕ) (may : MayStep g root t u what spot count) where
   pub place_there : (s : Term) × (x : Term) × Holds g root s × (sub s u ≡ Some x)
   place_there = (let part = part_held g is u may.at root t may.may.way may.may.whole.holds in (t, part.0, may.may.whole.holds, part.2))
 
@@ -95,9 +120,9 @@ module _ (g : Grove) (is : IsGrove g) (root at : NodeId) (t : Term) (u : Place) 
       counted ∙ sym (nodes_marked t u part.0 m part.2)
 
 -- a tree may come for a subterm, and marks for others
-module _ (g : Grove) (is : IsGrove g) (root : NodeId) (t : Term) (u : Place) (count : ℕ) (whole : IsWhole g root t) (fits : Fits g.spec t g.spec.root) (counted : count ≡ nodes_of t) (small : IsSmall t) where
-  pub may_swap : (d : NodeId) (x : Term) (p : ℕ) → IsRoot (nodes g) d → d ≢ root → sub t u ≡ Some x → Fits g.spec x p → Fits g.spec (term_at g d) p → IsSmall (put t u (term_at g d)) → MayStep g root t u (Tree d) count
-  may_swap d x p top apart at stood comes after =
+module _ (g : Grove) (is : IsGrove g) (root : NodeId) (t : Term) (u : Place) (spot : Spot) (count : ℕ) (whole : IsWhole g root t) (fits : Fits g.spec t g.spec.root) (counted : count ≡ nodes_of t) (small : IsSmall t) where
+  pub may_swap : (d : NodeId) (x : Term) (p : ℕ) → IsRoot (nodes g) d → d ≢ root → sub t u ≡ Some x → Fits g.spec x p → Fits g.spec (term_at g d) p → IsSmall (put t u (term_at g d)) → HasPlace (put t u (term_at g d)) (place_in spot.selection) → MayStep g root t u (Tree d) spot count
+  may_swap d x p top apart at stood comes after there =
       let node = node_held g is u root t x whole.holds at in
       record {
         at = node.0;
@@ -108,14 +133,15 @@ module _ (g : Grove) (is : IsGrove g) (root : NodeId) (t : Term) (u : Place) (co
           may = (
             top,
             apart,
-            (λ y z there built.
-                one_phylum g.spec x y.label.phylum p (held_fits g is node.0 y x there node.2) stood
+            (λ y z stands built.
+                one_phylum g.spec x y.label.phylum p (held_fits g is node.0 y x stands node.2) stood
                 ∙ one_phylum g.spec (term_at g d) p z.label.phylum comes (held_fits g is d z (term_at g d) built (holds_at g is d (root_is_live (nodes g) d top)))),
           );
         };
         counted = counted;
         small = small;
         after = after;
+        there = there;
       }
 
   marks_there : (was : Marks) → marks_at t u ≡ Some was → (x : Term) × (sub t u ≡ Some x) × (marks_of x ≡ Some was)
@@ -129,21 +155,22 @@ module _ (g : Grove) (is : IsGrove g) (root : NodeId) (t : Term) (u : Place) (co
   an_operator (Leaf p v) was at none = none-some was at
   an_operator (Node op scheme elided ts) was at none = none-some op (sym none)
 
-  pub may_mark : (was m : Marks) → marks_at t u ≡ Some was → m.scheme < 16 → IsSmall (marked t u m) → MayStep g root t u (Shown m) count
-  may_mark was m at low after =
-      let there = marks_there was at in
-      let node = node_held g is u root t there.0 whole.holds there.1 in
+  pub may_mark : (was m : Marks) → marks_at t u ≡ Some was → m.scheme < 16 → IsSmall (marked t u m) → HasPlace (marked t u m) (place_in spot.selection) → MayStep g root t u (Shown m) spot count
+  may_mark was m at low after there =
+      let old = marks_there was at in
+      let node = node_held g is u root t old.0 whole.holds old.1 in
       record {
         at = node.0;
         may = record {
           whole = whole;
           fits = fits;
           way = node.1;
-          may = ((λ x found none. an_operator there.0 was there.2 (sym (op_told g is node.0 x found there.0 node.2) ∙ none)), low);
+          may = ((λ x found none. an_operator old.0 was old.2 (sym (op_told g is node.0 x found old.0 node.2) ∙ none)), low);
         };
         counted = counted;
         small = small;
         after = after;
+        there = there;
       }
 
 -- what a step is undone and done again by

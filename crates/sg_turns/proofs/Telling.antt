@@ -1,5 +1,5 @@
 -- What is known before a change tells where nodes begin after it.
-use Rattle.std.specs.Prelude.{◌≡◌, ◌≢◌, ◌⊎◌, refl, ℕ, zero, suc, ◌<◌, ◌≤◌, [], ◌∷◌, ◌++◌, length, Option, None, Some, Result, Ok, Err, IfOk, IfSome}
+use Rattle.std.specs.Prelude.{◌≡◌, true, ◌≢◌, ◌⊎◌, refl, ℕ, zero, suc, ◌<◌, ◌≤◌, [], ◌∷◌, ◌++◌, length, Option, None, Some, Result, Ok, Err, IfOk, IfSome}
 use Rattle.std.proofs.Common.{sym, ap, ◌∙◌, subst, arith, append_assoc, length-append, inl, inr}
 use Rattle.sg_kinds.specs.Terms.{Term, nodes_of}
 use Rattle.sg_kinds.specs.Nets.{Operation, label_of, phylum_at}
@@ -20,6 +20,7 @@ use Rattle.sg_groves.proofs.Held.{one_term}
 use Rattle.sg_groves.proofs.Puts.{label_outside}
 use Rattle.sg_groves.proofs.Ways.{one_way}
 use Rattle.sg_attrib.proofs.Nodes.{op_label}
+use Rattle.sg_select.specs.RestingPlaces.{is_open, rests}
 use Rattle.sg_trail.specs.Trails.{IsAnySlot, IsExchanged}
 use Rattle.sg_propagate.specs.Asked.{root_then}
 use Rattle.sg_propagate.specs.Exchanged.{Reaches}
@@ -33,6 +34,7 @@ use Rattle.sg_turns.specs.Turns.{MayTurn}
 use Rattle.sg_turns.specs.declared.told.Known.{Known}
 use Rattle.sg_turns.specs.declared.turns.What.TheVariants.{Tree}
 use Rattle.sg_turns.proofs.Localless.{no_value}
+use Rattle.sg_turns.proofs.Reached.{above_rests, open_above}
 use Rattle.sg_turns.proofs.Swaps.{root_is}
 
 nat_cases : (m n : ℕ) → (m < n) ⊎ (n ≤ m)
@@ -42,19 +44,21 @@ nat_cases (suc m) zero = inr (omega arith)
 nat_cases (suc m) (suc n) = elim (nat_cases m n) [ inl h ↦ inl (omega (arith, h)) | inr h ↦ inr (omega (arith, h)) ]
 
 module _ (g : Grove) (is : IsGrove g) (root at : NodeId) where
-  if_told : {E : Type 0} (t : Term) (p : Place) (above : NodeId) (r : Result (Option Before) E) → IfOk r (λ o. IfSome o (λ b. (b.above ≡ above) × WillForetell g.spec t p b)) → IfOk r (λ o. IfSome o (WillForetell g.spec t p))
-  if_told t p above (Err e) h = tt
-  if_told t p above (Ok o) h = if_some (λ (b : Before). (b.above ≡ above) × WillForetell g.spec t p b) (WillForetell g.spec t p) o (λ b h. h.1) h
+  if_told : {E : Type 0} (t : Term) (p v : Place) (above : NodeId) (r : Result (Option Before) E) → rests g.spec t v ≡ true → IfOk r (λ o. IfSome o (λ b. (b.above ≡ above) × IsAtOrBelow v p × WillForetell g.spec t p b))
+      → IfOk r (λ o. IfSome o (λ b. (is_open g.spec t p ≡ true) × WillForetell g.spec t p b))
+  if_told t p v above (Err e) rest h = tt
+  if_told t p v above (Ok o) rest h = if_some (λ (b : Before). (b.above ≡ above) × IsAtOrBelow v p × WillForetell g.spec t p b) (λ b. (is_open g.spec t p ≡ true) × WillForetell g.spec t p b) o
+      (λ b h. (above_rests g.spec t v p h.1 rest, h.2)) h
 
   -- before
   pub told_first : {E : Type 0} (k : Known) (t : Term) (u : Place) (above : NodeId) (j : ℕ) (r : Result (Option Before) E) → IsKnown g root k → IsWhole g root t → Climbs (nodes g) u at root → IsChild (nodes g) at above j
-      → ((y : Term) (p v : Place) → IsWhole g root y → Climbs (nodes g) p above root → Climbs (nodes g) v k.selected root → Begins g.spec y v k.begins → k.count ≡ nodes_of y → IfOk r (λ o. IfSome o (λ b. (b.above ≡ above) × WillForetell g.spec y p b)))
+      → ((y : Term) (p v : Place) → IsWhole g root y → Climbs (nodes g) p above root → Climbs (nodes g) v k.selected root → Begins g.spec y v k.begins → k.count ≡ nodes_of y → IfOk r (λ o. IfSome o (λ b. (b.above ≡ above) × IsAtOrBelow v p × WillForetell g.spec y p b)))
       → IfOk r (λ o. IfSome o (WillTell g.spec t u))
   told_first k t [] above j r known whole same child tells = absurd (root_is_no_child (nodes g) at above j (subst (IsRoot (nodes g)) (sym same) whole.top) child)
   told_first k t (i ∷ p) above j r known whole climbs child tells =
       let one = one_parent (nodes g) at above climbs.0 j i child climbs.1 in
       let same : known.term ≡ t = one_term g root known.term t known.whole.holds whole.holds in
-      if_told t p above r
+      if_told t p known.place above r (subst (λ z. rests g.spec z known.place ≡ true) same known.rests)
       (tells t p known.place whole (subst (λ z. Climbs (nodes g) p z root) (sym one.0) climbs.2) known.way (subst (λ z. Begins g.spec z known.place k.begins) same known.begins) (known.counted ∙ ap nodes_of same))
 
   -- and after
@@ -62,8 +66,8 @@ module _ (g : Grove) (is : IsGrove g) (root at : NodeId) where
       → IsNear g at above reach → IsForetold g root (record { above = above; old = b.old; from = b.from; margin = b.margin })
   told_then b t s [] above j reach whole same reaches tells child near = absurd tells
   told_then b t s (k ∷ p) above j reach whole climbs reaches tells child near =
-      let told = tells (k ∷ []) s (λ e. cc) (elim near [ inl is_at ↦ alike_at is_at | inr is_above ↦ alike_above is_above.0 is_above.1 ]) in
-      record { term = (put t (k ∷ p) s); place = p; whole = whole; way = to; tells = record { tells = told.tells } }
+      let told = tells.1 (k ∷ []) s (λ e. cc) (elim near [ inl is_at ↦ alike_at is_at | inr is_above ↦ alike_above is_above.0 is_above.1 ]) in
+      record { term = (put t (k ∷ p) s); place = p; whole = whole; way = to; reached = open_above g.spec t k p s ∙ tells.0; tells = record { tells = told.tells } }
     where
       one : (above ≡ climbs.0) × (j ≡ k)
       one = one_parent (nodes g) at above climbs.0 j k child climbs.1

@@ -1,5 +1,5 @@
 -- What is known of the edited term before a change, and what it tells of the term after it.
-use Rattle.std.specs.Prelude.{◌≡◌, ◌⊎◌, ℕ, [], ◌∷◌, Some}
+use Rattle.std.specs.Prelude.{◌≡◌, true, ◌⊎◌, ℕ, [], ◌∷◌, Some}
 use Rattle.sg_kinds.specs.Terms.{Term, nodes_of}
 use Rattle.sg_kinds.specs.Places.{Place}
 use Rattle.sg_kinds.specs.Specification.{locals_of}
@@ -9,25 +9,28 @@ use Rattle.sg_forest.specs.Trees.{Climbs, IsRoot}
 use Rattle.sg_groves.specs.Grove.{Grove, nodes}
 use Rattle.sg_groves.specs.TermAt.{term_at}
 use Rattle.sg_terms.specs.Found.{op_at}
+use Rattle.sg_select.specs.RestingPlaces.{is_open, rests}
 use Rattle.sg_propagate.specs.Exchanged.{Reaches}
 use Rattle.sg_states.specs.Beginnings.{Begins, WillForetell}
 use Rattle.sg_states.specs.Paged.{IsWhole}
 use Rattle.sg_states.specs.declared.begins.Before.{Before}
 use Rattle.sg_turns.specs.declared.told.Known.{Known}
 
--- the selected node begins there, and the term has so many nodes
+-- the selected node rests and begins there, and the term has so many nodes
 pub record IsKnown (g : Grove) (root : NodeId) (k : Known) : Type 0 where
   pub term : Term
   pub place : Place
   pub whole : IsWhole g root term
   pub way : Climbs (nodes g) place k.selected root
+  pub rests : rests g.spec term place ≡ true
   pub begins : Begins g.spec term place k.begins
   pub counted : k.count ≡ nodes_of term
 
--- the node above a place tells where nodes begin once the term changed at that place; the root has none above
+-- the node above a place can be reached, and tells where nodes begin once the term changed at that place; the root has
+-- none above
 abbrev pub WillTell : Spec → Term → Place → Before → Type 0
 WillTell spec t [] b = ⊥
-WillTell spec t (k ∷ p) b = WillForetell spec t p b
+WillTell spec t (k ∷ p) b = (is_open spec t p ≡ true) × WillForetell spec t p b
 
 -- a node hangs under another, and its operator has no locals
 pub record HasAttributesOnly (g : Grove) (n : NodeId) : Type 0 where

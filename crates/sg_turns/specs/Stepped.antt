@@ -1,8 +1,8 @@
 -- What it is to undo a step, or to do it again.
-use Rattle.std.specs.Prelude.{◌≡◌, ℕ}
+use Rattle.std.specs.Prelude.{◌≡◌, ℕ, Some}
 use Rattle.sg_kinds.specs.Terms.{Term, nodes_of}
 use Rattle.sg_kinds.specs.Sound.{IsSmall}
-use Rattle.sg_kinds.specs.Places.{Place, place_of}
+use Rattle.sg_kinds.specs.Places.{Place, place_of, sub}
 use Rattle.sg_forest.specs.declared.node_id.NodeId.{NodeId}
 use Rattle.sg_forest.specs.Trees.{Climbs}
 use Rattle.sg_groves.specs.Grove.{Grove, nodes}
@@ -10,7 +10,6 @@ use Rattle.sg_groves.specs.TermAt.{term_at}
 use Rattle.sg_changes.specs.declared.spot.Spot.{Spot}
 use Rattle.sg_changes.specs.declared.step.Step.{Step}
 use Rattle.sg_changes.specs.declared.step.Step.TheVariants.{Replaced, Marked}
-use Rattle.sg_select.specs.RestingPlaces.{settled}
 use Rattle.sg_states.specs.Selections.{place_in}
 use Rattle.sg_turns.specs.Turns.{MayTurn, IsTurned, made}
 use Rattle.sg_turns.specs.declared.turns.What.{What}
@@ -40,19 +39,21 @@ abbrev pub seen_after : Step → Spot
 seen_after (Replaced path hangs before after) = after
 seen_after (Marked path old new before after) = after
 
--- it may come into that place of the edited term, whose nodes are counted, and the term then is in the limits
-pub record MayStep (g : Grove) (root : NodeId) (t : Term) (u : Place) (what : What) (count : ℕ) : Type 0 where
+-- it may come into that place of the edited term, whose nodes are counted, and the term then is in the limits; what is
+-- selected then has a place in it
+pub record MayStep (g : Grove) (root : NodeId) (t : Term) (u : Place) (what : What) (spot : Spot) (count : ℕ) : Type 0 where
   pub at : NodeId
   pub may : MayTurn g root at what t u
   pub counted : count ≡ nodes_of t
   pub small : IsSmall t
   pub after : IsSmall (made (term_at g) t u what)
+  pub there : (x : Term) × (sub (made (term_at g) t u what) (place_in spot.selection) ≡ Some x)
 
--- it came there, the nodes are counted again, and this is selected, settled, in a window from that line on
+-- it came there, the nodes are counted again, and this is selected, in a window from that line on
 pub record IsStepped (old new : Grove) (root : NodeId) (t : Term) (u : Place) (what : What) (spot : Spot) (r : Stepped) : Type 0 where
   pub way : Climbs (nodes old) u r.out root
   pub turned : IsTurned old new root r.out what t u r.root
   pub counted : r.nodes ≡ nodes_of (made (term_at old) t u what)
-  pub selected : Climbs (nodes new) (settled new.spec (made (term_at old) t u what) (place_in spot.selection)) r.selected r.root
+  pub selected : Climbs (nodes new) (place_in spot.selection) r.selected r.root
   pub count : r.count ≡ spot.selection.count
   pub top : r.top ≡ spot.top

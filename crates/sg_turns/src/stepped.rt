@@ -21,7 +21,6 @@ use sg_forest::NodeId;
 use sg_kinds::memory::NoMemory;
 use sg_kinds::plans::Plans;
 use sg_kinds::row::Path;
-use sg_select::settle_path;
 use sg_terms::Terms;
 use std::alloc::Global;
 
@@ -71,12 +70,12 @@ fn turned_at(
 ) -> Result<Stepped, NoMemory>
     requires valid { AreValid (rules_of terms.old.spec) plans.now }
     requires same { ev.now ≡ terms.old.spec }
-    requires may { (t : Term) × MayStep terms.old root t (place_of path.now) what known }
-    ensures stepped { (t : Term) → MayStep terms.old root t (place_of path.now) what known → IfOk result
+    requires may { (t : Term) × MayStep terms.old root t (place_of path.now) what spot.now known }
+    ensures stepped { (t : Term) → MayStep terms.old root t (place_of path.now) what spot.now known → IfOk result
         (IsStepped terms.old terms.new root t (place_of path.now) what spot.now) }
-    ensures noted { (t : Term) → MayStep terms.old root t (place_of path.now) what known → IfOk result (λ r.
+    ensures noted { (t : Term) → MayStep terms.old root t (place_of path.now) what spot.now known → IfOk result (λ r.
         Notes terms.old terms.new r.root t (place_of path.now) what (now_of journal.old) (now_of journal.new)) }
-    ensures some { (t : Term) → MayStep terms.old root t (place_of path.now) what known → OnErr result
+    ensures some { (t : Term) → MayStep terms.old root t (place_of path.now) what spot.now known → OnErr result
         (NotesSome terms.old t (place_of path.now) what (now_of journal.old) (now_of journal.new)) }
     ensures as_before { OnErr result ((n : _) → nodes terms.new n ≡ nodes terms.old n) }
     ensures spec { terms.new.spec ≡ terms.old.spec }
@@ -91,7 +90,7 @@ fn turned_at(
             out,
             nodes,
             root: now,
-            selected: settle_path(terms, now, spot.selection.path.as_slice()),
+            selected: node_at(terms, now, &spot.selection.path),
             count: spot.selection.count,
             top: spot.top,
         }),
@@ -113,14 +112,18 @@ pub fn step_back(
 ) -> Result<Stepped, NoMemory>
     requires valid { AreValid (rules_of terms.old.spec) plans.now }
     requires same { ev.now ≡ terms.old.spec }
-    requires may { (t : Term) × MayStep terms.old root t (step_place step.now) (undoing step.now) known }
-    ensures stepped { (t : Term) → MayStep terms.old root t (step_place step.now) (undoing step.now) known
+    requires may { (t : Term) × MayStep terms.old root t (step_place step.now) (undoing step.now)
+        (seen_before step.now) known }
+    ensures stepped { (t : Term) → MayStep terms.old root t (step_place step.now) (undoing step.now)
+        (seen_before step.now) known
         → IfOk result (IsStepped terms.old terms.new root t (step_place step.now) (undoing step.now)
         (seen_before step.now)) }
-    ensures noted { (t : Term) → MayStep terms.old root t (step_place step.now) (undoing step.now) known
+    ensures noted { (t : Term) → MayStep terms.old root t (step_place step.now) (undoing step.now)
+        (seen_before step.now) known
         → IfOk result (λ r. Notes terms.old terms.new r.root t (step_place step.now) (undoing step.now)
         (now_of journal.old) (now_of journal.new)) }
-    ensures some { (t : Term) → MayStep terms.old root t (step_place step.now) (undoing step.now) known
+    ensures some { (t : Term) → MayStep terms.old root t (step_place step.now) (undoing step.now)
+        (seen_before step.now) known
         → OnErr result (NotesSome terms.old t (step_place step.now) (undoing step.now)
         (now_of journal.old) (now_of journal.new)) }
     ensures as_before { OnErr result ((n : _) → nodes terms.new n ≡ nodes terms.old n) }
@@ -168,14 +171,18 @@ pub fn step_forth(
 ) -> Result<Stepped, NoMemory>
     requires valid { AreValid (rules_of terms.old.spec) plans.now }
     requires same { ev.now ≡ terms.old.spec }
-    requires may { (t : Term) × MayStep terms.old root t (step_place step.now) (redoing step.now) known }
-    ensures stepped { (t : Term) → MayStep terms.old root t (step_place step.now) (redoing step.now) known
+    requires may { (t : Term) × MayStep terms.old root t (step_place step.now) (redoing step.now)
+        (seen_after step.now) known }
+    ensures stepped { (t : Term) → MayStep terms.old root t (step_place step.now) (redoing step.now)
+        (seen_after step.now) known
         → IfOk result (IsStepped terms.old terms.new root t (step_place step.now) (redoing step.now)
         (seen_after step.now)) }
-    ensures noted { (t : Term) → MayStep terms.old root t (step_place step.now) (redoing step.now) known
+    ensures noted { (t : Term) → MayStep terms.old root t (step_place step.now) (redoing step.now)
+        (seen_after step.now) known
         → IfOk result (λ r. Notes terms.old terms.new r.root t (step_place step.now) (redoing step.now)
         (now_of journal.old) (now_of journal.new)) }
-    ensures some { (t : Term) → MayStep terms.old root t (step_place step.now) (redoing step.now) known
+    ensures some { (t : Term) → MayStep terms.old root t (step_place step.now) (redoing step.now)
+        (seen_after step.now) known
         → OnErr result (NotesSome terms.old t (step_place step.now) (redoing step.now)
         (now_of journal.old) (now_of journal.new)) }
     ensures as_before { OnErr result ((n : _) → nodes terms.new n ≡ nodes terms.old n) }

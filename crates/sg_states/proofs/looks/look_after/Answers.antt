@@ -1,4 +1,10 @@
-use Rattle.std.proofs.Common.{subst}
+use Rattle.std.specs.Prelude.{IfSome, IsTrue}
+use Rattle.std.proofs.Common.{subst, sym}
+use Rattle.sg_kinds.specs.Places.{place_of}
+use Rattle.sg_forest.specs.Trees.{Climbs}
+use Rattle.sg_groves.specs.Grove.{nodes}
+use Rattle.sg_select.specs.Leads.{IsOpenAt}
+use Rattle.sg_states.proofs.Foretold.{all_open}
 use Rattle.sg_changes.specs.declared.spot.Selection.{Selection}
 use Rattle.sg_states.specs.Selections.{settled_selection}
 use Rattle.sg_states.specs.Seen.{seen}
@@ -13,12 +19,18 @@ returns c = λ t whole.
     let root = c.args.root in
     let s : Selection = record { path = c.as_slice-way.result.now; count = c.args.select.now.count } in
     let f = c.in_ok-found.found in
+    let went = c.settle_path_below-is_there in
+    let n = went.result.0 in
+    let path = c.in_ok-path.path in
     let l : Look = record {
-      selected = c.settle_path-selected.result;
-      spot = record { selection = record { path = c.in_ok-path.path; count = c.count_at-count.result }; top = c.topped-top.result };
+      selected = n;
+      spot = record { selection = record { path = path; count = c.count_at-count.result }; top = c.topped-top.result };
       page = f.page;
       begins = f.begins;
     } in
+    let reached = subst (λ o. IfSome o (IsOpenAt g root t)) (sym c.reached.ensures) (all_open g c.facts.ensures root t whole c.args.before c.requires.before) in
+    let there : IsTrue went.result.1 → Climbs (nodes g) (place_of c.args.select.now.path) n root =
+    λ on. subst (λ p. Climbs (nodes g) (place_of p) n root) c.as_slice-way.ensures (went.ensures.there t whole.holds on) in
     subst (λ p. let select : Selection = record { path = p; count = c.args.select.now.count } in IsLook g root t (seen g.spec c.args.height t (settled_selection g.spec t select) c.args.top) l) c.as_slice-way.ensures
-    (looked g c.facts.ensures root t s c.args.height c.args.top c.topped-top.result c.in_ok-path.path c.count_at-count.result c.settle_path-selected.result f whole
-    (c.settle_path-selected.ensures.settled t whole.holds) (c.in_ok-path.ensures) (c.count_at-count.ensures t) (λ u way. c.in_ok-found.ensures t u whole way) c.topped-top.ensures)
+    (looked g c.facts.ensures root t s c.args.height c.args.top c.topped-top.result path c.count_at-count.result n f whole
+    (went.ensures.settled t whole.holds reached) (λ u placed. c.in_ok-path.ensures root t u placed there) (c.count_at-count.ensures t) (λ u way. c.in_ok-found.ensures t u whole way) c.topped-top.ensures)

@@ -1,44 +1,47 @@
-use Rattle.std.proofs.Common.{refl, subst}
+use Rattle.std.proofs.Common.{refl}
 use Rattle.sg_kinds.specs.Places.{place_of}
-use Rattle.sg_forest.specs.Trees.{Climbs}
-use Rattle.sg_groves.specs.Grove.{nodes}
 use Rattle.sg_groves.specs.TermAt.{term_at}
-use Rattle.sg_select.specs.RestingPlaces.{settled}
 use Rattle.sg_turns.specs.Turns.{made}
 use Rattle.sg_turns.proofs.Stepping.{may_here, place_there}
 use Rattle.sg_turns.proofs.stepped.turned_at.Goals as goal
 
 pub node_at-out-requires-clause-there : goal.node_at-out-requires-clause-there
-node_at-out-requires-clause-there c = place_there c.args.terms.now c.facts.ensures c.args.root c.requires.may.0 (place_of c.args.path.now) c.args.what c.args.known c.requires.may.1
+node_at-out-requires-clause-there c = place_there c.args.terms.now c.facts.ensures c.args.root c.requires.may.0 (place_of c.args.path.now) c.args.what c.args.spot.now c.args.known c.requires.may.1
 
 pub nodes_after-nodes-requires : goal.nodes_after-nodes-requires
 nodes_after-nodes-requires c =
     let u = place_of c.args.path.now in
-    (c.args.root, c.requires.may.0, u, may_here c.args.terms.now c.facts.ensures c.args.root c.requires.may.0 u c.args.what c.args.known c.requires.may.1 c.node_at-out.result c.node_at-out.ensures)
+    (c.args.root, c.requires.may.0, u, may_here c.args.terms.now c.facts.ensures c.args.root c.requires.may.0 u c.args.what c.args.spot.now c.args.known c.requires.may.1 c.node_at-out.result c.node_at-out.ensures)
 
 pub turn-requires-clause-may : goal.turn-requires-clause-may
 turn-requires-clause-may c =
     let u = place_of c.args.path.now in
-    (c.requires.may.0, u, may_here c.args.terms.now c.facts.ensures c.args.root c.requires.may.0 u c.args.what c.args.known c.requires.may.1 c.node_at-out.result c.node_at-out.ensures)
+    (c.requires.may.0, u, may_here c.args.terms.now c.facts.ensures c.args.root c.requires.may.0 u c.args.what c.args.spot.now c.args.known c.requires.may.1 c.node_at-out.result c.node_at-out.ensures)
 
-pub settle_path-requires : goal.settle_path-requires
-settle_path-requires c =
+pub node_at-requires-clause-root : goal.node_at-requires-clause-root
+node_at-requires-clause-root c =
     let u = place_of c.args.path.now in
     let may = c.requires.may in
-    (c.in-Ok.ensures.turned may.0 u (may_here c.args.terms.now c.facts.ensures c.args.root may.0 u c.args.what c.args.known may.1 c.node_at-out.result c.node_at-out.ensures)).whole.top
+    (c.in-Ok.ensures.turned may.0 u (may_here c.args.terms.now c.facts.ensures c.args.root may.0 u c.args.what c.args.spot.now c.args.known may.1 c.node_at-out.result c.node_at-out.ensures)).whole.top
+
+pub node_at-requires-clause-there : goal.node_at-requires-clause-there
+node_at-requires-clause-there c =
+    let u = place_of c.args.path.now in
+    let may = c.requires.may in
+    let turned = c.in-Ok.ensures.turned may.0 u (may_here c.args.terms.now c.facts.ensures c.args.root may.0 u c.args.what c.args.spot.now c.args.known may.1 c.node_at-out.result c.node_at-out.ensures) in
+    (made (term_at c.args.terms.now) may.0 u c.args.what, may.1.there.0, turned.whole.holds, may.1.there.1)
 
 pub returns-in-Ok-clause-stepped : goal.returns-in-Ok-clause-stepped
 returns-in-Ok-clause-stepped c = λ t may.
     let g = c.args.terms.now in
     let u = place_of c.args.path.now in
-    let here = may_here g c.facts.ensures c.args.root t u c.args.what c.args.known may c.node_at-out.result c.node_at-out.ensures in
+    let here = may_here g c.facts.ensures c.args.root t u c.args.what c.args.spot.now c.args.known may c.node_at-out.result c.node_at-out.ensures in
     let turned = c.in-Ok.ensures.turned t u here in
     record {
       way = c.node_at-out.ensures;
       turned = turned;
       counted = c.nodes_after-nodes.ensures c.args.root t u here may.counted may.small may.after;
-      selected = subst (λ p. Climbs (nodes c.turn.new.terms) (settled c.turn.new.terms.spec (made (term_at g) t u c.args.what) (place_of p)) c.settle_path.result c.in-Ok.now) c.as_slice.ensures
-          (c.settle_path.ensures.settled (made (term_at g) t u c.args.what) turned.whole.holds);
+      selected = c.node_at.ensures;
       count = refl;
       top = refl;
     }
@@ -46,9 +49,9 @@ returns-in-Ok-clause-stepped c = λ t may.
 pub returns-in-Ok-clause-noted : goal.returns-in-Ok-clause-noted
 returns-in-Ok-clause-noted c = λ t may.
     let u = place_of c.args.path.now in
-    c.in-Ok.ensures.noted t u (may_here c.args.terms.now c.facts.ensures c.args.root t u c.args.what c.args.known may c.node_at-out.result c.node_at-out.ensures)
+    c.in-Ok.ensures.noted t u (may_here c.args.terms.now c.facts.ensures c.args.root t u c.args.what c.args.spot.now c.args.known may c.node_at-out.result c.node_at-out.ensures)
 
 pub returns-in-Err-clause-some : goal.returns-in-Err-clause-some
 returns-in-Err-clause-some c = λ t may.
     let u = place_of c.args.path.now in
-    c.in-Err.ensures.some t u (may_here c.args.terms.now c.facts.ensures c.args.root t u c.args.what c.args.known may c.node_at-out.result c.node_at-out.ensures)
+    c.in-Err.ensures.some t u (may_here c.args.terms.now c.facts.ensures c.args.root t u c.args.what c.args.spot.now c.args.known may c.node_at-out.result c.node_at-out.ensures)
