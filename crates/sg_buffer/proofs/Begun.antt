@@ -24,6 +24,7 @@ use Rattle.sg_changes.specs.declared.step.Step.{Step}
 use Rattle.sg_buffer.specs.Held.{Held, state_of}
 use Rattle.sg_turns.specs.Roots.{AreTheRoots}
 use Rattle.sg_buffer.specs.Buffers.{StandsFor, IsBuffer}
+use Rattle.sg_buffer.specs.declared.way.Standing.{Standing}
 use Rattle.sg_buffer.proofs.Closing.{closes}
 
 -- the root begins in the first line
@@ -68,15 +69,20 @@ begun_stands g root height t is whole fits small tall roots = record {
   alone = tt;
 }
 
+-- nothing is told of where the root begins
+abbrev pub unseen : Standing
+unseen = record { way = []; begins = None }
+
 -- a new buffer
 abbrev begun_held : Grove → NodeId → ℕ → Held
 begun_held g root height = record { grove = g; root = root; selected = root; count = 1; top = 1; height = height; past = []; future = []; capture = None }
 
-pub begun_closes : (g : Grove) (spec : Spec) (root : NodeId) (height : ℕ) (t : Term) (count : ℕ) (h : Timeline Step) → g.spec ≡ spec → IsGrove g → IsWhole g root t → Fits spec t spec.root → IsSmall t
+pub begun_closes : (g : Grove) (spec : Spec) (root : NodeId) (height : ℕ) (t : Term) (count : ℕ) (h : Timeline Step) (standing : Standing) → standing ≡ unseen → g.spec ≡ spec → IsGrove g → IsWhole g root t → Fits spec t spec.root → IsSmall t
     → count ≡ nodes_of t → 1 ≤ height → AreTheRoots g (root ∷ []) → h ≡ timeline [] [] 256
-    → IsBuffer (record { grove = g; root = root; selected = root; count = 1; top = 1; height = height; past = h.past; future = h.future; capture = None }) count h.room None None
+    → IsBuffer (record { grove = g; root = root; selected = root; count = 1; top = 1; height = height; past = h.past; future = h.future; capture = None }) count h.room None standing
     × (state_of (record { grove = g; root = root; selected = root; count = 1; top = 1; height = height; past = h.past; future = h.future; capture = None }) ≡ begun t)
-begun_closes g spec root height t count h same is whole fits small counted tall roots empty =
-    subst (λ (z : Timeline Step). IsBuffer (record { grove = g; root = root; selected = root; count = 1; top = 1; height = height; past = z.past; future = z.future; capture = None }) count z.room None None
+begun_closes g spec root height t count h standing at same is whole fits small counted tall roots empty =
+    subst (λ (z : Timeline Step). IsBuffer (record { grove = g; root = root; selected = root; count = 1; top = 1; height = height; past = z.past; future = z.future; capture = None }) count z.room None standing
     × (state_of (record { grove = g; root = root; selected = root; count = 1; top = 1; height = height; past = z.past; future = z.future; capture = None }) ≡ begun t)) (sym empty)
-    (let c = closes (begun_held g root height) (begun t) count 256 None None (begun_stands g root height t is whole (subst (λ (s : Spec). Fits s t s.root) (sym same) fits) small tall roots) counted refl (omega arith) tt tt in (c.is, c.told))
+    (let c = closes (begun_held g root height) (begun t) count 256 None unseen (begun_stands g root height t is whole (subst (λ (s : Spec). Fits s t s.root) (sym same) fits) small tall roots) counted refl (omega arith) tt (refl, tt) in
+    (subst (λ (o : Standing). IsBuffer (begun_held g root height) count 256 None o) (sym at) c.is, c.told))

@@ -18,7 +18,7 @@ use Rattle.sg_changes.proofs.Chained.{redo_chains, undo_fewer}
 use Rattle.sg_changes.proofs.Telling.{past_agrees, told_fewer}
 use Rattle.sg_undo.specs.Timeline.{Timeline}
 use Rattle.sg_unparse.specs.Sheet.{Sheet}
-use Rattle.sg_unparse.specs.declared.page.Beginning.{Beginning}
+use Rattle.sg_buffer.specs.declared.way.Standing.{Standing}
 use Rattle.sg_states.specs.Beginnings.{Begins}
 use Rattle.sg_states.specs.Selections.{place_in}
 use Rattle.sg_states.specs.Seen.{is_spot, nothing_typed}
@@ -72,7 +72,7 @@ changed_held b kept r h o = record {
 abbrev pub changed_state : Held → Term → Change → Spot → State
 changed_state b now c spot = record { term = now; spot = spot; past = take 256 (c ∷ (state_of b).past); future = []; capture = None }
 
-module _ (b : Held) (count room : ℕ) (page : Option Sheet) (begins : Option Beginning) (is : IsBuffer b count room page begins) (mid kept : Grove) (on : IsGrove kept) (now : Term) (c : Change) (step : Step) (spot : Spot) (r : Turned)
+module _ (b : Held) (count room : ℕ) (page : Option Sheet) (standing : Standing) (is : IsBuffer b count room page standing) (mid kept : Grove) (on : IsGrove kept) (now : Term) (c : Change) (step : Step) (spot : Spot) (r : Turned)
     (change : Changed b mid now c step spot r) (h : Timeline Step) (remembers : Remembers mid kept b.past b.future room step h) where
   abbrev st : State
   st = state_of b
@@ -133,10 +133,10 @@ module _ (b : Held) (count room : ℕ) (page : Option Sheet) (begins : Option Be
       let e : length h.future ≡ 0 = ap length remembers.future_is in
       omega (arith, a, d, e)
 
-  pub changed_closes : (o : Option Captured) → o ≡ None → (nodes : ℕ) → nodes ≡ nodes_of now → Closes (changed_held b kept r h o) (changed_state b now c spot) nodes h.room r.look.page r.look.begins
+  pub changed_closes : (o : Option Captured) → o ≡ None → (nodes : ℕ) → nodes ≡ nodes_of now → Closes (changed_held b kept r h o) (changed_state b now c spot) nodes h.room r.look.page (record { way = r.look.way; begins = r.look.begins })
   changed_closes o none nodes counted =
-      closes (changed_held b kept r h o) (changed_state b now c spot) nodes h.room r.look.page r.look.begins (changed_stands o none) counted (remembers.room_is ∙ is.room_is) few
+      closes (changed_held b kept r h o) (changed_state b now c spot) nodes h.room r.look.page (record { way = r.look.way; begins = r.look.begins }) (changed_stands o none) counted (remembers.room_is ∙ is.room_is) few
       (if_some (λ p. p ≡ page_seen mid r.root now nothing_typed) (λ p. p ≡ page_seen kept r.root now (typed_by o (place_in spot.selection))) r.look.page
       (λ p is. is ∙ sym (page_on mid kept r.root tree change.grove on now nothing_typed)
       ∙ sym (ap (λ p. page_seen kept r.root now (typed_by p (place_in spot.selection))) none)) change.look.page)
-      (subst (λ (z : Spec). IfSome r.look.begins (Begins z now (place_in spot.selection))) (sym remembers.dropped.1.spec) change.look.begins)
+      (change.look.way, subst (λ (z : Spec). IfSome r.look.begins (Begins z now (place_in spot.selection))) (sym remembers.dropped.1.spec) change.look.begins)

@@ -18,7 +18,7 @@ use Rattle.sg_changes.specs.Chain.{AllRedo, AllUndo, Passes}
 use Rattle.sg_changes.specs.Told.{Agree, tops}
 use Rattle.sg_changes.proofs.Telling.{agree_future, agree_past, future_agrees, past_agrees}
 use Rattle.sg_unparse.specs.Sheet.{Sheet}
-use Rattle.sg_unparse.specs.declared.page.Beginning.{Beginning}
+use Rattle.sg_buffer.specs.declared.way.Standing.{Standing}
 use Rattle.sg_states.specs.Selections.{place_in}
 use Rattle.sg_states.specs.Seen.{is_spot}
 use Rattle.sg_states.specs.States.{State}
@@ -28,7 +28,7 @@ use Rattle.sg_turns.proofs.Hanging.{agree_then}
 use Rattle.sg_turns.proofs.Trees.{climbs_on, holds_on, page_on, root_on, whole_kept}
 use Rattle.sg_buffer.specs.AsBefore.{IsAsBefore}
 use Rattle.sg_buffer.specs.Held.{Held, state_of, typed_by}
-use Rattle.sg_buffer.specs.Buffers.{StandsFor, IsBuffer, Keeps, KeepsBeginning}
+use Rattle.sg_buffer.specs.Buffers.{StandsFor, IsBuffer, Keeps, IsStanding}
 use Rattle.sg_buffer.proofs.Closing.{Closes, closes}
 
 -- with another grove
@@ -55,7 +55,7 @@ grove_kept old new is spec grown same =
         let there = sym (same n) ∙ then in
         node_after old.spec old.trees new.trees old.pool new.pool grown is n y y there refl refl (kids_fit old.spec old.trees new.trees old.pool new.pool grown is kinds n y there)
 
-module _ (b : Held) (count room : ℕ) (page : Option Sheet) (begins : Option Beginning) (is : IsBuffer b count room page begins) (new : Grove) (spec : new.spec ≡ b.grove.spec) (pool : IsGrown b.grove.pool new.pool) (same : (n : NodeId) → nodes new n ≡ nodes b.grove n) where
+module _ (b : Held) (count room : ℕ) (page : Option Sheet) (standing : Standing) (is : IsBuffer b count room page standing) (new : Grove) (spec : new.spec ≡ b.grove.spec) (pool : IsGrown b.grove.pool new.pool) (same : (n : NodeId) → nodes new n ≡ nodes b.grove n) where
   abbrev st : State
   st = state_of b
 
@@ -97,10 +97,10 @@ module _ (b : Held) (count room : ℕ) (page : Option Sheet) (begins : Option Be
     alone = is.stands.alone;
   }
 
-  pub regrown_closes : Closes (regrown b new) st count room page begins
+  pub regrown_closes : Closes (regrown b new) st count room page standing
   regrown_closes =
-      closes (regrown b new) st count room page begins still_stands is.counted is.room_is is.few (subst (Keeps page) (sym (page_on b.grove new b.root (tree b.root) is.stands.grove on st.term (typed_by b.capture (place_in st.spot.selection)))) is.page_is)
-      (subst (λ (z : Spec). KeepsBeginning begins z st) (sym spec) is.begins_is)
+      closes (regrown b new) st count room page standing still_stands is.counted is.room_is is.few (subst (Keeps page) (sym (page_on b.grove new b.root (tree b.root) is.stands.grove on st.term (typed_by b.capture (place_in st.spot.selection)))) is.page_is)
+      (subst (λ (z : Spec). IsStanding standing z st) (sym spec) is.standing_is)
 
   as_before : IsAsBefore b (regrown b new)
   as_before = record {
@@ -113,5 +113,5 @@ module _ (b : Held) (count room : ℕ) (page : Option Sheet) (begins : Option Be
   }
 
   -- where the fields are seen as another value
-  pub kept_here : (v : Held) → b ≡ v → IsBuffer (regrown b new) count room page begins × IsAsBefore v (regrown b new)
+  pub kept_here : (v : Held) → b ≡ v → IsBuffer (regrown b new) count room page standing × IsAsBefore v (regrown b new)
   kept_here v view = (regrown_closes.is, subst (λ z. IsAsBefore z (regrown b new)) view as_before)

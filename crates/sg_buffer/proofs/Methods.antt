@@ -18,6 +18,7 @@ use Rattle.sg_select.proofs.Settling.{settled_rests}
 use Rattle.sg_unparse.specs.Page.{cells_of, owner_at}
 use Rattle.sg_unparse.specs.Sheet.{Sheet}
 use Rattle.sg_unparse.specs.declared.page.Beginning.{Beginning}
+use Rattle.sg_buffer.specs.declared.way.Standing.{Standing}
 use Rattle.sg_states.specs.Beginnings.{Begins}
 use Rattle.sg_states.specs.Selections.{elements_at, path_to}
 use Rattle.sg_states.specs.Seen.{first_line, marks_seen, nothing_typed}
@@ -30,13 +31,13 @@ use Rattle.sg_states.proofs.Selecting.{path_back, selection_rests}
 use Rattle.sg_states.proofs.Spotted.{spot_selects}
 use Rattle.sg_turns.specs.Known.{IsKnown}
 use Rattle.sg_buffer.specs.Held.{Held, shown, state_of, typed_by}
-use Rattle.sg_buffer.specs.Buffers.{IsBuffer, Keeps, KeepsBeginning}
+use Rattle.sg_buffer.specs.Buffers.{IsBuffer, Keeps}
 use Rattle.sg_buffer.specs.declared.buffers.Buffer.TheInside.{Inside}
 use Rattle.sg_buffer.proofs.Closing.{Closes, captured_closes, counted_closes, plain_page, stood_closes}
 use Rattle.sg_buffer.proofs.Extending.{full_told, more_there, more_told, none_told}
 use Rattle.sg_buffer.proofs.Going.{Reached, cell_leads, cell_live, cell_rests, move_rests, reached, settled_there}
 use Rattle.sg_buffer.proofs.Standing.{capturing, counted, longer, shorter, stood}
-use Rattle.sg_buffer.proofs.Standing as standing
+use Rattle.sg_buffer.proofs.Standing as stands
 
 -- what the fields hold
 abbrev pub held : Inside → Held
@@ -52,25 +53,29 @@ held b = record {
   capture = b.capture;
 }
 
-module _ (b : Held) (count room : ℕ) (page : Option Sheet) (begins : Option Beginning) (is : IsBuffer b count room page begins) where
+module _ (b : Held) (count room : ℕ) (page : Option Sheet) (standing : Standing) (is : IsBuffer b count room page standing) where
   abbrev pub now : State
   now = state_of b
 
   pub placed_now : IsPlaced b.grove b.root now.term (selected_place now) b.selected
-  placed_now = standing.placed b now is.stands
+  placed_now = stands.placed b now is.stands
+
+  -- the path that is kept leads to the selected node
+  pub way_there : Climbs (nodes b.grove) (place_of standing.way) b.selected b.root
+  way_there = subst (λ p. Climbs (nodes b.grove) (place_of p) b.selected b.root) (sym is.standing_is.0) is.stands.selected
 
   pub rests_now : rests b.grove.spec now.term (selected_place now) ≡ true
   rests_now = selection_rests b.grove.spec now.term (selected_place now) now.spot.selection.count (spot_selects b.grove.spec b.height now.term now.spot is.stands.spot)
 
   -- a node that settles where it is
-  pub stand_closes : (p : Sheet) → p ≡ shown b → (o : Option Beginning) (n : NodeId) (top : ℕ) → b.capture ≡ None → ((u : Place) → Climbs (nodes b.grove) u n b.root → settled b.grove.spec now.term u ≡ u)
+  pub stand_closes : (p : Sheet) → p ≡ shown b → (o : Standing) (n : NodeId) (top : ℕ) → ((u : Place) → Climbs (nodes b.grove) u n b.root → o.way ≡ path_to u) → b.capture ≡ None → ((u : Place) → Climbs (nodes b.grove) u n b.root → settled b.grove.spec now.term u ≡ u)
       → ((u : Place) → IsWhole b.grove b.root now.term → Climbs (nodes b.grove) u n b.root → p ≡ page_seen b.grove b.root now.term nothing_typed → top ≡ topped b.height (first_line b.grove.spec now.term u) b.top)
-      → ((u : Place) → IsWhole b.grove b.root now.term → Climbs (nodes b.grove) u n b.root → p ≡ page_seen b.grove b.root now.term nothing_typed → IfSome o (Begins b.grove.spec now.term u))
+      → ((u : Place) → IsWhole b.grove b.root now.term → Climbs (nodes b.grove) u n b.root → p ≡ page_seen b.grove b.root now.term nothing_typed → IfSome o.begins (Begins b.grove.spec now.term u))
       → (u : Place) → Climbs (nodes b.grove) u n b.root → Closes (stood b n top) (states.selected b.grove.spec b.height u now) count room (Some p) o
-  stand_closes p shows o n top none still seen begun u way =
-      let plain = plain_page b count room page begins is p none shows in
+  stand_closes p shows o n top path none still seen begun u way =
+      let plain = plain_page b count room page standing is p none shows in
       let rest : rests b.grove.spec now.term u ≡ true = subst (λ z. rests b.grove.spec now.term z ≡ true) (still u way) (settled_rests b.grove.spec now.term u) in
-      stood_closes b count room page begins is p shows o u n top (begun u is.stands.whole way plain) none way rest (seen u is.stands.whole way plain)
+      stood_closes b count room page standing is p shows o u n top (path u way) (begun u is.stands.whole way plain) none way rest (seen u is.stands.whole way plain)
 
   -- a move that leads to a node
   pub go_reaches : (to : Move) (n : NodeId) → LeadsTo b.grove b.root (target to b.grove.spec now.term (selected_place now)) (Some n)
@@ -84,61 +89,63 @@ module _ (b : Held) (count room : ℕ) (page : Option Sheet) (begins : Option Be
   inside_there o n r = record { path = r.place; climbs = r.way }
 
   -- counts
-  pub longer_closes : b.capture ≡ None → now.spot.selection.count < elements_at b.grove.spec now.term (selected_place now) → Closes (counted b (b.count + 1)) (states.extended now) count room page begins
+  pub longer_closes : b.capture ≡ None → now.spot.selection.count < elements_at b.grove.spec now.term (selected_place now) → Closes (counted b (b.count + 1)) (states.extended now) count room page standing
   longer_closes none more =
-      subst (λ n. Closes (counted b (n + 1)) (states.extended now) count room page begins) (sym is.stands.count)
-      (counted_closes b count room page begins is (now.spot.selection.count + 1) none (longer b now is.stands more))
+      subst (λ n. Closes (counted b (n + 1)) (states.extended now) count room page standing) (sym is.stands.count)
+      (counted_closes b count room page standing is (now.spot.selection.count + 1) none (longer b now is.stands more))
 
-  pub shorter_closes : b.capture ≡ None → now.spot.selection.count ≢ 1 → Closes (counted b (b.count - 1)) (states.shrunk now) count room page begins
+  pub shorter_closes : b.capture ≡ None → now.spot.selection.count ≢ 1 → Closes (counted b (b.count - 1)) (states.shrunk now) count room page standing
   shorter_closes none many =
-      subst (λ n. Closes (counted b (n - 1)) (states.shrunk now) count room page begins) (sym is.stands.count)
-      (counted_closes b count room page begins is (now.spot.selection.count - 1) none (shorter b now is.stands many))
+      subst (λ n. Closes (counted b (n - 1)) (states.shrunk now) count room page standing) (sym is.stands.count)
+      (counted_closes b count room page standing is (now.spot.selection.count - 1) none (shorter b now is.stands many))
 
   -- captures
-  pub typed_closes : (bytes : List ℕ) (c : Captured) → b.count ≡ 1 → c ≡ put_in (unwrap_or b.capture (captured [] 0)) bytes → Closes (capturing b (Some c)) (states.typed bytes now) count room None begins
+  pub typed_closes : (bytes : List ℕ) (c : Captured) → b.count ≡ 1 → c ≡ put_in (unwrap_or b.capture (captured [] 0)) bytes → Closes (capturing b (Some c)) (states.typed bytes now) count room None standing
   typed_closes bytes c one made =
-      subst (λ o. Closes (capturing b (Some c)) (record now { capture = o }) count room None begins) (ap (λ z. Some z) (made ∙ ap (λ o. put_in (unwrap_or o (captured [] 0)) bytes) is.stands.capture))
-      (captured_closes b count room page begins is (Some c) None one tt)
+      subst (λ o. Closes (capturing b (Some c)) (record now { capture = o }) count room None standing) (ap (λ z. Some z) (made ∙ ap (λ o. put_in (unwrap_or o (captured [] 0)) bytes) is.stands.capture))
+      (captured_closes b count room page standing is (Some c) None one tt)
 
-  pub erased_closes : (c : Captured) → option_map taken_out b.capture ≡ Some c → MatchOption b.capture ⊤ (λ _. b.count ≡ 1) → Closes (capturing b (Some c)) (states.erased now) count room None begins
+  pub erased_closes : (c : Captured) → option_map taken_out b.capture ≡ Some c → MatchOption b.capture ⊤ (λ _. b.count ≡ 1) → Closes (capturing b (Some c)) (states.erased now) count room None standing
   erased_closes c made one =
-      subst (λ o. Closes (capturing b (Some c)) (record now { capture = o }) count room None begins) (sym made ∙ ap (option_map taken_out) is.stands.capture)
-      (captured_closes b count room page begins is (Some c) None (alone b.capture made one) tt)
+      subst (λ o. Closes (capturing b (Some c)) (record now { capture = o }) count room None standing) (sym made ∙ ap (option_map taken_out) is.stands.capture)
+      (captured_closes b count room page standing is (Some c) None (alone b.capture made one) tt)
     where
       alone : (o : Option Captured) → option_map taken_out o ≡ Some c → MatchOption o ⊤ (λ _. b.count ≡ 1) → b.count ≡ 1
       alone None e h = absurd (let IsNone : Option Captured → Type 0 = λ o. elim o [ None ↦ Unit {0} | Some y ↦ ⊥ ] in subst IsNone e tt)
       alone (Some x) e h = h
 
-  pub ended_closes : Closes (capturing b None) (states.ended now) count room None begins
-  ended_closes = captured_closes b count room page begins is None None tt tt
+  pub ended_closes : Closes (capturing b None) (states.ended now) count room None standing
+  ended_closes = captured_closes b count room page standing is None None tt tt
 
 -- the same, where the fields are seen as another value
-module _ (b v : Held) (view : b ≡ v) (count room : ℕ) (page : Option Sheet) (begins : Option Beginning) (is : IsBuffer b count room page begins) where
-  pub stood_here : (p : Sheet) → p ≡ shown v → (o : Option Beginning) (n : NodeId) (top : ℕ) → IsInside (nodes v.grove) n v.root → v.capture ≡ None
+module _ (b v : Held) (view : b ≡ v) (count room : ℕ) (page : Option Sheet) (standing : Standing) (is : IsBuffer b count room page standing) where
+  pub stood_here : (p : Sheet) → p ≡ shown v → (o : Standing) (n : NodeId) (top : ℕ) → ((root : NodeId) (t : Term) (u : Place) → IsPlaced b.grove root t u n → place_of o.way ≡ u) → IsInside (nodes v.grove) n v.root → v.capture ≡ None
       → ((u : Place) → Climbs (nodes v.grove) u n v.root → settled v.grove.spec (state_of v).term u ≡ u)
       → ((root : NodeId) (t : Term) (u : Place) → IsWhole b.grove root t → Climbs (nodes b.grove) u n root → p ≡ page_seen b.grove root t nothing_typed → top ≡ topped b.height (first_line b.grove.spec t u) b.top)
-      → ((root : NodeId) (t : Term) (u : Place) → IsWhole b.grove root t → Climbs (nodes b.grove) u n root → p ≡ page_seen b.grove root t nothing_typed → IfSome o (Begins b.grove.spec t u))
+      → ((root : NodeId) (t : Term) (u : Place) → IsWhole b.grove root t → Climbs (nodes b.grove) u n root → p ≡ page_seen b.grove root t nothing_typed → IfSome o.begins (Begins b.grove.spec t u))
       → IsBuffer (stood b n top) count room (Some p) o × ((u : Place) → Climbs (nodes v.grove) u n v.root → state_of (stood b n top) ≡ states.selected v.grove.spec v.height u (state_of v))
-  stood_here p shows o n top node none still seen begun =
+  stood_here p shows o n top named node none still seen begun =
       let here : IsInside (nodes b.grove) n b.root = subst (λ (z : Held). IsInside (nodes z.grove) n z.root) (sym view) node in
       let free : b.capture ≡ None = ap (λ (z : Held). z.capture) view ∙ none in
       let stays : (u : Place) → Climbs (nodes b.grove) u n b.root → settled b.grove.spec (state_of b).term u ≡ u =
       subst (λ (z : Held). (u : Place) → Climbs (nodes z.grove) u n z.root → settled z.grove.spec (state_of z).term u ≡ u) (sym view) still in
-      let all = stand_closes b count room page begins is p (subst (λ (z : Held). p ≡ shown z) (sym view) shows) o n top free stays (λ u whole way paged. seen b.root (state_of b).term u whole way paged) (λ u whole way paged. begun b.root (state_of b).term u whole way paged) in (
+      let path : (u : Place) → Climbs (nodes b.grove) u n b.root → o.way ≡ path_to u =
+      λ u way. sym (path_back o.way) ∙ ap path_to (named b.root (state_of b).term u (record { top = is.stands.whole.top; holds = is.stands.whole.holds; way = way })) in
+      let all = stand_closes b count room page standing is p (subst (λ (z : Held). p ≡ shown z) (sym view) shows) o n top path free stays (λ u whole way paged. seen b.root (state_of b).term u whole way paged) (λ u whole way paged. begun b.root (state_of b).term u whole way paged) in (
         (all here.path here.climbs).is,
         subst (λ (z : Held). (u : Place) → Climbs (nodes z.grove) u n z.root → state_of (stood b n top) ≡ states.selected z.grove.spec z.height u (state_of z)) view (λ u way. (all u way).told),
       )
 
   -- what is known of the term
-  pub known_here : (at : Beginning) → begins ≡ Some at → IsKnown v.grove v.root (record { selected = b.selected; begins = at; count = count })
+  pub known_here : (at : Beginning) → standing.begins ≡ Some at → IsKnown v.grove v.root (record { selected = b.selected; begins = at; count = count })
   known_here at kept =
       subst (λ (z : Held). IsKnown z.grove z.root (record { selected = b.selected; begins = at; count = count })) view (record {
         term = (state_of b).term;
         place = selected_place (state_of b);
         whole = is.stands.whole;
         way = is.stands.selected;
-        rests = rests_now b count room page begins is;
-        begins = subst (λ o. KeepsBeginning o b.grove.spec (state_of b)) kept is.begins_is;
+        rests = rests_now b count room page standing is;
+        begins = subst (λ o. MatchOption o ⊤ (Begins b.grove.spec (state_of b).term (selected_place (state_of b)))) kept is.standing_is.1;
         counted = is.counted;
       })
 
@@ -154,7 +161,7 @@ module _ (b v : Held) (view : b ≡ v) (count room : ℕ) (page : Option Sheet) 
     place = r.place;
     at = r.at;
     way = subst (λ (z : Held). Climbs (nodes z.grove) r.place n z.root) view r.way;
-    still = subst (λ (z : Held). (u : Place) → Climbs (nodes z.grove) u n z.root → settled z.grove.spec (state_of z).term u ≡ u) view (still_there b count room page begins is o n r);
+    still = subst (λ (z : Held). (u : Place) → Climbs (nodes z.grove) u n z.root → settled z.grove.spec (state_of z).term u ≡ u) view (still_there b count room page standing is o n r);
   }
 
   abbrev pub goes : Held → Move → Option Place
@@ -163,12 +170,12 @@ module _ (b v : Held) (view : b ≡ v) (count room : ℕ) (page : Option Sheet) 
   pub gone : (to : Move) (n : NodeId) → ((root : NodeId) (t : Term) (u : Place) → IsPlaced b.grove root t u b.selected → rests b.grove.spec t u ≡ true → LeadsTo b.grove root (target to b.grove.spec t u) (Some n)) → Found (goes v to) n
   gone to n leads =
       subst (λ (z : Held). Found (goes z to) n) view
-      (found (goes b to) n (go_reaches b count room page begins is to n (leads b.root (state_of b).term (selected_place (state_of b)) (placed_now b count room page begins is) (rests_now b count room page begins is))))
+      (found (goes b to) n (go_reaches b count room page standing is to n (leads b.root (state_of b).term (selected_place (state_of b)) (placed_now b count room page standing is) (rests_now b count room page standing is))))
 
   pub stays : (to : Move) → ((root : NodeId) (t : Term) (u : Place) → IsPlaced b.grove root t u b.selected → rests b.grove.spec t u ≡ true → LeadsTo b.grove root (target to b.grove.spec t u) None) → goes v to ≡ None
   stays to leads =
       subst (λ (z : Held). goes z to ≡ None) view
-      (leads_none b.grove b.root (goes b to) (leads b.root (state_of b).term (selected_place (state_of b)) (placed_now b count room page begins is) (rests_now b count room page begins is)))
+      (leads_none b.grove b.root (goes b to) (leads b.root (state_of b).term (selected_place (state_of b)) (placed_now b count room page standing is) (rests_now b count room page standing is)))
 
   -- cells
   abbrev pub picks : Held → ℕ → ℕ → Option Place
@@ -178,7 +185,7 @@ module _ (b v : Held) (view : b ≡ v) (count room : ℕ) (page : Option Sheet) 
   picks_to z line col = option_map (settled z.grove.spec (state_of z).term) (picks z line col)
 
   plain : (p : Sheet) → p ≡ shown v → v.capture ≡ None → p ≡ page_seen b.grove b.root (state_of b).term nothing_typed
-  plain p shows none = plain_page b count room page begins is p (ap (λ (z : Held). z.capture) view ∙ none) (subst (λ (z : Held). p ≡ shown z) (sym view) shows)
+  plain p shows none = plain_page b count room page standing is p (ap (λ (z : Held). z.capture) view ∙ none) (subst (λ (z : Held). p ≡ shown z) (sym view) shows)
 
   pub cell_there : (p : Sheet) → p ≡ shown v → v.capture ≡ None → (line col : ℕ) (n : NodeId) → owner_at p.cells line col ≡ Some n → IsLive (nodes b.grove) n
   cell_there p shows none line col n e = cell_live b.grove is.stands.grove b.root (state_of b).term is.stands.whole p (plain p shows none) line col n e
@@ -222,34 +229,34 @@ module _ (b v : Held) (view : b ≡ v) (count room : ℕ) (page : Option Sheet) 
 
   -- counts
   pub longer_here : v.capture ≡ None → (state_of b).spot.selection.count < elements_at b.grove.spec (state_of b).term (selected_place (state_of b))
-      → IsBuffer (counted b (b.count + 1)) count room page begins × (state_of (counted b (b.count + 1)) ≡ states.extended (state_of v))
+      → IsBuffer (counted b (b.count + 1)) count room page standing × (state_of (counted b (b.count + 1)) ≡ states.extended (state_of v))
   longer_here none more =
-      let c = longer_closes b count room page begins is (ap (λ (z : Held). z.capture) view ∙ none) more in
+      let c = longer_closes b count room page standing is (ap (λ (z : Held). z.capture) view ∙ none) more in
       (c.is, subst (λ (z : Held). state_of (counted b (b.count + 1)) ≡ states.extended (state_of z)) view c.told)
 
-  pub shorter_here : v.capture ≡ None → b.count ≢ 1 → IsBuffer (counted b (b.count - 1)) count room page begins × (state_of (counted b (b.count - 1)) ≡ states.shrunk (state_of v))
+  pub shorter_here : v.capture ≡ None → b.count ≢ 1 → IsBuffer (counted b (b.count - 1)) count room page standing × (state_of (counted b (b.count - 1)) ≡ states.shrunk (state_of v))
   shorter_here none many =
-      let c = shorter_closes b count room page begins is (ap (λ (z : Held). z.capture) view ∙ none) (λ e. many (is.stands.count ∙ e)) in
+      let c = shorter_closes b count room page standing is (ap (λ (z : Held). z.capture) view ∙ none) (λ e. many (is.stands.count ∙ e)) in
       (c.is, subst (λ (z : Held). state_of (counted b (b.count - 1)) ≡ states.shrunk (state_of z)) view c.told)
 
   -- captures
   abbrev pub typing : Option Captured → Type 0
-  typing o = IsBuffer (capturing b o) count room None begins
+  typing o = IsBuffer (capturing b o) count room None standing
 
   pub typed_here : (bytes : List ℕ) (c : Captured) → v.count ≡ 1 → c ≡ put_in (unwrap_or b.capture (captured [] 0)) bytes
       → typing (Some c) × (state_of (capturing b (Some c)) ≡ states.typed bytes (state_of v))
   typed_here bytes c one made =
-      let d = typed_closes b count room page begins is bytes c (ap (λ (z : Held). z.count) view ∙ one) made in
+      let d = typed_closes b count room page standing is bytes c (ap (λ (z : Held). z.count) view ∙ one) made in
       (d.is, subst (λ (z : Held). state_of (capturing b (Some c)) ≡ states.typed bytes (state_of z)) view d.told)
 
   pub erased_here : (c : Captured) → option_map taken_out b.capture ≡ Some c → typing (Some c) × (state_of (capturing b (Some c)) ≡ states.erased (state_of v))
   erased_here c made =
-      let d = erased_closes b count room page begins is c made is.stands.alone in
+      let d = erased_closes b count room page standing is c made is.stands.alone in
       (d.is, subst (λ (z : Held). state_of (capturing b (Some c)) ≡ states.erased (state_of z)) view d.told)
 
   pub ended_here : typing None × (state_of (capturing b None) ≡ states.ended (state_of v))
   ended_here =
-      let d = ended_closes b count room page begins is in
+      let d = ended_closes b count room page standing is in
       (d.is, subst (λ (z : Held). state_of (capturing b None) ≡ states.ended (state_of z)) view d.told)
 
   -- lists
@@ -260,7 +267,7 @@ module _ (b v : Held) (view : b ≡ v) (count room : ℕ) (page : Option Sheet) 
   module _ (spine : NodeId) (r most : ℕ) (leads : (root : NodeId) (t : Term) (u : Place) → IsPlaced b.grove root t u b.selected → LeadsTo b.grove root (spine_from b.grove.spec t u) (Some spine))
       (elements_are : (s : Term) → Holds b.grove spine s → r ≡ min (elements b.grove.spec s) most) (wide : 65536 ≤ most) where
     leads_now : LeadsTo b.grove b.root (spine_from b.grove.spec (state_of b).term (selected_place (state_of b))) (Some spine)
-    leads_now = leads b.root (state_of b).term (selected_place (state_of b)) (placed_now b count room page begins is)
+    leads_now = leads b.root (state_of b).term (selected_place (state_of b)) (placed_now b count room page standing is)
 
     pub full_here : r ≤ b.count → NoPlace ≡ extension v.grove.spec (state_of v)
     full_here h =
@@ -276,17 +283,15 @@ module _ (b v : Held) (view : b ≡ v) (count room : ℕ) (page : Option Sheet) 
     room_here h = more_there b.grove is.stands.grove b.root (state_of b) is.stands.whole.holds is.stands.small spine b.count r most leads_now elements_are wide is.stands.count h
 
   -- the path of the selected node
-  pub path_here : {E : Type 0} (r : Result (List ℕ) E) → IfOk r (λ path. (root : NodeId) (t : Term) (u : Place) → IsPlaced b.grove root t u b.selected → place_of path ≡ u) → IfOk r (λ path. path ≡ (state_of v).spot.selection.path)
-  path_here (Ok path) named =
-      subst (λ (z : Held). path ≡ (state_of z).spot.selection.path) view
-      (sym (path_back path) ∙ ap path_to (named b.root (state_of b).term (selected_place (state_of b)) (placed_now b count room page begins is)) ∙ path_back (state_of b).spot.selection.path)
-  path_here (Err e) named = tt
+  pub path_here : {E : Type 0} (r : Result (List ℕ) E) → IfOk r (λ path. path ≡ standing.way) → IfOk r (λ path. path ≡ (state_of v).spot.selection.path)
+  path_here (Ok path) same = subst (λ (z : Held). path ≡ (state_of z).spot.selection.path) view (same ∙ is.standing_is.0)
+  path_here (Err e) same = tt
 
   -- the point
-  pub pointed_here : (k : ℕ) (c : Captured) → b.capture ≡ Some c → IsBuffer (capturing b (Some (record c { point = k }))) count room page begins × (state_of (capturing b (Some (record c { point = k }))) ≡ states.pointed k (state_of v))
+  pub pointed_here : (k : ℕ) (c : Captured) → b.capture ≡ Some c → IsBuffer (capturing b (Some (record c { point = k }))) count room page standing × (state_of (capturing b (Some (record c { point = k }))) ≡ states.pointed k (state_of v))
   pointed_here k c one =
-      let d : Closes (capturing b (Some (record c { point = k }))) (record (state_of b) { capture = Some (record c { point = k }) }) count room page begins =
-      captured_closes b count room page begins is (Some (record c { point = k })) page
+      let d : Closes (capturing b (Some (record c { point = k }))) (record (state_of b) { capture = Some (record c { point = k }) }) count room page standing =
+      captured_closes b count room page standing is (Some (record c { point = k })) page
       (subst (λ (o : Option Captured). MatchOption o ⊤ (λ _. b.count ≡ 1)) one is.stands.alone)
       (subst (Keeps page) (ap (λ o. page_seen b.grove b.root (state_of b).term (typed_by o (selected_place (state_of b)))) one) is.page_is) in
       let same : Some (record c { point = k }) ≡ option_map (λ (x : Captured). record x { point = k }) (state_of b).capture =
@@ -296,12 +301,12 @@ module _ (b v : Held) (view : b ≡ v) (count room : ℕ) (page : Option Sheet) 
       )
 
 -- another point
-pub moved_point : (i : Inside) (v : Held) → held i ≡ v → IsBuffer (held i) i.nodes i.history.room i.page i.begins → (k : ℕ) (c new : Captured) → i.capture ≡ Some c → new ≡ record c { point = k } → (then : Inside) → then ≡ record i { capture = Some new }
-    → IsBuffer (held then) then.nodes then.history.room then.page then.begins × (state_of (held then) ≡ states.pointed k (state_of v))
+pub moved_point : (i : Inside) (v : Held) → held i ≡ v → IsBuffer (held i) i.nodes i.history.room i.page i.standing → (k : ℕ) (c new : Captured) → i.capture ≡ Some c → new ≡ record c { point = k } → (then : Inside) → then ≡ record i { capture = Some new }
+    → IsBuffer (held then) then.nodes then.history.room then.page then.standing × (state_of (held then) ≡ states.pointed k (state_of v))
 moved_point i v view is k c new one made then after =
-    subst (λ (z : Inside). IsBuffer (held z) z.nodes z.history.room z.page z.begins × (state_of (held z) ≡ states.pointed k (state_of v))) (sym after)
-    (subst (λ (z : Captured). IsBuffer (capturing (held i) (Some z)) i.nodes i.history.room i.page i.begins × (state_of (capturing (held i) (Some z)) ≡ states.pointed k (state_of v))) (sym made)
-    (pointed_here (held i) v view i.nodes i.history.room i.page i.begins is k c one))
+    subst (λ (z : Inside). IsBuffer (held z) z.nodes z.history.room z.page z.standing × (state_of (held z) ≡ states.pointed k (state_of v))) (sym after)
+    (subst (λ (z : Captured). IsBuffer (capturing (held i) (Some z)) i.nodes i.history.room i.page i.standing × (state_of (capturing (held i) (Some z)) ≡ states.pointed k (state_of v))) (sym made)
+    (pointed_here (held i) v view i.nodes i.history.room i.page i.standing is k c one))
 
 pub none_open : (i : Inside) (v : Held) → held i ≡ v → (k : ℕ) → MatchOption v.capture ⊥ (λ (c : Captured). k ≤ length c.text) → i.capture ≡ None → ⊥
 none_open i v view k there none = subst (λ (o : Option Captured). MatchOption o ⊥ (λ (c : Captured). k ≤ length c.text)) (sym (ap (λ (z : Held). z.capture) view) ∙ none) there

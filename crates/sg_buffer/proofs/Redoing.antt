@@ -20,7 +20,7 @@ use Rattle.sg_changes.specs.declared.step.Step.TheVariants.{Replaced, Marked}
 use Rattle.sg_changes.proofs.Telling.{forth_past, forth_future, forth_undoes}
 use Rattle.sg_undo.specs.Timeline.{Timeline}
 use Rattle.sg_unparse.specs.Sheet.{Sheet}
-use Rattle.sg_unparse.specs.declared.page.Beginning.{Beginning}
+use Rattle.sg_buffer.specs.declared.way.Standing.{Standing}
 use Rattle.sg_states.specs.Selections.{place_in}
 use Rattle.sg_states.specs.Seen.{is_spot}
 use Rattle.sg_states.specs.States.{State, redone, redone_by}
@@ -39,7 +39,7 @@ use Rattle.sg_buffer.specs.Held.{Held, state_of}
 use Rattle.sg_buffer.specs.Buffers.{StandsFor, IsBuffer}
 use Rattle.sg_buffer.proofs.Closing.{Closes, closes}
 use Rattle.sg_buffer.proofs.Standing.{no_capture}
-use Rattle.sg_buffer.proofs.Undoing.{stepped_held}
+use Rattle.sg_buffer.proofs.Undoing.{stepped_held, unseen}
 
 -- a step may be done again
 pub may_forth : (g : Grove) → IsGrove g → (root : NodeId) (t : Term) (count : ℕ) → IsWhole g root t → Fits g.spec t g.spec.root → count ≡ nodes_of t → IsSmall t
@@ -52,7 +52,7 @@ may_forth g is root t count whole fits counted small (Replaced path hangs before
 may_forth g is root t count whole fits counted small (Marked path old new before after) roots at proper later there =
     may_mark g is root t (step_place (Marked path old new before after)) after count whole fits counted small old new at proper.1 later there
 
-module _ (b : Held) (count room : ℕ) (page : Option Sheet) (begins : Option Beginning) (is : IsBuffer b count room page begins) (s : Step) (rest : List Step) (future_is : b.future ≡ s ∷ rest) where
+module _ (b : Held) (count room : ℕ) (page : Option Sheet) (standing : Standing) (is : IsBuffer b count room page standing) (s : Step) (rest : List Step) (future_is : b.future ≡ s ∷ rest) where
   abbrev st : State
   st = state_of b
 
@@ -171,9 +171,9 @@ module _ (b : Held) (count room : ℕ) (page : Option Sheet) (begins : Option Be
     few : length (hung s r.out ∷ b.past) + length rest ≤ 256
     few = (let e = ap length future_is in let f = is.few in omega (arith, e, f))
 
-    pub redone_closes : b.capture ≡ None → Closes (stepped_held b new r (hung s r.out ∷ b.past) rest) (redone_by (c ∷ older) st) r.nodes room None None
+    pub redone_closes : b.capture ≡ None → Closes (stepped_held b new r (hung s r.out ∷ b.past) rest) (redone_by (c ∷ older) st) r.nodes room None (unseen r)
     redone_closes none =
-        closes (stepped_held b new r (hung s r.out ∷ b.past) rest) (redone_by (c ∷ older) st) r.nodes room None None (redone_stands none) (stepped.counted ∙ ap nodes_of made_is) is.room_is few tt tt
+        closes (stepped_held b new r (hung s r.out ∷ b.past) rest) (redone_by (c ∷ older) st) r.nodes room None (unseen r) (redone_stands none) (stepped.counted ∙ ap nodes_of made_is) is.room_is few tt (stepped.path ∙ ap (λ (z : Spot). z.selection.path) (spot_after (term_at g) st.term s), tt)
 
 -- what the journal gains
 gained_forth : (g new : Grove) (root : NodeId) (t : Term) (s : Step) (was now : List Instance) → Notes g new root t (step_place s) (redoing s) was now → GainedForth g.spec t was now new root (future_change (term_at g) t s)
@@ -185,14 +185,14 @@ noted_forth g t (Replaced path hangs before after) was now notes = notes
 noted_forth g t (Marked path old made before after) was now notes = notes
 
 -- where the fields are seen as another value
-module _ (b v : Held) (view : b ≡ v) (count room : ℕ) (page : Option Sheet) (begins : Option Beginning) (is : IsBuffer b count room page begins) where
+module _ (b v : Held) (view : b ≡ v) (count room : ℕ) (page : Option Sheet) (standing : Standing) (is : IsBuffer b count room page standing) where
   pub nothing_future : b.future ≡ [] → (state_of v).future ≡ []
   nothing_future none = subst (λ (z : Held). (state_of z).future ≡ []) view (sym is.stands.future ∙ ap (told_future (term_at b.grove) (state_of b).term) none)
 
   module _ (s : Step) (rest : List Step) (future_is : b.future ≡ s ∷ rest) where
     pub some_future : (state_of v).future ≢ []
     some_future none = no_cons (future_change (term_at b.grove) (state_of b).term s) (told_future (term_at b.grove) (redone_term (state_of b).term (future_change (term_at b.grove) (state_of b).term s)) rest)
-        (future_then b count room page begins is s rest future_is ∙ subst (λ (z : Held). (state_of z).future ≡ []) (sym view) none)
+        (future_then b count room page standing is s rest future_is ∙ subst (λ (z : Held). (state_of z).future ≡ []) (sym view) none)
       where
         no_cons : (x : Change) (xs : List Change) → x ∷ xs ≡ [] → ⊥
         no_cons x xs = cc
@@ -200,14 +200,14 @@ module _ (b v : Held) (view : b ≡ v) (count room : ℕ) (page : Option Sheet) 
     pub redone_here : v.capture ≡ None → (new : Grove) → IsGrove new → new.spec ≡ b.grove.spec → (r : Stepped)
         → ((t : Term) → MayStep b.grove b.root t (step_place s) (redoing s) (seen_after s) count → IsStepped b.grove new b.root t (step_place s) (redoing s) (seen_after s) r)
         → (h : Timeline Step) → h.past ≡ hung s r.out ∷ b.past → h.future ≡ rest → h.room ≡ room
-        → IsBuffer (stepped_held b new r h.past h.future) r.nodes h.room None None × (state_of (stepped_held b new r h.past h.future) ≡ redone (state_of v))
+        → IsBuffer (stepped_held b new r h.past h.future) r.nodes h.room None (unseen r) × (state_of (stepped_held b new r h.past h.future) ≡ redone (state_of v))
     redone_here none new on spec r stepped h past future room_is =
-        let d = redone_closes b count room page begins is s rest future_is new on spec r (stepped (state_of b).term (may_redo b count room page begins is s rest future_is)) (ap (λ (z : Held). z.capture) view ∙ none) in (
-          subst (λ k. IsBuffer (stepped_held b new r h.past h.future) r.nodes k None None) (sym room_is)
-              (subst (λ ss. IsBuffer (stepped_held b new r h.past ss) r.nodes room None None) (sym future)
-              (subst (λ ss. IsBuffer (stepped_held b new r ss rest) r.nodes room None None) (sym past) d.is)),
+        let d = redone_closes b count room page standing is s rest future_is new on spec r (stepped (state_of b).term (may_redo b count room page standing is s rest future_is)) (ap (λ (z : Held). z.capture) view ∙ none) in (
+          subst (λ k. IsBuffer (stepped_held b new r h.past h.future) r.nodes k None (unseen r)) (sym room_is)
+              (subst (λ ss. IsBuffer (stepped_held b new r h.past ss) r.nodes room None (unseen r)) (sym future)
+              (subst (λ ss. IsBuffer (stepped_held b new r ss rest) r.nodes room None (unseen r)) (sym past) d.is)),
           subst (λ (z : Held). state_of (stepped_held b new r h.past h.future) ≡ redone (state_of z)) view
-              (ap (λ ss. state_of (stepped_held b new r ss h.future)) past ∙ ap (λ ss. state_of (stepped_held b new r (hung s r.out ∷ b.past) ss)) future ∙ d.told ∙ sym (redone_is b count room page begins is s rest future_is)),
+              (ap (λ ss. state_of (stepped_held b new r ss h.future)) past ∙ ap (λ ss. state_of (stepped_held b new r (hung s r.out ∷ b.past) ss)) future ∙ d.told ∙ sym (redone_is b count room page standing is s rest future_is)),
         )
 
     pub gained_here : (new : Grove) (root : NodeId) (was now : List Instance)
@@ -215,13 +215,13 @@ module _ (b v : Held) (view : b ≡ v) (count room : ℕ) (page : Option Sheet) 
         → OfFirst (state_of v).future (GainedForth v.grove.spec (state_of v).term was now new root)
     gained_here new root was now notes =
         subst (λ (z : Held). OfFirst (state_of z).future (GainedForth z.grove.spec (state_of z).term was now new root)) view
-        (subst (λ cs. OfFirst cs (GainedForth b.grove.spec (state_of b).term was now new root)) (future_then b count room page begins is s rest future_is)
-        (gained_forth b.grove new root (state_of b).term s was now (notes (state_of b).term (may_redo b count room page begins is s rest future_is))))
+        (subst (λ cs. OfFirst cs (GainedForth b.grove.spec (state_of b).term was now new root)) (future_then b count room page standing is s rest future_is)
+        (gained_forth b.grove new root (state_of b).term s was now (notes (state_of b).term (may_redo b count room page standing is s rest future_is))))
 
     pub noted_here : (was now : List Instance)
         → ((t : Term) → MayStep b.grove b.root t (step_place s) (redoing s) (seen_after s) count → NotesSome b.grove t (step_place s) (redoing s) was now)
         → OfFirst (state_of v).future (NotedForth v.grove.spec (state_of v).term was now)
     noted_here was now notes =
         subst (λ (z : Held). OfFirst (state_of z).future (NotedForth z.grove.spec (state_of z).term was now)) view
-        (subst (λ cs. OfFirst cs (NotedForth b.grove.spec (state_of b).term was now)) (future_then b count room page begins is s rest future_is)
-        (noted_forth b.grove (state_of b).term s was now (notes (state_of b).term (may_redo b count room page begins is s rest future_is))))
+        (subst (λ cs. OfFirst cs (NotedForth b.grove.spec (state_of b).term was now)) (future_then b count room page standing is s rest future_is)
+        (noted_forth b.grove (state_of b).term s was now (notes (state_of b).term (may_redo b count room page standing is s rest future_is))))

@@ -1,6 +1,7 @@
 -- A buffer after a term came in the place of a node.
-use Rattle.std.specs.Prelude.{◌≡◌, ◌≢◌, ◌↔◌, refl, ℕ, ◌≤◌, IsOk, List, [], ◌∷◌, Option, None, Some, Result, Ok, Err}
+use Rattle.std.specs.Prelude.{◌≡◌, ◌≢◌, ◌↔◌, refl, ℕ, ◌≤◌, IsOk, length, List, [], ◌∷◌, Option, None, Some, Result, Ok, Err}
 use Rattle.std.proofs.Common.{sym, ap, ◌∙◌, subst}
+use Rattle.std.proofs.lemmas.List.{length-reverse}
 use Rattle.std.proofs.lemmas.Option.{same_Some}
 use Rattle.sg_kinds.specs.Terms.{Term, nodes_of}
 use Rattle.sg_kinds.specs.Fits.{Fits}
@@ -26,8 +27,8 @@ use Rattle.sg_changes.proofs.Marking.{part_is}
 use Rattle.sg_changes.proofs.Telling.{agree_past, put_pushed}
 use Rattle.sg_undo.specs.Timeline.{Timeline}
 use Rattle.sg_unparse.specs.Sheet.{Sheet}
-use Rattle.sg_unparse.specs.declared.page.Beginning.{Beginning}
-use Rattle.sg_states.specs.Selections.{path_to, settled_selection}
+use Rattle.sg_buffer.specs.declared.way.Standing.{Standing}
+use Rattle.sg_states.specs.Selections.{settled_selection}
 use Rattle.sg_states.specs.Seen.{seen}
 use Rattle.sg_states.specs.States.{State, replaced}
 use Rattle.sg_states.proofs.Spotted.{settled_seen}
@@ -50,7 +51,7 @@ step_same : (path path' : List ℕ) (n : NodeId) (before before' after after' : 
 step_same path path' n before before' after after' p q r =
     ap (λ z. Replaced z n before after) p ∙ ap (λ z. Replaced path' n z after) q ∙ ap (λ z. Replaced path' n before' z) r
 
-module _ (b : Held) (count room : ℕ) (page : Option Sheet) (begins : Option Beginning) (is : IsBuffer b count room page begins) (path : List ℕ) (s : Term) (fit : FitsAt b (place_of path) s) where
+module _ (b : Held) (count room : ℕ) (page : Option Sheet) (standing : Standing) (is : IsBuffer b count room page standing) (path : List ℕ) (s : Term) (fit : FitsAt b (place_of path) s) where
   abbrev st : State
   st = state_of b
 
@@ -79,6 +80,11 @@ module _ (b : Held) (count room : ℕ) (page : Option Sheet) (begins : Option Be
 
     pub known : OfWhole b.grove n (λ whole. count ≡ nodes_of whole)
     known root whole w p = is.counted ∙ ap nodes_of (sym (whole_is root whole w p))
+
+    -- as many steps lead up as its path is long
+    pub steps_up : (steps : ℕ) → steps ≡ length path → (root : NodeId) (whole : Term) (w : Place) → IsPlaced b.grove root whole w n → steps ≡ length w
+    steps_up steps long root whole w p =
+        long ∙ sym (length-reverse path) ∙ ap length (one_way b.grove is.stands.grove u w n b.root root is.stands.whole.top p.top way p.way).0
 
     pub within : OfWhole b.grove n IsSmall
     within root whole w p = subst IsSmall (sym (whole_is root whole w p)) is.stands.small
@@ -147,15 +153,15 @@ module _ (b : Held) (count room : ℕ) (page : Option Sheet) (begins : Option Be
 
       -- from what the calls tell, where the fields are seen as another value
       pub put_here : (v : Held) → b ≡ v → (before : Spot)
-          → ((root : NodeId) (w : Term) (p : Place) → IsPlaced b.grove root w p b.selected → before ≡ record { selection = record { path = path_to p; count = b.count }; top = b.top })
+          → before ≡ record { selection = record { path = standing.way; count = b.count }; top = b.top }
           → (copy : List ℕ) → copy ≡ path → (made : Step) → made ≡ Replaced copy n before t.look.spot
           → (kept : Grove) → IsGrove kept → (h : Timeline Step) → Remembers mid kept b.past b.future room made h → (nodes : ℕ) → nodes ≡ nodes_of now
-          → IsBuffer (changed_held b kept t h None) nodes h.room t.look.page t.look.begins × (state_of (changed_held b kept t h None) ≡ replaced v.grove.spec v.height u s select (state_of v)) × KeepsTree mid kept t.root
+          → IsBuffer (changed_held b kept t h None) nodes h.room t.look.page (record { way = t.look.way; begins = t.look.begins }) × (state_of (changed_held b kept t h None) ≡ replaced v.grove.spec v.height u s select (state_of v)) × KeepsTree mid kept t.root
       put_here v view before told copy copy_is made made_is kept still h remembers nodes counted =
-          let same = made_is ∙ step_same copy path n before st.spot t.look.spot spot copy_is (spot_is b count room page begins is before told) puts_now.look.spot_is in
+          let same = made_is ∙ step_same copy path n before st.spot t.look.spot spot copy_is (spot_is b count room page standing is before told) puts_now.look.spot_is in
           let kept_steps : Remembers mid kept b.past b.future room step h = subst (λ z. Remembers mid kept b.past b.future room z h) same remembers in
           let d = kept_steps.dropped in
-          let c = changed_closes b count room page begins is mid kept still now (Put u (part_of st.term u) s st.spot spot) step spot t put_changed h kept_steps None refl nodes counted in (
+          let c = changed_closes b count room page standing is mid kept still now (Put u (part_of st.term u) s st.spot spot) step spot t put_changed h kept_steps None refl nodes counted in (
             c.is,
             subst (λ (z : Held). state_of (changed_held b kept t h None) ≡ replaced z.grove.spec z.height u s select (state_of z)) view c.told,
             root_kept mid kept on still t.root (n ∷ tops b.past b.future) (tops_of h.past) d.0 (puts.roots (tops b.past b.future) is.stands.roots) d.1 d.2,
@@ -171,7 +177,7 @@ pub same_size : (a c : Counts) (r : Result (Unit {0}) BufferFault) → r ≡ Err
 same_size a c r one two = ap (size_in a) (sym one ∙ two)
 
 -- where the fields are seen as another value
-module _ (b v : Held) (view : b ≡ v) (count room : ℕ) (page : Option Sheet) (begins : Option Beginning) (is : IsBuffer b count room page begins) (path : List ℕ) (s : Term) where
+module _ (b v : Held) (view : b ≡ v) (count room : ℕ) (page : Option Sheet) (standing : Standing) (is : IsBuffer b count room page standing) (path : List ℕ) (s : Term) where
   pub fit_here : FitsAt v (place_of path) s → FitsAt b (place_of path) s
   fit_here fits = subst (λ z. FitsAt z (place_of path) s) (sym view) fits
 
@@ -189,7 +195,7 @@ module _ (b v : Held) (view : b ≡ v) (count room : ℕ) (page : Option Sheet) 
     then_counted : (P : Term → Type 0) → OfReplaced b.grove n c P → P (put (state_of v).term (place_of path) s)
     then_counted P replaced_is =
         subst (λ z. P (put (state_of z).term (place_of path) s)) view
-        (replaced_is b.root (state_of b).term s (place_of path) (at_place b count room page begins is path s (fit_here fits) n way) counts)
+        (replaced_is b.root (state_of b).term s (place_of path) (at_place b count room page standing is path s (fit_here fits) n way) counts)
 
     pub small_told : (r : Result ℕ Counts) → OfReplaced b.grove n c (λ whole. IsOk r ↔ IsSmall whole) → IsOk r ↔ IsSmall (put (state_of v).term (place_of path) s)
     small_told r replaced_is = then_counted (λ whole. IsOk r ↔ IsSmall whole) replaced_is

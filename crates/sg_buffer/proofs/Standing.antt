@@ -19,7 +19,7 @@ use Rattle.sg_changes.specs.Told.{told_past, told_future}
 use Rattle.sg_changes.specs.Top.{topped}
 use Rattle.sg_select.specs.RestingPlaces.{rests}
 use Rattle.sg_unparse.specs.Sheet.{Sheet}
-use Rattle.sg_unparse.specs.declared.page.Beginning.{Beginning}
+use Rattle.sg_buffer.specs.declared.way.Standing.{Standing}
 use Rattle.sg_states.specs.Selections.{alone, path_to, place_in, elements_at, is_selection}
 use Rattle.sg_states.specs.Seen.{first_line, is_seen}
 use Rattle.sg_states.specs.States as states
@@ -27,7 +27,7 @@ use Rattle.sg_states.specs.States.{State}
 use Rattle.sg_states.proofs.Selecting.{path_there, path_back, alone_selected}
 use Rattle.sg_states.proofs.Spotted.{spot_seen, spot_selects, spot_shows}
 use Rattle.sg_buffer.specs.Held.{Held, page_by, state_of, term_in, selected_in}
-use Rattle.sg_buffer.specs.Buffers.{StandsFor, IsBuffer, Keeps, KeepsBeginning}
+use Rattle.sg_buffer.specs.Buffers.{StandsFor, IsBuffer, Keeps, IsStanding}
 
 abbrev state : Term → List ℕ → ℕ → ℕ → List Change → List Change → Option Captured → State
 state t path count top past future capture =
@@ -52,8 +52,8 @@ stands_told b st s =
     ∙ ap (λ cs. state st.term st.spot.selection.path st.spot.selection.count st.spot.top st.past cs b.capture) s.future
     ∙ ap (λ c. state st.term st.spot.selection.path st.spot.selection.count st.spot.top st.past st.future c) s.capture
 
-pub is_buffer : (b : Held) (st : State) (count room : ℕ) (page : Option Sheet) (begins : Option Beginning) → StandsFor b st → count ≡ nodes_of st.term → room ≡ 256 → length b.past + length b.future ≤ 256 → Keeps page (page_by b st) → KeepsBeginning begins b.grove.spec st → IsBuffer b count room page begins
-is_buffer b st count room page begins s counted room_is few page_is begins_is =
+pub is_buffer : (b : Held) (st : State) (count room : ℕ) (page : Option Sheet) (standing : Standing) → StandsFor b st → count ≡ nodes_of st.term → room ≡ 256 → length b.past + length b.future ≤ 256 → Keeps page (page_by b st) → IsStanding standing b.grove.spec st → IsBuffer b count room page standing
+is_buffer b st count room page standing s counted room_is few page_is standing_is =
     let told = sym (stands_told b st s) in
     record {
       stands = subst (StandsFor b) told s;
@@ -61,7 +61,7 @@ is_buffer b st count room page begins s counted room_is few page_is begins_is =
       room_is = room_is;
       few = few;
       page_is = subst (λ z. Keeps page (page_by b z)) told page_is;
-      begins_is = subst (KeepsBeginning begins b.grove.spec) told begins_is;
+      standing_is = subst (IsStanding standing b.grove.spec) told standing_is;
     }
 
 -- no capture is alone

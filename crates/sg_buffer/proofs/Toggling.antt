@@ -9,7 +9,7 @@ use Rattle.sg_forest.specs.Trees.{IsRoot}
 use Rattle.sg_groves.specs.declared.kind.Kind.{Kind}
 use Rattle.sg_groves.specs.declared.part.Part.{Part}
 use Rattle.sg_groves.specs.Grove.{Grove, nodes, IsGrove}
-use Rattle.sg_groves.specs.Holds.{Holds, IsPlaced}
+use Rattle.sg_groves.specs.Holds.{Holds}
 use Rattle.sg_groves.specs.TermAt.{term_at}
 use Rattle.sg_groves.proofs.Held.{part_held}
 use Rattle.sg_changes.specs.Captured.{Captured}
@@ -24,7 +24,7 @@ use Rattle.sg_changes.proofs.Marking.{part_is}
 use Rattle.sg_changes.proofs.Telling.{agree_past, mark_pushed}
 use Rattle.sg_undo.specs.Timeline.{Timeline}
 use Rattle.sg_unparse.specs.Sheet.{Sheet}
-use Rattle.sg_unparse.specs.declared.page.Beginning.{Beginning}
+use Rattle.sg_buffer.specs.declared.way.Standing.{Standing}
 use Rattle.sg_states.specs.Selections.{alone, path_to, settled_selection}
 use Rattle.sg_states.specs.Seen.{seen}
 use Rattle.sg_states.specs.States.{State, marked, remarked, selected_place}
@@ -42,7 +42,6 @@ use Rattle.sg_turns.proofs.Values.{nodes_marked, small_marked}
 use Rattle.sg_buffer.specs.Held.{Held, state_of}
 use Rattle.sg_buffer.specs.Buffers.{IsBuffer}
 use Rattle.sg_buffer.proofs.Changing.{Changed, Remembers, changed_closes, changed_held}
-use Rattle.sg_buffer.proofs.Standing as standing
 
 -- the selected node has marks to turn
 pub record Turnable (g : Grove) (n : NodeId) (mark : Mark) (r : Remark) : Type 0 where
@@ -55,7 +54,7 @@ step_same : (path path' : List ℕ) (was new : Marks) (before before' after afte
 step_same path path' was new before before' after after' p q r =
     ap (λ z. Marked z was new before after) p ∙ ap (λ z. Marked path' was new z after) q ∙ ap (λ z. Marked path' was new before' z) r
 
-module _ (b : Held) (count room : ℕ) (page : Option Sheet) (begins : Option Beginning) (is : IsBuffer b count room page begins) where
+module _ (b : Held) (count room : ℕ) (page : Option Sheet) (standing : Standing) (is : IsBuffer b count room page standing) where
   abbrev st : State
   st = state_of b
 
@@ -63,10 +62,10 @@ module _ (b : Held) (count room : ℕ) (page : Option Sheet) (begins : Option Be
   u = selected_place st
 
   -- what is selected and seen
-  pub spot_is : (s : Spot) → ((root : NodeId) (t : Term) (v : Place) → IsPlaced b.grove root t v b.selected → s ≡ record { selection = record { path = path_to v; count = b.count }; top = b.top }) → s ≡ st.spot
+  pub spot_is : (s : Spot) → s ≡ record { selection = record { path = standing.way; count = b.count }; top = b.top } → s ≡ st.spot
   spot_is s told =
-      told b.root st.term u (standing.placed b st is.stands)
-      ∙ ap (λ p. let r : Spot = record { selection = record { path = p; count = b.count }; top = b.top } in r) (path_back st.spot.selection.path)
+      told
+      ∙ ap (λ p. let r : Spot = record { selection = record { path = p; count = b.count }; top = b.top } in r) is.standing_is.0
       ∙ ap (λ n. let r : Spot = record { selection = record { path = st.spot.selection.path; count = n }; top = b.top } in r) is.stands.count
       ∙ ap (λ n. let r : Spot = record { selection = st.spot.selection; top = n } in r) is.stands.top
 
@@ -135,13 +134,13 @@ module _ (b : Held) (count room : ℕ) (page : Option Sheet) (begins : Option Be
       }
 
       pub toggled_closes : (kept : Grove) → IsGrove kept → (h : Timeline Step) → Remembers mid kept b.past b.future room step h → (o : Option Captured) → o ≡ None
-          → IsBuffer (changed_held b kept t h o) count h.room t.look.page t.look.begins × (state_of (changed_held b kept t h o) ≡ remarked b.grove.spec b.height r.old r.new st)
+          → IsBuffer (changed_held b kept t h o) count h.room t.look.page (record { way = t.look.way; begins = t.look.begins }) × (state_of (changed_held b kept t h o) ≡ remarked b.grove.spec b.height r.old r.new st)
       toggled_closes kept still h remembers o none =
-          let c = changed_closes b count room page begins is mid kept still now (Marking u r.old r.new st.spot spot) step spot t mark_changed h remembers o none count (is.counted ∙ sym (nodes_marked st.term u x r.new part.2)) in
+          let c = changed_closes b count room page standing is mid kept still now (Marking u r.old r.new st.spot spot) step spot t mark_changed h remembers o none count (is.counted ∙ sym (nodes_marked st.term u x r.new part.2)) in
           (c.is, c.told)
 
 -- the same, from what the calls tell, where the fields are seen as another value
-module _ (b v : Held) (view : b ≡ v) (count room : ℕ) (page : Option Sheet) (begins : Option Beginning) (is : IsBuffer b count room page begins) (mark : Mark) where
+module _ (b v : Held) (view : b ≡ v) (count room : ℕ) (page : Option Sheet) (standing : Standing) (is : IsBuffer b count room page standing) (mark : Mark) where
   pub nothing_to_turn : ((t : Term) → Holds b.grove b.selected t → turned_in b.grove.spec mark t ≡ None) → marked v.grove.spec v.height mark (state_of v) ≡ None
   nothing_to_turn none =
       subst (λ z. marked z.grove.spec z.height mark (state_of z) ≡ None) view
@@ -151,25 +150,26 @@ module _ (b v : Held) (view : b ≡ v) (count room : ℕ) (page : Option Sheet) 
       ∙ ap (λ o. option_map (λ new. remarked b.grove.spec b.height (unwrap_or (marks_of part.0) new) new (state_of b)) o) (none part.0 part.1))
 
   module _ (r : Remark) (turnable : Turnable b.grove b.selected mark r) (before : Spot)
-      (told : (root : NodeId) (t : Term) (w : Place) → IsPlaced b.grove root t w b.selected → before ≡ record { selection = record { path = path_to w; count = b.count }; top = b.top })
+      (told : before ≡ record { selection = record { path = standing.way; count = b.count }; top = b.top })
       (one : v.count ≡ 1) (none : v.capture ≡ None) (mid : Grove) (on : IsGrove mid) (spec : mid.spec ≡ b.grove.spec) (t : Turned)
       (turned : (s : Term) (w : Place) → MayTurn b.grove b.root b.selected (Shown r.new) s w → IsSeen b.grove mid b.root b.selected (Shown r.new) s w b.height before.selection b.top t) where
     abbrev w : Place
     w = selected_place (state_of b)
 
     before_is : before ≡ (state_of b).spot
-    before_is = spot_is b count room page begins is before told
+    before_is = spot_is b count room page standing is before told
 
     one_is : before.selection ≡ alone w
     one_is =
-        ap (λ (s : Spot). s.selection) (told b.root (state_of b).term w (standing.placed b (state_of b) is.stands))
+        ap (λ (s : Spot). s.selection) told
+        ∙ ap (λ p. let r : Selection = record { path = p; count = b.count } in r) (is.standing_is.0 ∙ sym (path_back (state_of b).spot.selection.path))
         ∙ ap (λ n. let r : Selection = record { path = path_to w; count = n } in r) (ap (λ (z : Held). z.count) view ∙ one)
 
     turned_now : IsSeen b.grove mid b.root b.selected (Shown r.new) (state_of b).term w b.height (alone w) (state_of b).spot.top t
     turned_now =
         subst (λ n. IsSeen b.grove mid b.root b.selected (Shown r.new) (state_of b).term w b.height (alone w) n t) is.stands.top
         (subst (λ s. IsSeen b.grove mid b.root b.selected (Shown r.new) (state_of b).term w b.height s b.top t) one_is
-        (turned (state_of b).term w (may_mark b count room page begins is mark r turnable)))
+        (turned (state_of b).term w (may_mark b count room page standing is mark r turnable)))
 
     -- what hangs then
     pub hung_once : (n : NodeId) → times n (tops b.past b.future) ≤ 1
@@ -180,12 +180,12 @@ module _ (b v : Held) (view : b ≡ v) (count room : ℕ) (page : Option Sheet) 
 
     pub toggled_here : (path : List ℕ) → path ≡ before.selection.path → (step : Step) → step ≡ Marked path r.old r.new before t.look.spot
         → (kept : Grove) → IsGrove kept → (h : Timeline Step) → Remembers mid kept b.past b.future room step h
-        → IsBuffer (changed_held b kept t h b.capture) count h.room t.look.page t.look.begins
+        → IsBuffer (changed_held b kept t h b.capture) count h.room t.look.page (record { way = t.look.way; begins = t.look.begins })
         × MatchOption (marked v.grove.spec v.height mark (state_of v)) ((true ≡ false) × (changed_held b kept t h b.capture ≡ v)) (λ after. (true ≡ true) × (state_of (changed_held b kept t h b.capture) ≡ after))
     toggled_here path path_is step step_is kept still h remembers =
-        let same = step_is ∙ step_same path (state_of b).spot.selection.path r.old r.new before (state_of b).spot t.look.spot (spot b count room page begins is mark r turnable) (path_is ∙ ap (λ (s : Spot). s.selection.path) before_is) before_is turned_now.look.spot_is in
-        let c = toggled_closes b count room page begins is mark r turnable mid on spec t turned_now kept still h (subst (λ z. Remembers mid kept b.past b.future room z h) same remembers) b.capture (ap (λ (z : Held). z.capture) view ∙ none) in (
+        let same = step_is ∙ step_same path (state_of b).spot.selection.path r.old r.new before (state_of b).spot t.look.spot (spot b count room page standing is mark r turnable) (path_is ∙ ap (λ (s : Spot). s.selection.path) before_is) before_is turned_now.look.spot_is in
+        let c = toggled_closes b count room page standing is mark r turnable mid on spec t turned_now kept still h (subst (λ z. Remembers mid kept b.past b.future room z h) same remembers) b.capture (ap (λ (z : Held). z.capture) view ∙ none) in (
           c.0,
           subst (λ (z : Held). MatchOption (marked z.grove.spec z.height mark (state_of z)) ((true ≡ false) × (changed_held b kept t h b.capture ≡ v)) (λ after. (true ≡ true) × (state_of (changed_held b kept t h b.capture) ≡ after))) view
-              (subst (λ o. MatchOption o ((true ≡ false) × (changed_held b kept t h b.capture ≡ v)) (λ after. (true ≡ true) × (state_of (changed_held b kept t h b.capture) ≡ after))) (sym (marked_told b count room page begins is mark r turnable)) (refl, c.1)),
+              (subst (λ o. MatchOption o ((true ≡ false) × (changed_held b kept t h b.capture ≡ v)) (λ after. (true ≡ true) × (state_of (changed_held b kept t h b.capture) ≡ after))) (sym (marked_told b count room page standing is mark r turnable)) (refl, c.1)),
         )

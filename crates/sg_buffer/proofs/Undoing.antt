@@ -21,7 +21,7 @@ use Rattle.sg_changes.specs.declared.step.Step.TheVariants.{Replaced, Marked}
 use Rattle.sg_changes.proofs.Telling.{back_future, back_past, back_redoes}
 use Rattle.sg_undo.specs.Timeline.{Timeline}
 use Rattle.sg_unparse.specs.Sheet.{Sheet}
-use Rattle.sg_unparse.specs.declared.page.Beginning.{Beginning}
+use Rattle.sg_buffer.specs.declared.way.Standing.{Standing}
 use Rattle.sg_states.specs.Selections.{place_in}
 use Rattle.sg_states.specs.Seen.{is_spot}
 use Rattle.sg_states.specs.States.{State, undone, undone_by}
@@ -64,6 +64,10 @@ pub first_step : (ss : List Step) (s : Step) → Some s ≡ slice_get ss 0 → s
 first_step [] s e = absurd (none-some s (sym e))
 first_step (x ∷ ss) s e = ap (λ z. z ∷ ss) (sym (same_Some s x e))
 
+-- the selected node's path, and nothing of where it begins
+abbrev pub unseen : Stepped → Standing
+unseen r = record { way = r.way; begins = None }
+
 pub no_step : (ss : List Step) → None ≡ slice_get ss 0 → ss ≡ []
 no_step [] e = refl
 no_step (x ∷ ss) e = absurd (none-some x e)
@@ -79,7 +83,7 @@ may_back g is root t count whole fits counted small (Replaced path hangs before 
 may_back g is root t count whole fits counted small (Marked path old new before after) roots at proper later there =
     may_mark g is root t (step_place (Marked path old new before after)) before count whole fits counted small new old at proper.0 later there
 
-module _ (b : Held) (count room : ℕ) (page : Option Sheet) (begins : Option Beginning) (is : IsBuffer b count room page begins) (s : Step) (rest : List Step) (past_is : b.past ≡ s ∷ rest) where
+module _ (b : Held) (count room : ℕ) (page : Option Sheet) (standing : Standing) (is : IsBuffer b count room page standing) (s : Step) (rest : List Step) (past_is : b.past ≡ s ∷ rest) where
   abbrev st : State
   st = state_of b
 
@@ -198,9 +202,9 @@ module _ (b : Held) (count room : ℕ) (page : Option Sheet) (begins : Option Be
     few : length rest + length (hung s r.out ∷ b.future) ≤ 256
     few = (let e = ap length past_is in let f = is.few in omega (arith, e, f))
 
-    pub undone_closes : b.capture ≡ None → Closes (stepped_held b new r rest (hung s r.out ∷ b.future)) (undone_by (c ∷ older) st) r.nodes room None None
+    pub undone_closes : b.capture ≡ None → Closes (stepped_held b new r rest (hung s r.out ∷ b.future)) (undone_by (c ∷ older) st) r.nodes room None (unseen r)
     undone_closes none =
-        closes (stepped_held b new r rest (hung s r.out ∷ b.future)) (undone_by (c ∷ older) st) r.nodes room None None (undone_stands none) (stepped.counted ∙ ap nodes_of made_is) is.room_is few tt tt
+        closes (stepped_held b new r rest (hung s r.out ∷ b.future)) (undone_by (c ∷ older) st) r.nodes room None (unseen r) (undone_stands none) (stepped.counted ∙ ap nodes_of made_is) is.room_is few tt (stepped.path ∙ ap (λ (z : Spot). z.selection.path) (spot_before (term_at g) st.term s), tt)
 
 -- what the journal gains
 gained_back : (g new : Grove) (root : NodeId) (t : Term) (s : Step) (was now : List Instance) → Notes g new root t (step_place s) (undoing s) was now → GainedBack g.spec t was now new root (past_change (term_at g) t s)
@@ -212,14 +216,14 @@ noted_back g t (Replaced path hangs before after) was now notes = notes
 noted_back g t (Marked path old made before after) was now notes = notes
 
 -- where the fields are seen as another value
-module _ (b v : Held) (view : b ≡ v) (count room : ℕ) (page : Option Sheet) (begins : Option Beginning) (is : IsBuffer b count room page begins) where
+module _ (b v : Held) (view : b ≡ v) (count room : ℕ) (page : Option Sheet) (standing : Standing) (is : IsBuffer b count room page standing) where
   pub nothing_past : b.past ≡ [] → (state_of v).past ≡ []
   nothing_past none = subst (λ (z : Held). (state_of z).past ≡ []) view (sym is.stands.past ∙ ap (told_past (term_at b.grove) (state_of b).term) none)
 
   module _ (s : Step) (rest : List Step) (past_is : b.past ≡ s ∷ rest) where
     pub some_past : (state_of v).past ≢ []
     some_past none = no_cons (past_change (term_at b.grove) (state_of b).term s) (told_past (term_at b.grove) (undone_term (state_of b).term (past_change (term_at b.grove) (state_of b).term s)) rest)
-        (past_then b count room page begins is s rest past_is ∙ subst (λ (z : Held). (state_of z).past ≡ []) (sym view) none)
+        (past_then b count room page standing is s rest past_is ∙ subst (λ (z : Held). (state_of z).past ≡ []) (sym view) none)
       where
         no_cons : (x : Change) (xs : List Change) → x ∷ xs ≡ [] → ⊥
         no_cons x xs = cc
@@ -227,14 +231,14 @@ module _ (b v : Held) (view : b ≡ v) (count room : ℕ) (page : Option Sheet) 
     pub undone_here : v.capture ≡ None → (new : Grove) → IsGrove new → new.spec ≡ b.grove.spec → (r : Stepped)
         → ((t : Term) → MayStep b.grove b.root t (step_place s) (undoing s) (seen_before s) count → IsStepped b.grove new b.root t (step_place s) (undoing s) (seen_before s) r)
         → (h : Timeline Step) → h.past ≡ rest → h.future ≡ hung s r.out ∷ b.future → h.room ≡ room
-        → IsBuffer (stepped_held b new r h.past h.future) r.nodes h.room None None × (state_of (stepped_held b new r h.past h.future) ≡ undone (state_of v))
+        → IsBuffer (stepped_held b new r h.past h.future) r.nodes h.room None (unseen r) × (state_of (stepped_held b new r h.past h.future) ≡ undone (state_of v))
     undone_here none new on spec r stepped h past future room_is =
-        let d = undone_closes b count room page begins is s rest past_is new on spec r (stepped (state_of b).term (may_undo b count room page begins is s rest past_is)) (ap (λ (z : Held). z.capture) view ∙ none) in (
-          subst (λ k. IsBuffer (stepped_held b new r h.past h.future) r.nodes k None None) (sym room_is)
-              (subst (λ ss. IsBuffer (stepped_held b new r h.past ss) r.nodes room None None) (sym future)
-              (subst (λ ss. IsBuffer (stepped_held b new r ss (hung s r.out ∷ b.future)) r.nodes room None None) (sym past) d.is)),
+        let d = undone_closes b count room page standing is s rest past_is new on spec r (stepped (state_of b).term (may_undo b count room page standing is s rest past_is)) (ap (λ (z : Held). z.capture) view ∙ none) in (
+          subst (λ k. IsBuffer (stepped_held b new r h.past h.future) r.nodes k None (unseen r)) (sym room_is)
+              (subst (λ ss. IsBuffer (stepped_held b new r h.past ss) r.nodes room None (unseen r)) (sym future)
+              (subst (λ ss. IsBuffer (stepped_held b new r ss (hung s r.out ∷ b.future)) r.nodes room None (unseen r)) (sym past) d.is)),
           subst (λ (z : Held). state_of (stepped_held b new r h.past h.future) ≡ undone (state_of z)) view
-              (ap (λ ss. state_of (stepped_held b new r ss h.future)) past ∙ ap (λ ss. state_of (stepped_held b new r rest ss)) future ∙ d.told ∙ sym (undone_is b count room page begins is s rest past_is)),
+              (ap (λ ss. state_of (stepped_held b new r ss h.future)) past ∙ ap (λ ss. state_of (stepped_held b new r rest ss)) future ∙ d.told ∙ sym (undone_is b count room page standing is s rest past_is)),
         )
 
     pub gained_here : (new : Grove) (root : NodeId) (was now : List Instance)
@@ -242,13 +246,13 @@ module _ (b v : Held) (view : b ≡ v) (count room : ℕ) (page : Option Sheet) 
         → OfFirst (state_of v).past (GainedBack v.grove.spec (state_of v).term was now new root)
     gained_here new root was now notes =
         subst (λ (z : Held). OfFirst (state_of z).past (GainedBack z.grove.spec (state_of z).term was now new root)) view
-        (subst (λ cs. OfFirst cs (GainedBack b.grove.spec (state_of b).term was now new root)) (past_then b count room page begins is s rest past_is)
-        (gained_back b.grove new root (state_of b).term s was now (notes (state_of b).term (may_undo b count room page begins is s rest past_is))))
+        (subst (λ cs. OfFirst cs (GainedBack b.grove.spec (state_of b).term was now new root)) (past_then b count room page standing is s rest past_is)
+        (gained_back b.grove new root (state_of b).term s was now (notes (state_of b).term (may_undo b count room page standing is s rest past_is))))
 
     pub noted_here : (was now : List Instance)
         → ((t : Term) → MayStep b.grove b.root t (step_place s) (undoing s) (seen_before s) count → NotesSome b.grove t (step_place s) (undoing s) was now)
         → OfFirst (state_of v).past (NotedBack v.grove.spec (state_of v).term was now)
     noted_here was now notes =
         subst (λ (z : Held). OfFirst (state_of z).past (NotedBack z.grove.spec (state_of z).term was now)) view
-        (subst (λ cs. OfFirst cs (NotedBack b.grove.spec (state_of b).term was now)) (past_then b count room page begins is s rest past_is)
-        (noted_back b.grove (state_of b).term s was now (notes (state_of b).term (may_undo b count room page begins is s rest past_is))))
+        (subst (λ cs. OfFirst cs (NotedBack b.grove.spec (state_of b).term was now)) (past_then b count room page standing is s rest past_is)
+        (noted_back b.grove (state_of b).term s was now (notes (state_of b).term (may_undo b count room page standing is s rest past_is))))

@@ -10,7 +10,7 @@ use Rattle.sg_groves.specs.TermAt.{term_at}
 use Rattle.sg_changes.specs.Chain.{AllUndo, AllRedo, Passes}
 use Rattle.sg_changes.specs.Told.{told_past, told_future, tops}
 use Rattle.sg_unparse.specs.Sheet.{Sheet}
-use Rattle.sg_unparse.specs.declared.page.Beginning.{Beginning}
+use Rattle.sg_buffer.specs.declared.way.Standing.{Standing}
 use Rattle.sg_states.specs.Beginnings.{Begins}
 use Rattle.sg_states.specs.Selections.{place_in}
 use Rattle.sg_states.specs.Seen.{is_spot}
@@ -44,16 +44,17 @@ pub record StandsFor (b : Held) (st : State) : Type 0 where
 abbrev pub Keeps : Option Sheet → Sheet → Type 0
 Keeps page s = MatchOption page ⊤ (λ p. p ≡ s)
 
--- where the selected node begins, where that is kept
-abbrev pub KeepsBeginning : Option Beginning → Spec → State → Type 0
-KeepsBeginning begins spec st = MatchOption begins ⊤ (Begins spec st.term (place_in st.spot.selection))
+-- the path of the selected node, and where it begins, where that is kept
+abbrev pub IsStanding : Standing → Spec → State → Type 0
+IsStanding s spec st =
+    (s.way ≡ st.spot.selection.path) × MatchOption s.begins ⊤ (Begins spec st.term (place_in st.spot.selection))
 
--- a buffer besides knows how many nodes its term has; a page that it keeps shows the term and what is being typed, and
--- a beginning that it keeps is that of the selected node; its history has room for 256 steps
-pub record IsBuffer (b : Held) (count room : ℕ) (page : Option Sheet) (begins : Option Beginning) : Type 0 where
+-- a buffer besides knows how many nodes its term has, and the selected node's path; a page that it keeps shows the term
+-- and what is being typed, and a beginning that it keeps is that of the selected node; its history has room for 256 steps
+pub record IsBuffer (b : Held) (count room : ℕ) (page : Option Sheet) (standing : Standing) : Type 0 where
   pub stands : StandsFor b (state_of b)
   pub counted : count ≡ nodes_of (state_of b).term
   pub room_is : room ≡ 256
   pub few : length b.past + length b.future ≤ 256
   pub page_is : Keeps page (shown b)
-  pub begins_is : KeepsBeginning begins b.grove.spec (state_of b)
+  pub standing_is : IsStanding standing b.grove.spec (state_of b)

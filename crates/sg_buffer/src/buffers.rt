@@ -24,6 +24,7 @@ ghost use Rattle.sg_turns.specs.Noted.{Noted};
 
 use crate::fault::BufferFault;
 use crate::typing::{erased, typed};
+use crate::way::Standing;
 use sg_build::Counts;
 use sg_changes::{Capture, Step};
 use sg_eval::{Evaluator, Journal};
@@ -38,7 +39,7 @@ use sg_states::{Extended, Move, begins_here, page_of, page_with, target, top_at}
 use sg_terms::Terms;
 use sg_turns::{Known, begin, within};
 use sg_undo::History;
-use sg_unparse::{Beginning, Page};
+use sg_unparse::Page;
 use std::alloc::Global;
 use std::marker::Model;
 
@@ -48,7 +49,7 @@ pub const STEPS: usize = 256;
 /// A term in a forest, with its values: a selection of it, the first line that a window shows, the changes that can be
 /// undone and done again, whose other subtrees hang in the forest, and a text that is being typed. The page that shows
 /// it is made where it is wanted, and kept as long as it is right; so is where the selected node begins, which saves
-/// the page at a replacement.
+/// the page at a replacement. The path of the selected node is kept always, and saves the way from the root.
 ///
 /// Each call takes its state to that of one definition, or leaves everything as it was.
 #[derive(Drop)]
@@ -64,7 +65,7 @@ pub struct Buffer {
     pub(crate) history: History<Step>,
     pub(crate) capture: Option<Capture>,
     pub(crate) page: Option<Page>,
-    pub(crate) begins: Option<Beginning>,
+    pub(crate) standing: Standing,
 }
 
 impl Model for Buffer {
@@ -98,7 +99,7 @@ impl Model for Buffer {
       past = b.history.past;
       future = b.history.future;
       capture = b.capture;
-    }) b.nodes b.history.room b.page b.begins };
+    }) b.nodes b.history.room b.page b.standing };
 }
 
 impl Buffer {
@@ -149,7 +150,7 @@ impl Buffer {
                 history: fresh.history,
                 capture: None,
                 page: None,
-                begins: None,
+                standing: Standing::at_root(alloc),
             }),
             Err(_) => Err(BufferFault::NoMemory),
         }
@@ -272,7 +273,7 @@ impl Buffer {
     pub(crate) fn beginning(&self) -> Option<Known>
         ensures { IfSome result (IsKnown self.now.grove self.now.root) }
     {
-        match self.begins {
+        match self.standing.begins {
             Some(begins) => Some(Known {
                 selected: self.selected,
                 begins,
@@ -286,7 +287,7 @@ impl Buffer {
     pub fn path(&self) -> Result<Path, NoMemory>
         ensures { IfOk result (λ path. path ≡ (state_of self.now).spot.selection.path) }
     {
-        path_of(self.alloc, &self.terms, self.selected)
+        self.standing.way.copy(self.alloc)
     }
 
     // selects a resting place; without memory nothing changes
@@ -302,8 +303,10 @@ impl Buffer {
         ensures err { OnErr result (self.new ≡ self.old) }
     {
         let page = self.take_page()?;
+        let way = path_of(self.alloc, &self.terms, n)?;
         self.top = top_at(&self.terms, &page, n, self.height, self.top);
-        self.begins = begins_here(&self.terms, &page, n);
+        let begins = begins_here(&self.terms, &page, n);
+        self.standing = Standing { way, begins };
         self.selected = n;
         self.count = 1;
         self.page = Some(page);

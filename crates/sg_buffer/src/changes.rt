@@ -21,6 +21,7 @@ ghost use Rattle.sg_buffer.specs.Held.{state_of};
 
 use crate::buffers::Buffer;
 use crate::fault::BufferFault;
+use crate::way::Standing;
 use sg_build::{Counts, counts, counts_replaced};
 use sg_changes::{Selection, Step};
 use sg_eval::{Evaluator, Journal};
@@ -53,7 +54,7 @@ impl Buffer {
         let Some(marks) = turned_marks(&self.terms, self.selected, mark) else {
             return Ok(false);
         };
-        let before = spot_at(self.alloc, &self.terms, self.selected, self.count, self.top)?;
+        let before = spot_at(self.alloc, &self.standing.way, self.count, self.top)?;
         let path = before.selection.path.copy(self.alloc)?;
         let turned = remarked(
             self.alloc,
@@ -72,7 +73,10 @@ impl Buffer {
         self.count = seen.spot.selection.count;
         self.top = seen.spot.top;
         self.page = seen.page;
-        self.begins = seen.begins;
+        self.standing = Standing {
+            way: seen.way,
+            begins: seen.begins,
+        };
         let step = Step::marked(path, marks.old, marks.new, before, seen.spot);
         remember(&mut self.terms, &mut self.history, step);
         self.terms.facts();
@@ -118,8 +122,9 @@ impl Buffer {
         ensures height { self.new.height ≡ self.old.height }
         ensures total { total_of journal.new ≡ total_of journal.old }
     {
-        let n = node_at(&self.terms, self.root, at);
-        match counts_replaced(&self.terms, n, self.nodes, &counts(t)) {
+        let way = &self.standing.way;
+        let n = node_at(&self.terms, self.root, at, self.selected, way);
+        match counts_replaced(&self.terms, n, at.len(), self.nodes, &counts(t)) {
             Ok(nodes) => Ok(self.put_in(at, n, t, nodes, select, plans, ev, journal)?),
             Err(size) => Err(BufferFault::Size(size)),
         }
@@ -159,7 +164,7 @@ impl Buffer {
         ensures height { self.new.height ≡ self.old.height }
         ensures total { total_of journal.new ≡ total_of journal.old }
     {
-        let before = spot_at(self.alloc, &self.terms, self.selected, self.count, self.top)?;
+        let before = spot_at(self.alloc, &self.standing.way, self.count, self.top)?;
         let path = at.copy(self.alloc)?;
         let begins = self.beginning();
         let placed = put_term(
@@ -167,6 +172,7 @@ impl Buffer {
             &mut self.terms,
             self.root,
             n,
+            at,
             t,
             select,
             self.height,
@@ -183,7 +189,10 @@ impl Buffer {
         self.count = look.spot.selection.count;
         self.top = look.spot.top;
         self.page = look.page;
-        self.begins = look.begins;
+        self.standing = Standing {
+            way: look.way,
+            begins: look.begins,
+        };
         let change = Step::replaced(path, n, before, look.spot);
         remember(&mut self.terms, &mut self.history, change);
         self.terms.facts();
@@ -228,6 +237,8 @@ impl Buffer {
             self.root,
             step,
             self.nodes,
+            self.selected,
+            &self.standing.way,
             plans,
             ev,
             journal,
@@ -240,7 +251,10 @@ impl Buffer {
         self.count = undone.count;
         self.top = undone.top;
         self.page = None;
-        self.begins = None;
+        self.standing = Standing {
+            way: undone.way,
+            begins: None,
+        };
         Ok(true)
     }
 
@@ -280,6 +294,8 @@ impl Buffer {
             self.root,
             step,
             self.nodes,
+            self.selected,
+            &self.standing.way,
             plans,
             ev,
             journal,
@@ -292,7 +308,10 @@ impl Buffer {
         self.count = redone.count;
         self.top = redone.top;
         self.page = None;
-        self.begins = None;
+        self.standing = Standing {
+            way: redone.way,
+            begins: None,
+        };
         Ok(true)
     }
 }

@@ -5,6 +5,7 @@ mod buffers;
 mod changes;
 mod fault;
 mod typing;
+mod way;
 
 pub use buffers::Buffer;
 pub use fault::BufferFault;

@@ -14,10 +14,18 @@ use sg_forest::NodeId;
 use sg_terms::Terms;
 
 /// How many nodes the whole term around a node has with a term of these counts in the node's place, or its counts
-/// exactly where it is over a limit. `known` is how many nodes it has now, in the limits. Only what is under the node
-/// and the way up are read, and the rest of the tree where a limit is passed. It takes no memory.
-pub fn counts_replaced(terms: &Terms, at: NodeId, known: usize, t: &Counts) -> Result<usize, Counts>
+/// exactly where it is over a limit. So many steps lead up from the node to the root; `known` is how many nodes the whole
+/// has now, in the limits. Only what is under the node is read, and the rest of the tree where a limit is passed. It
+/// takes no memory.
+pub fn counts_replaced(
+    terms: &Terms,
+    at: NodeId,
+    steps: usize,
+    known: usize,
+    t: &Counts,
+) -> Result<usize, Counts>
     requires live { IsLive (nodes terms.now) at }
+    requires steps { (root : _) (whole : Term) (u : Place) → IsPlaced terms.now root whole u at → steps ≡ length u }
     requires known { OfWhole terms.now at (λ whole. known ≡ nodes_of whole) }
     requires within { OfWhole terms.now at IsSmall }
     ensures small { OfReplaced terms.now at t.now (λ new. IsOk result ↔ IsSmall new) }
@@ -27,7 +35,7 @@ pub fn counts_replaced(terms: &Terms, at: NodeId, known: usize, t: &Counts) -> R
     terms.facts();
     let rest = known - counts_below(terms, at).nodes;
     let nodes = rest.saturating_add(t.nodes);
-    let depth = steps_up(terms, at).saturating_add(t.depth);
+    let depth = steps.saturating_add(t.depth);
     if are_within(nodes, depth) {
         return Ok(nodes);
     }
@@ -35,22 +43,6 @@ pub fn counts_replaced(terms: &Terms, at: NodeId, known: usize, t: &Counts) -> R
         nodes,
         depth: depth_over(terms, at, t.depth),
     })
-}
-
-// how many steps lead up to the root
-fn steps_up(terms: &Terms, at: NodeId) -> usize
-    requires { IsLive (nodes terms.now) at }
-    ensures { (root : _) (whole : Term) (u : Place) → IsPlaced terms.now root whole u at
-        → result ≡ min (length u) usize.MAX }
-{
-    terms.facts();
-    let mut steps: usize = 0;
-    let mut top = at;
-    while let Some((above, _)) = terms.parent(top) {
-        steps = steps.saturating_add(1);
-        top = above;
-    }
-    steps
 }
 
 // how deep the whole term is with something that deep in the place of a node's

@@ -8,10 +8,11 @@ use Rattle.sg_kinds.specs.Fits.{Fits}
 use Rattle.sg_kinds.specs.Plain.{plain}
 use Rattle.sg_kinds.specs.declared.spec.Spec.{Spec}
 use Rattle.sg_forest.specs.declared.node_id.NodeId.{NodeId}
-use Rattle.sg_forest.specs.Trees.{Climbs, IsLive, IsRoot}
+use Rattle.sg_forest.specs.Trees.{Climbs, IsLive}
 use Rattle.sg_groves.specs.Grove.{Grove, nodes}
 use Rattle.sg_groves.specs.Holds.{Holds, IsPlaced}
 use Rattle.sg_groves.proofs.Held.{one_term, part_held}
+use Rattle.sg_select.proofs.Fronts.{climber_live}
 use Rattle.sg_states.specs.States.{selected_place}
 use Rattle.sg_buffer.specs.Buffers.{StandsFor}
 use Rattle.sg_buffer.specs.Held.{Held, state_of}
@@ -22,10 +23,6 @@ use Rattle.sg_edits.specs.declared.clip.Clip.{Clip}
 use Rattle.sg_edits.proofs.Placed.{fits_phylum}
 use Rattle.sg_commands.specs.Replaced.{chosen_in, FitsHere}
 use Rattle.sg_commands.specs.Turns.{is_editable_here, selected_term}
-
-climber_live : (g : Grove) (u : Place) (n root : NodeId) → IsRoot (nodes g) root → Climbs (nodes g) u n root → IsLive (nodes g) n
-climber_live g [] n root top same = let here : IsRoot (nodes g) n = subst (IsRoot (nodes g)) (sym same) top in record { node = here.node; found = here.found }
-climber_live g (k ∷ u) n root top climbs = record { node = climbs.1.node; found = climbs.1.found }
 
 -- the buffer's grove is told by a call, and so is the selected node
 module _ (b : Held) (stands : StandsFor b (state_of b)) (g : Grove) (same : g ≡ b.grove) (n : NodeId) (way : Climbs (nodes b.grove) (selected_place (state_of b)) n b.root) where

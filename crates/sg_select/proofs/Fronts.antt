@@ -1,14 +1,18 @@
 -- Fronts of places that a term has, and where places settle that it has not.
-use Rattle.std.specs.Prelude.{◌≡◌, refl, ℕ, zero, suc, ◌+◌, ◌<◌, ◌≤◌, Bool, true, false, cond, List, [], ◌∷◌, ◌++◌, length, take, drop, reverse, Option, Some, None, slice_get, option_map, option_and_then, unwrap_or}
+use Rattle.std.specs.Prelude.{◌≡◌, refl, ℕ, zero, suc, ◌+◌, ◌-◌, ◌<◌, ◌≤◌, Bool, true, false, cond, List, [], ◌∷◌, ◌++◌, length, take, drop, reverse, Option, Some, None, slice_get, option_map, option_and_then, unwrap_or}
 use Rattle.std.specs.List.{find}
-use Rattle.std.proofs.Common.{sym, ap, ◌∙◌, arith, get_or}
-use Rattle.std.proofs.lemmas.List.{reverse-append, take-append-drop}
+use Rattle.std.proofs.Common.{sym, ap, ◌∙◌, subst, arith, get_or}
+use Rattle.std.proofs.lemmas.List.{length-drop, length-reverse, reverse-append, take-append-drop}
 use Rattle.sg_kinds.proofs.Kids.{take_more}
 use Rattle.sg_kinds.specs.Terms.{Term}
 use Rattle.sg_kinds.specs.Places.{Place, child, place_of, sub}
 use Rattle.sg_kinds.specs.declared.spec.Spec.{Spec}
 use Rattle.sg_forest.specs.declared.node_id.NodeId.{NodeId}
-use Rattle.sg_groves.specs.Grove.{Grove}
+use Rattle.sg_forest.specs.Trees.{Climbs, IsChild, IsLive, IsRoot}
+use Rattle.sg_forest.proofs.Paths.{child_is_live, root_is_live}
+use Rattle.sg_groves.specs.Grove.{Grove, nodes, IsGrove}
+use Rattle.sg_groves.specs.Holds.{IsPlaced}
+use Rattle.sg_select.proofs.Leading.{above_placed, top_placed}
 use Rattle.sg_select.proofs.Within.{and_off}
 use Rattle.sg_select.proofs.Firsts.{take_all}
 use Rattle.sg_select.specs.Kept.{nearest}
@@ -27,6 +31,49 @@ pub front_rest : (path : List ℕ) (i k : ℕ) → i < length path → k ≡ get
 front_rest path i k low at =
     ap reverse (sym (take-append-drop (i + 1) path)) ∙ reverse-append (take (i + 1) path) (drop (i + 1) path)
     ∙ ap (λ l. reverse (drop (i + 1) path) ++ l) (front_more path i k low at)
+
+-- a front that two paths share is longer by a step that they share
+pub shared_more : (path way : List ℕ) (i j k : ℕ) → i < length path → i < length way → j ≡ get_or path i j → k ≡ get_or way i k → j ≡ k → take i path ≡ take i way → take (i + 1) path ≡ take (i + 1) way
+shared_more path way i j k low also at there same known =
+    take_more path i j low at ∙ ap (λ l. l ++ j ∷ []) known ∙ ap (λ x. take i way ++ x ∷ []) same ∙ sym (take_more way i k also there)
+
+-- a path parted at a front: the place of the rest, over that of the front
+pub parted : (way : List ℕ) (front : ℕ) → place_of way ≡ place_of (drop front way) ++ place_of (take front way)
+parted way front = ap reverse (sym (take-append-drop front way)) ∙ reverse-append (take front way) (drop front way)
+
+pub low_long : (way : List ℕ) (front : ℕ) → length (place_of (drop front way)) ≡ length way - front
+low_long way front = length-reverse (drop front way) ∙ length-drop front way
+
+pub whole_path : (path way : List ℕ) (front : ℕ) → take front path ≡ take front way → place_of (drop front path) ++ place_of (take front way) ≡ place_of path
+whole_path path way front same = ap (λ l. place_of (drop front path) ++ place_of l) (sym same) ∙ sym (parted path front)
+
+-- steps up from a node: a place above it, and none where no step is left
+module _ (g : Grove) (is : IsGrove g) (root : NodeId) (t : Term) (u : Place) (at : NodeId) where
+  pub above_rest : (p : NodeId) (k steps i : ℕ) → i < steps → IsChild (nodes g) at p k → (rest : Place) × (length rest ≡ steps - i) × IsPlaced g root t (rest ++ u) at
+      → (rest : Place) × (length rest ≡ steps - (i + 1)) × IsPlaced g root t (rest ++ u) p
+  above_rest p k steps i low child ([], long, placed) = absurd (omega (arith, long, low))
+  above_rest p k steps i low child (j ∷ rest, long, placed) =
+      let up = above_placed g is root t (j ∷ (rest ++ u)) at p k placed child in
+      (rest, omega (arith, long, low), subst (λ w. IsPlaced g root t w p) (sym (tail_is up.1)) up.2)
+    where
+      tail_is : {v w : Place} → j ∷ v ≡ k ∷ w → v ≡ w
+      tail_is e = ap (drop 1) e
+
+  pub no_rest : (steps i : ℕ) → steps ≤ i → (rest : Place) × (length rest ≡ steps - i) × IsPlaced g root t (rest ++ u) at → IsPlaced g root t u at
+  no_rest steps i all ([], long, placed) = placed
+  no_rest steps i all (j ∷ rest, long, placed) = absurd (omega (arith, long, all))
+
+  pub rest_at_top : (steps i : ℕ) → i < steps → IsRoot (nodes g) at → (rest : Place) × (length rest ≡ steps - i) × IsPlaced g root t (rest ++ u) at → ⊥
+  rest_at_top steps i low top ([], long, placed) = omega (arith, long, low)
+  rest_at_top steps i low top (j ∷ rest, long, placed) = cons_not_nil (top_placed g is root t (j ∷ (rest ++ u)) at placed top)
+    where
+      cons_not_nil : {v : Place} → j ∷ v ≡ [] → ⊥
+      cons_not_nil e = cc e
+
+-- a node with a way up to a root is there
+pub climber_live : (g : Grove) (u : Place) (n root : NodeId) → IsRoot (nodes g) root → Climbs (nodes g) u n root → IsLive (nodes g) n
+climber_live g [] n root top same = subst (IsLive (nodes g)) (sym same) (root_is_live (nodes g) root top)
+climber_live g (k ∷ u) n root top way = child_is_live (nodes g) n way.0 k way.1
 
 -- below a place that is not there is none
 pub none_below : (t : Term) (v w : Place) → sub t w ≡ None → sub t (v ++ w) ≡ None

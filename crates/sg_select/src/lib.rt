@@ -11,5 +11,5 @@ mod schemes;
 
 pub use cells::at_cell;
 pub use moves::{first, next, prev, rests, settle, settle_below, sibling, up};
-pub use paths::{node_along, path_of, settle_path, settle_path_below};
+pub use paths::{node_along, node_near, path_of, settle_path_below};
 pub use runs::{elements_from, spine_of};

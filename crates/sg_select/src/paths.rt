@@ -1,5 +1,5 @@
 // Where paths from a root lead.
-ghost use Rattle.std.specs.Prelude.{◌≡◌, IfOk, IfSome, IsTrue, false};
+ghost use Rattle.std.specs.Prelude.{◌≡◌, ◌≤◌, ◌++◌, length, take, IfOk, IfSome, IsTrue};
 ghost use Rattle.sg_kinds.specs.Places.{Place, place_of};
 ghost use Rattle.sg_kinds.specs.Terms.{Term};
 ghost use Rattle.sg_forest.specs.Trees.{Climbs, IsLive, IsRoot};
@@ -17,15 +17,48 @@ use sg_kinds::row::{Path, Row};
 use sg_terms::Terms;
 use std::alloc::Global;
 
-// the node at the longest front of a path that the term has, and whether that is the whole path
-fn deepest(terms: &Terms, root: NodeId, path: &[u32]) -> (NodeId, bool)
-    requires { IsRoot (nodes terms.now) root }
-    ensures live { IsLive (nodes terms.now) result.0 }
-    ensures goes { (t : Term) → Holds terms.now root t
-        → GoesTo terms.now root t (place_of path.now) result.0 result.1 }
+// how many child numbers from the root on two paths share
+fn shared(path: &[u32], way: &[u32]) -> usize
+    ensures path { result ≤ length path.now }
+    ensures way { result ≤ length way.now }
+    ensures same { take result path.now ≡ take result way.now }
+{
+    let most = path.len().min(way.len());
+    for i in 0..most {
+        if path[i] != way[i] {
+            return i;
+        }
+    }
+    most
+}
+
+// the node so many steps above one
+fn ancestor(terms: &Terms, n: NodeId, steps: usize) -> NodeId
+    requires { IsLive (nodes terms.now) n }
+    ensures live { IsLive (nodes terms.now) result }
+    ensures placed { (root : _) (t : Term) (low u : Place) → IsPlaced terms.now root t (low ++ u) n
+        → length low ≡ steps → IsPlaced terms.now root t u result }
 {
     terms.facts();
-    let mut at = root;
+    let mut at = n;
+    for _step in 0..steps {
+        match terms.parent(at) {
+            Some((above, _)) => at = above,
+            None => return at,
+        }
+    }
+    at
+}
+
+// the node at the longest front of a path from a node on that the term has, and whether that is the whole path
+fn deepest_below(terms: &Terms, n: NodeId, path: &[u32]) -> (NodeId, bool)
+    requires { IsLive (nodes terms.now) n }
+    ensures live { IsLive (nodes terms.now) result.0 }
+    ensures goes { (root : _) (t : Term) (u : Place) → IsPlaced terms.now root t u n
+        → GoesTo terms.now root t (place_of path.now ++ u) result.0 result.1 }
+{
+    terms.facts();
+    let mut at = n;
     for &k in path {
         if k as usize >= kid_count(terms, at) {
             return (at, false);
@@ -35,6 +68,41 @@ fn deepest(terms: &Terms, root: NodeId, path: &[u32]) -> (NodeId, bool)
     (at, true)
 }
 
+// the node at the longest front of a path that the term has, and whether that is the whole path; found from another node
+// on, whose path is `way`
+fn deepest(terms: &Terms, root: NodeId, path: &[u32], near: NodeId, way: &[u32]) -> (NodeId, bool)
+    requires root { IsRoot (nodes terms.now) root }
+    requires near { Climbs (nodes terms.now) (place_of way.now) near root }
+    ensures live { IsLive (nodes terms.now) result.0 }
+    ensures goes { (t : Term) → Holds terms.now root t
+        → GoesTo terms.now root t (place_of path.now) result.0 result.1 }
+{
+    terms.facts();
+    let front = shared(path, way);
+    let above = ancestor(terms, near, way.len() - front);
+    deepest_below(terms, above, &path[front..])
+}
+
+/// The node to which a path of child numbers leads from a root; None exactly where the term has no such place. It is
+/// found from another node on, whose path is `way`, by the steps that the two paths do not share.
+pub fn node_near(
+    terms: &Terms,
+    root: NodeId,
+    path: &[u32],
+    near: NodeId,
+    way: &[u32],
+) -> Option<NodeId>
+    requires root { IsRoot (nodes terms.now) root }
+    requires near { Climbs (nodes terms.now) (place_of way.now) near root }
+    ensures live { IfSome result (IsLive (nodes terms.now)) }
+    ensures leads { (t : Term) → Holds terms.now root t
+        → LeadsTo terms.now root (there t (place_of path.now)) result }
+{
+    terms.facts();
+    let (n, is_whole) = deepest(terms, root, path, near, way);
+    if is_whole { Some(n) } else { None }
+}
+
 /// The node to which a path of child numbers leads from a root; None exactly where the term has no such place.
 pub fn node_along(terms: &Terms, root: NodeId, path: &[u32]) -> Option<NodeId>
     requires { IsRoot (nodes terms.now) root }
@@ -42,19 +110,7 @@ pub fn node_along(terms: &Terms, root: NodeId, path: &[u32]) -> Option<NodeId>
     ensures leads { (t : Term) → Holds terms.now root t
         → LeadsTo terms.now root (there t (place_of path.now)) result }
 {
-    terms.facts();
-    let (n, is_whole) = deepest(terms, root, path);
-    if is_whole { Some(n) } else { None }
-}
-
-/// The nearest resting place at or above the place that a path names, also where the term has no such place.
-pub fn settle_path(terms: &Terms, root: NodeId, path: &[u32]) -> NodeId
-    requires { IsRoot (nodes terms.now) root }
-    ensures live { IsLive (nodes terms.now) result }
-    ensures settled { (t : Term) → Holds terms.now root t
-        → Climbs (nodes terms.now) (settled terms.now.spec t (place_of path.now)) result root }
-{
-    settle(terms, deepest(terms, root, path).0)
+    node_near(terms, root, path, root, &[])
 }
 
 // the nearest resting place at or above a node, with another that can be reached, where one is told
@@ -78,22 +134,26 @@ fn stays(is_whole: bool, to: NodeId, n: NodeId) -> bool
     is_whole && n == to
 }
 
-/// The nearest resting place at or above the place that a path names, and whether it is that place. What is above a
-/// node that can be reached need not be seen, where one is told.
+/// The nearest resting place at or above the place that a path names, and whether it is that place. The place is found
+/// from another node on, whose path is `way`. What is above a node that can be reached need not be seen, where one is
+/// told.
 pub fn settle_path_below(
     terms: &Terms,
     root: NodeId,
     path: &[u32],
+    near: NodeId,
+    way: &[u32],
     reached: Option<NodeId>,
 ) -> (NodeId, bool)
-    requires { IsRoot (nodes terms.now) root }
+    requires root { IsRoot (nodes terms.now) root }
+    requires near { Climbs (nodes terms.now) (place_of way.now) near root }
     ensures live { IsLive (nodes terms.now) result.0 }
     ensures settled { (t : Term) → Holds terms.now root t → IfSome reached (IsOpenAt terms.now root t)
         → Climbs (nodes terms.now) (settled terms.now.spec t (place_of path.now)) result.0 root }
     ensures there { (t : Term) → Holds terms.now root t → IsTrue result.1
         → Climbs (nodes terms.now) (place_of path.now) result.0 root }
 {
-    let (n, is_whole) = deepest(terms, root, path);
+    let (n, is_whole) = deepest(terms, root, path, near, way);
     let to = settle_from(terms, n, reached);
     (to, stays(is_whole, to, n))
 }

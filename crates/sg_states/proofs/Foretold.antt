@@ -9,7 +9,7 @@ use Rattle.sg_kinds.specs.FromScratch.{value_in}
 use Rattle.sg_kinds.specs.declared.spec.Spec.{Spec}
 use Rattle.sg_kinds.proofs.Elementary.{bytes_is}
 use Rattle.sg_forest.specs.declared.node_id.NodeId.{NodeId}
-use Rattle.sg_forest.specs.Trees.{Climbs, IsLive, IsRoot}
+use Rattle.sg_forest.specs.Trees.{Climbs}
 use Rattle.sg_groves.specs.Evaluated.{IsAtOrBelow}
 use Rattle.sg_groves.specs.Grove.{Grove, nodes, IsGrove}
 use Rattle.sg_groves.specs.Holds.{Holds}
@@ -36,11 +36,6 @@ use Rattle.sg_states.specs.declared.begins.Before.{Before}
 use Rattle.sg_states.proofs.Looking.{all_tell, placed_at}
 use Rattle.sg_states.proofs.Righted.{stored_alone}
 use Rattle.sg_states.proofs.Sheeted.{marks_of_term, marks_there}
-
--- a node above a place is there
-pub climber_live : (g : Grove) (u : Place) (n root : NodeId) → IsRoot (nodes g) root → Climbs (nodes g) u n root → IsLive (nodes g) n
-climber_live g [] n root top same = let here : IsRoot (nodes g) n = subst (IsRoot (nodes g)) (sym same) top in record { node = here.node; found = here.found }
-climber_live g (k ∷ u) n root top climbs = record { node = climbs.1.node; found = climbs.1.found }
 
 -- what begins among owned marks is owned
 found_owned : (p v : Place) (k : ℕ) (marks : List Mark) (s : Span) → AreOwned p marks → find (λ z. bytes_eq z.node v) (spans_behind k marks) ≡ Some s → IsAtOrBelow v p

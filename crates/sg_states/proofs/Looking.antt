@@ -171,12 +171,12 @@ module _ (g : Grove) (is : IsGrove g) (root : NodeId) (t : Term) where
   path_climbed n u (Err e) h placed = tt
   path_climbed n u (Ok p) h placed = h root t u placed
 
-  pub looked : (s : Selection) (height top first : ℕ) (path : List ℕ) (count : ℕ) (m : NodeId) (f : Found) → IsWhole g root t → Climbs (nodes g) (settled g.spec t (place_in s)) m root
+  pub looked : (s : Selection) (height top first : ℕ) (path kept : List ℕ) (count : ℕ) (m : NodeId) (f : Found) → kept ≡ path → IsWhole g root t → Climbs (nodes g) (settled g.spec t (place_in s)) m root
       → ((u : Place) → IsPlaced g root t u m → place_of path ≡ u)
       → ((v : Place) → IsPlaced g root t v m → rests g.spec t v ≡ true → count ≡ settled_count g.spec t (place_in s) v s.count)
       → ((u : Place) → Climbs (nodes g) u m root → IsFound g root t u f) → first ≡ topped height f.line top
-      → IsLook g root t (seen g.spec height t (settled_selection g.spec t s) top) (record { selected = m; spot = record { selection = record { path = path; count = count }; top = first }; page = f.page; begins = f.begins })
-  looked s height top first path count m f whole way named counted found topped_at =
+      → IsLook g root t (seen g.spec height t (settled_selection g.spec t s) top) (record { selected = m; spot = record { selection = record { path = path; count = count }; top = first }; way = kept; page = f.page; begins = f.begins })
+  looked s height top first path kept count m f same whole way named counted found topped_at =
       let v = settled g.spec t (place_in s) in
       let back = sym (path_there v) in
       let path_is : path ≡ path_to v = sym (path_back path) ∙ ap path_to (named v (placed_at whole v m way)) in
@@ -188,6 +188,7 @@ module _ (g : Grove) (is : IsGrove g) (root : NodeId) (t : Term) where
         spot_is =
             ap (λ p. spot p count first) path_is ∙ ap (λ n. spot (path_to v) n first) count_is
             ∙ ap (λ n. spot (path_to v) (settled_count g.spec t (place_in s) v s.count) n) top_is;
+        way = same ∙ path_is;
         page = is_found.page;
         begins = subst (λ z. IfSome f.begins (Begins g.spec t z)) back is_found.begins;
       }

@@ -32,10 +32,11 @@ pub record IsWhole (g : Grove) (root : NodeId) (t : Term) : Type 0 where
 unfoldable pub page_seen : Grove → NodeId → Term → (Place → Option Bytes) → Sheet
 page_seen g root t typed = sheet_of (node_along g root) (marks_seen g.spec t typed)
 
--- a spot, its node, and where it begins and the page without a typed text, where these are told
+-- a spot, its node and the path of that, and where it begins and the page without a typed text, where these are told
 pub record IsLook (g : Grove) (root : NodeId) (t : Term) (spot : Spot) (l : Look) : Type 0 where
   pub selected : Climbs (nodes g) (place_in spot.selection) l.selected root
   pub spot_is : l.spot ≡ spot
+  pub way : l.way ≡ spot.selection.path
   pub page : IfSome l.page (λ p. p ≡ page_seen g root t nothing_typed)
   pub begins : IfSome l.begins (Begins g.spec t (place_in spot.selection))
 

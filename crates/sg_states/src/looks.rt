@@ -34,6 +34,8 @@ pub struct Look {
     /// the selected node, of a run its first element
     pub selected: NodeId,
     pub spot: Spot,
+    /// the path of the selected node, as in the spot
+    pub way: Path,
     /// the page, where it was made
     pub page: Option<Page>,
     /// where the selected node begins, where that is told
@@ -224,17 +226,21 @@ fn path_at(
 }
 
 /// What is seen of the term that a root holds with this to be selected, settled, in a window of this height, from this
-/// top. Where the term changed, what was told before saves the page.
+/// top. The selected node is found from another one on, whose path is told. Where the term changed, what was told before
+/// saves the page.
 pub fn look_after(
     alloc: Global,
     terms: &Terms,
     root: NodeId,
+    near: NodeId,
+    near_way: &[u32],
     select: &Selection,
     height: usize,
     top: usize,
     before: Option<Before>,
 ) -> Result<Look, NoMemory>
     requires root { IsRoot (nodes terms.now) root }
+    requires near { Climbs (nodes terms.now) (place_of near_way.now) near root }
     requires tall { 0 < height }
     requires before { IfSome before (IsForetold terms.now root) }
     ensures { (t : Term) → IsWhole terms.now root t → IfOk result (IsLook terms.now root t
@@ -242,9 +248,10 @@ pub fn look_after(
 {
     terms.facts();
     let way = select.path.as_slice();
-    let (selected, is_there) = settle_path_below(terms, root, way, reached(before));
+    let (selected, is_there) = settle_path_below(terms, root, way, near, near_way, reached(before));
     let found = find_line(alloc, terms, root, selected, before)?;
     let path = path_at(alloc, terms, &select.path, is_there, selected)?;
+    let kept = path.copy(alloc)?;
     let count = count_at(terms, root, way, select.count, selected);
     let top = topped(height, found.line, top);
     let selection = Selection { path, count };
@@ -252,6 +259,7 @@ pub fn look_after(
     Ok(Look {
         selected,
         spot,
+        way: kept,
         page: found.page,
         begins: found.begins,
     })
@@ -272,5 +280,5 @@ pub fn look_at(
     ensures { (t : Term) → IsWhole terms.now root t → IfOk result (IsLook terms.now root t
         (seen terms.now.spec height t (settled_selection terms.now.spec t select.now) top)) }
 {
-    look_after(alloc, terms, root, select, height, top, None)
+    look_after(alloc, terms, root, root, &[], select, height, top, None)
 }

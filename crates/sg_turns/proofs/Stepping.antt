@@ -1,6 +1,6 @@
 -- Steps that are undone or done again.
-use Rattle.std.specs.Prelude.{◌≡◌, ◌≢◌, refl, ℕ, ◌+◌, ◌-◌, ◌^◌, ◌<◌, ◌≤◌, min, [], ◌∷◌, Option, None, Some, IsSome, option_map, option_and_then, unwrap_or, false, true}
-use Rattle.std.proofs.Common.{sym, ap, ◌∙◌, subst, arith}
+use Rattle.std.specs.Prelude.{◌≡◌, ◌≢◌, refl, ℕ, ◌+◌, ◌-◌, ◌^◌, ◌<◌, ◌≤◌, min, List, [], ◌∷◌, Option, None, Some, IsSome, option_map, option_and_then, unwrap_or, false, true}
+use Rattle.std.proofs.Common.{sym, ap, ◌∙◌, subst, arith, inl}
 use Rattle.std.proofs.lemmas.Bool.{and_parts, false≢true}
 use Rattle.std.proofs.lemmas.Option.{none-some}
 use Rattle.sg_kinds.specs.Terms.{Term, Leaf, Node, nodes_of}
@@ -8,6 +8,7 @@ use Rattle.sg_kinds.specs.Fits.{Fits}
 use Rattle.sg_kinds.specs.Sound.{IsSmall}
 use Rattle.sg_kinds.specs.Places.{Place, place_of, put, sub}
 use Rattle.sg_kinds.specs.declared.spec.Spec.{Spec}
+use Rattle.sg_eval.specs.declared.journal.Instance.{Instance}
 use Rattle.sg_forest.specs.declared.node_id.NodeId.{NodeId}
 use Rattle.sg_forest.specs.Node as forest
 use Rattle.sg_forest.specs.Trees.{Climbs, IsLive, IsRoot}
@@ -38,7 +39,7 @@ use Rattle.sg_select.specs.RestingPlaces.{is_open, rests, rests_under, stands_re
 use Rattle.sg_states.specs.Paged.{IsWhole}
 use Rattle.sg_states.specs.Selections.{place_in}
 use Rattle.sg_turns.specs.Stepped.{MayStep, redoing, seen_after, seen_before, step_place, undoing}
-use Rattle.sg_turns.specs.Turns.{MayTurn, comes_out, ComesOut, goes_in, made}
+use Rattle.sg_turns.specs.Turns.{MayTurn, NotesSome, comes_out, ComesOut, goes_in, made}
 use Rattle.sg_turns.specs.declared.turns.What.{What}
 use Rattle.sg_turns.specs.declared.turns.What.TheVariants.{Tree, Shown}
 use Rattle.sg_turns.proofs.Trees.{holds_at}
@@ -88,6 +89,11 @@ module _ (g : Grove) (is : IsGrove g) (root : NodeId) (t : Term) (u : Place) (wh
 
   pub may_here : (n : NodeId) → Climbs (nodes g) u n root → MayTurn g root n what t u
   may_here n way = subst (λ m. MayTurn g root m what t u) (one_node g is u may.at n root may.may.way way) may.may
+
+-- nothing is noted before anything is done
+pub noted_none : (g : Grove) (t : Term) (u : Place) (what : What) (was : List Instance) → NotesSome g t u what was was
+noted_none g t u (Tree d) was = inl refl
+noted_none g t u (Shown m) was = refl
 
 -- how many nodes the term has then
 module _ (g : Grove) (is : IsGrove g) (root at : NodeId) (t : Term) (u : Place) where

@@ -49,11 +49,12 @@ pub record MayStep (g : Grove) (root : NodeId) (t : Term) (u : Place) (what : Wh
   pub after : IsSmall (made (term_at g) t u what)
   pub there : (x : Term) × (sub (made (term_at g) t u what) (place_in spot.selection) ≡ Some x)
 
--- it came there, the nodes are counted again, and this is selected, in a window from that line on
+-- it came there, the nodes are counted again, and this is selected, by its path, in a window from that line on
 pub record IsStepped (old new : Grove) (root : NodeId) (t : Term) (u : Place) (what : What) (spot : Spot) (r : Stepped) : Type 0 where
   pub way : Climbs (nodes old) u r.out root
   pub turned : IsTurned old new root r.out what t u r.root
   pub counted : r.nodes ≡ nodes_of (made (term_at old) t u what)
   pub selected : Climbs (nodes new) (place_in spot.selection) r.selected r.root
+  pub path : r.way ≡ spot.selection.path
   pub count : r.count ≡ spot.selection.count
   pub top : r.top ≡ spot.top

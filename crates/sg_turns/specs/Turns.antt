@@ -40,6 +40,11 @@ abbrev pub comes_out : What → NodeId → List NodeId
 comes_out (Tree d) at = at ∷ []
 comes_out (Shown m) at = []
 
+-- the node that stands in the place then
+abbrev pub stands_there : What → NodeId → NodeId
+stands_there (Tree d) at = d
+stands_there (Shown m) at = at
+
 -- a detached tree of the node's phylum, or marks of a node of an operator
 abbrev pub MayStand : Grove → NodeId → NodeId → What → Type 0
 MayStand g root at (Tree d) = IsRoot (nodes g) d × (d ≢ root) × SameSort (λ (k : Kind). k.phylum) (nodes g) at d

@@ -6,12 +6,11 @@ ghost use Rattle.sg_kinds.specs.Terms.{Term as IsTerm};
 ghost use Rattle.sg_kinds.specs.ValidPlans.{AreValid};
 ghost use Rattle.sg_pool.specs.Pools.{IsGrown};
 ghost use Rattle.sg_eval.specs.Journal.{now_of, total_of};
-ghost use Rattle.sg_forest.specs.Trees.{Climbs, IsLive, IsRoot};
+ghost use Rattle.sg_forest.specs.Trees.{Climbs, IsRoot};
 ghost use Rattle.sg_groves.specs.Evaluated.{IsEvaluated};
 ghost use Rattle.sg_groves.specs.Grove.{nodes};
-ghost use Rattle.sg_groves.specs.Holds.{Holds, IsPlaced};
+ghost use Rattle.sg_groves.specs.Holds.{Holds};
 ghost use Rattle.sg_terms.specs.Entries.{GainedAll};
-ghost use Rattle.sg_states.specs.Selections.{path_to};
 ghost use Rattle.sg_turns.specs.Known.{IsKnown};
 ghost use Rattle.sg_turns.specs.Noted.{Noted};
 ghost use Rattle.sg_turns.specs.Puts.{IsPut, MayPut};
@@ -26,47 +25,42 @@ use sg_kinds::memory::NoMemory;
 use sg_kinds::plans::Plans;
 use sg_kinds::row::Path;
 use sg_kinds::term::Term;
-use sg_select::{node_along, path_of};
+use sg_select::node_near;
 use sg_states::look_after;
 use sg_terms::Terms;
 use std::alloc::Global;
 
-/// The node at a path of the term that a root holds. The term has that place.
-pub fn node_at(terms: &Terms, root: NodeId, path: &Path) -> NodeId
+/// The node at a path of the term that a root holds, found from another node on, whose path is `way`. The term has that
+/// place.
+pub fn node_at(terms: &Terms, root: NodeId, path: &Path, near: NodeId, way: &Path) -> NodeId
     requires root { IsRoot (nodes terms.now) root }
+    requires near { Climbs (nodes terms.now) (place_of way.now) near root }
     requires there { (t : IsTerm) × (x : IsTerm) × Holds terms.now root t × (sub t (place_of path.now) ≡ Some x) }
     ensures { Climbs (nodes terms.now) (place_of path.now) result root }
 {
-    node_along(terms, root, path.as_slice()).unwrap()
+    node_near(terms, root, path.as_slice(), near, way.as_slice()).unwrap()
 }
 
-/// A spot: so many nodes from a node on, in a window from a line on.
-pub fn spot_at(
-    alloc: Global,
-    terms: &Terms,
-    n: NodeId,
-    count: usize,
-    top: usize,
-) -> Result<Spot, NoMemory>
-    requires { IsLive (nodes terms.now) n }
-    ensures { IfOk result (λ s. (root : _) (t : IsTerm) (u : Place) → IsPlaced terms.now root t u n
-        → s ≡ record { selection = record { path = path_to u; count = count }; top = top }) }
+/// A spot: so many nodes from the node at a path on, in a window from a line on.
+pub fn spot_at(alloc: Global, path: &Path, count: usize, top: usize) -> Result<Spot, NoMemory>
+    ensures { IfOk result (λ s. s ≡ record { selection = record { path = path.now; count = count }; top = top }) }
 {
-    let path = path_of(alloc, terms, n)?;
+    let path = path.copy(alloc)?;
     Ok(Spot {
         selection: Selection { path, count },
         top,
     })
 }
 
-/// Puts a term in the place of a node of the edited term, where the whole stays in the limits, and looks at it then;
-/// the subtree that stood there hangs. What is known of the term before may save its page. Where memory is wanting each
-/// node is as before, and only the pool and the journal may have grown.
+/// Puts a term in the place of a node of the edited term, whose path is `way`, where the whole stays in the limits, and
+/// looks at it then; the subtree that stood there hangs. What is known of the term before may save its page. Where
+/// memory is wanting each node is as before, and only the pool and the journal may have grown.
 pub fn put_term(
     alloc: Global,
     terms: &mut Terms,
     root: NodeId,
     at: NodeId,
+    way: &Path,
     t: &Term,
     select: &Selection,
     height: usize,
@@ -80,6 +74,7 @@ pub fn put_term(
     requires same { ev.now ≡ terms.old.spec }
     requires tall { 0 < height }
     requires may { (whole : IsTerm) × (u : Place) × MayPut terms.old root at whole u t.now }
+    requires way { Climbs (nodes terms.old) (place_of way.now) at root }
     requires known { IfSome known (IsKnown terms.old root) }
     ensures put { (whole : IsTerm) (u : Place) → MayPut terms.old root at whole u t.now → IfOk result
         (IsPut terms.old terms.new root at whole u t.now height select.now top) }
@@ -109,7 +104,10 @@ pub fn put_term(
     };
     terms.facts();
     let before = told_after(terms, done.root, built, done.reach, before);
-    match look_after(alloc, terms, done.root, select, height, top, before) {
+    let place = way.as_slice();
+    match look_after(
+        alloc, terms, done.root, built, place, select, height, top, before,
+    ) {
         Ok(look) => Ok(Turned {
             root: done.root,
             look,

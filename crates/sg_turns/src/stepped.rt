@@ -7,13 +7,14 @@ ghost use Rattle.sg_kinds.specs.Terms.{Term, nodes_of};
 ghost use Rattle.sg_kinds.specs.ValidPlans.{AreValid};
 ghost use Rattle.sg_pool.specs.Pools.{IsGrown};
 ghost use Rattle.sg_eval.specs.Journal.{now_of, total_of};
+ghost use Rattle.sg_forest.specs.Trees.{Climbs};
 ghost use Rattle.sg_groves.specs.Grove.{nodes};
 ghost use Rattle.sg_groves.specs.TermAt.{term_at};
 ghost use Rattle.sg_turns.specs.Stepped.{IsStepped, MayStep, redoing, seen_after, seen_before, step_place, undoing};
 ghost use Rattle.sg_turns.specs.Turns.{MayTurn, Notes, NotesSome, made};
 
 use crate::puts::node_at;
-use crate::turns::{What, turn};
+use crate::turns::{What, standing, turn};
 use sg_build::counts_below;
 use sg_changes::{Spot, Step};
 use sg_eval::{Evaluator, Journal};
@@ -35,6 +36,8 @@ pub struct Stepped {
     pub root: NodeId,
     /// the selected node, of a run its first element
     pub selected: NodeId,
+    /// its path
+    pub way: Path,
     pub count: usize,
     pub top: usize,
 }
@@ -55,7 +58,8 @@ fn nodes_after(terms: &Terms, at: NodeId, what: What, nodes: usize) -> usize
     }
 }
 
-// something comes into a place of the edited term, and this spot is seen then
+// something comes into a place of the edited term, and this spot is seen then; the place is found from another node on,
+// whose path is `way`, and what is selected then from the place on
 fn turned_at(
     alloc: Global,
     terms: &mut Terms,
@@ -64,6 +68,8 @@ fn turned_at(
     what: What,
     spot: &Spot,
     known: usize,
+    near: NodeId,
+    way: &Path,
     plans: &Plans,
     ev: &Evaluator,
     journal: &mut Journal,
@@ -71,6 +77,7 @@ fn turned_at(
     requires valid { AreValid (rules_of terms.old.spec) plans.now }
     requires same { ev.now ≡ terms.old.spec }
     requires may { (t : Term) × MayStep terms.old root t (place_of path.now) what spot.now known }
+    requires near { Climbs (nodes terms.old) (place_of way.now) near root }
     ensures stepped { (t : Term) → MayStep terms.old root t (place_of path.now) what spot.now known → IfOk result
         (IsStepped terms.old terms.new root t (place_of path.now) what spot.now) }
     ensures noted { (t : Term) → MayStep terms.old root t (place_of path.now) what spot.now known → IfOk result (λ r.
@@ -83,29 +90,38 @@ fn turned_at(
     ensures total { total_of journal.new ≡ total_of journal.old }
 {
     terms.facts();
-    let out = node_at(terms, root, path);
+    let out = node_at(terms, root, path, near, way);
     let nodes = nodes_after(terms, out, what, known);
+    let to = spot.selection.path.copy(alloc)?;
     match turn(alloc, terms, root, out, what, plans, ev, journal) {
-        Ok(now) => Ok(Stepped {
-            out,
-            nodes,
-            root: now,
-            selected: node_at(terms, now, &spot.selection.path),
-            count: spot.selection.count,
-            top: spot.top,
-        }),
+        Ok(now) => {
+            let there = standing(what, out);
+            let selected = node_at(terms, now, &spot.selection.path, there, path);
+            Ok(Stepped {
+                out,
+                nodes,
+                root: now,
+                selected,
+                way: to,
+                count: spot.selection.count,
+                top: spot.top,
+            })
+        }
         Err(e) => Err(e),
     }
 }
 
-/// Undoes a step in the edited term; what was selected before the step is found again. Where memory is wanting each node
-/// is as before, and only the pool and the journal may have grown.
+/// Undoes a step in the edited term; what was selected before the step is found again. The step's place is found from
+/// another node on, whose path is `way`. Where memory is wanting each node is as before, and only the pool and the
+/// journal may have grown.
 pub fn step_back(
     alloc: Global,
     terms: &mut Terms,
     root: NodeId,
     step: &Step,
     known: usize,
+    near: NodeId,
+    way: &Path,
     plans: &Plans,
     ev: &Evaluator,
     journal: &mut Journal,
@@ -114,6 +130,7 @@ pub fn step_back(
     requires same { ev.now ≡ terms.old.spec }
     requires may { (t : Term) × MayStep terms.old root t (step_place step.now) (undoing step.now)
         (seen_before step.now) known }
+    requires near { Climbs (nodes terms.old) (place_of way.now) near root }
     ensures stepped { (t : Term) → MayStep terms.old root t (step_place step.now) (undoing step.now)
         (seen_before step.now) known
         → IfOk result (IsStepped terms.old terms.new root t (step_place step.now) (undoing step.now)
@@ -140,7 +157,7 @@ pub fn step_back(
         } => {
             let what = What::Tree(*hangs);
             turned_at(
-                alloc, terms, root, path, what, before, known, plans, ev, journal,
+                alloc, terms, root, path, what, before, known, near, way, plans, ev, journal,
             )
         }
         Step::Marked {
@@ -151,20 +168,23 @@ pub fn step_back(
         } => {
             let what = What::Shown(*old);
             turned_at(
-                alloc, terms, root, path, what, before, known, plans, ev, journal,
+                alloc, terms, root, path, what, before, known, near, way, plans, ev, journal,
             )
         }
     }
 }
 
-/// Does a step again in the edited term; what was selected after the step is found again. Where memory is wanting each
-/// node is as before, and only the pool and the journal may have grown.
+/// Does a step again in the edited term; what was selected after the step is found again. The step's place is found from
+/// another node on, whose path is `way`. Where memory is wanting each node is as before, and only the pool and the
+/// journal may have grown.
 pub fn step_forth(
     alloc: Global,
     terms: &mut Terms,
     root: NodeId,
     step: &Step,
     known: usize,
+    near: NodeId,
+    way: &Path,
     plans: &Plans,
     ev: &Evaluator,
     journal: &mut Journal,
@@ -173,6 +193,7 @@ pub fn step_forth(
     requires same { ev.now ≡ terms.old.spec }
     requires may { (t : Term) × MayStep terms.old root t (step_place step.now) (redoing step.now)
         (seen_after step.now) known }
+    requires near { Climbs (nodes terms.old) (place_of way.now) near root }
     ensures stepped { (t : Term) → MayStep terms.old root t (step_place step.now) (redoing step.now)
         (seen_after step.now) known
         → IfOk result (IsStepped terms.old terms.new root t (step_place step.now) (redoing step.now)
@@ -199,7 +220,7 @@ pub fn step_forth(
         } => {
             let what = What::Tree(*hangs);
             turned_at(
-                alloc, terms, root, path, what, after, known, plans, ev, journal,
+                alloc, terms, root, path, what, after, known, near, way, plans, ev, journal,
             )
         }
         Step::Marked {
@@ -210,7 +231,7 @@ pub fn step_forth(
         } => {
             let what = What::Shown(*new);
             turned_at(
-                alloc, terms, root, path, what, after, known, plans, ev, journal,
+                alloc, terms, root, path, what, after, known, near, way, plans, ev, journal,
             )
         }
     }

@@ -6,7 +6,7 @@ ghost use Rattle.sg_kinds.specs.Terms.{Term};
 ghost use Rattle.sg_kinds.specs.ValidPlans.{AreValid};
 ghost use Rattle.sg_pool.specs.Pools.{IsGrown};
 ghost use Rattle.sg_eval.specs.Journal.{now_of, total_of};
-ghost use Rattle.sg_forest.specs.Trees.{IsLive};
+ghost use Rattle.sg_forest.specs.Trees.{Climbs, IsLive};
 ghost use Rattle.sg_forest.specs.Steps.{IsPartSet};
 ghost use Rattle.sg_groves.specs.Grove.{nodes};
 ghost use Rattle.sg_groves.specs.Stored.{number_at};
@@ -14,7 +14,7 @@ ghost use Rattle.sg_terms.specs.Kept.{ChangesTerms, KeepsTermsWithout};
 ghost use Rattle.sg_trail.specs.Trails.{LeadsBack};
 ghost use Rattle.sg_changes.specs.Changes.{with_marks};
 ghost use Rattle.sg_turns.specs.Known.{ReachesThen};
-ghost use Rattle.sg_turns.specs.Turns.{IsSeen, IsTurned, MayTurn, Notes, NotesSome};
+ghost use Rattle.sg_turns.specs.Turns.{IsSeen, IsTurned, MayTurn, Notes, NotesSome, stands_there};
 
 use sg_changes::{Marks, Selection};
 use sg_eval::{Evaluator, Journal};
@@ -99,6 +99,16 @@ pub fn exchanged(
     })
 }
 
+/// The node that stands in the place of another once something came there.
+pub(crate) fn standing(what: What, at: NodeId) -> NodeId
+    ensures { result ≡ stands_there what at }
+{
+    match what {
+        What::Tree(detached) => detached,
+        What::Shown(_) => at,
+    }
+}
+
 // the marks of a node of an operator
 fn put_marks(terms: &mut Terms, n: NodeId, marks: Marks)
     requires node { (x : _) → nodes terms.old n ≡ Some x → x.label.op ≢ None }
@@ -168,6 +178,8 @@ pub fn turn(
     requires may { (t : Term) × (u : Place) × MayTurn terms.old root at what t u }
     ensures turned { (t : Term) (u : Place) → MayTurn terms.old root at what t u → IfOk result
         (IsTurned terms.old terms.new root at what t u) }
+    ensures there { (t : Term) (u : Place) → MayTurn terms.old root at what t u → IfOk result
+        (Climbs (nodes terms.new) u (stands_there what at)) }
     ensures noted { (t : Term) (u : Place) → MayTurn terms.old root at what t u → IfOk result (λ r.
         Notes terms.old terms.new r t u what (now_of journal.old) (now_of journal.new)) }
     ensures some { (t : Term) (u : Place) → MayTurn terms.old root at what t u → OnErr result

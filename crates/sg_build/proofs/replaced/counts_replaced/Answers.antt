@@ -18,8 +18,10 @@ pub returns-then-are_within-clause-small : goal.returns-then-are_within-clause-s
 returns-then-are_within-clause-small c = λ root whole s u p t.
     let g = c.args.terms.now in
     let part = part_held g c.facts.ensures u c.args.at root whole p.way p.holds in
-    let w = is_whole whole u part.0 s c.args.known c.steps_up.result c.saturating_add-nodes.result c.saturating_add-depth.result c.counts_below.result c.args.t.now part.2 (c.requires.known root whole u p) (c.requires.within root whole u p)
-    (c.counts_below.ensures part.0 part.1) t (c.steps_up.ensures root whole u p) c.saturating_add-nodes.ensures c.saturating_add-depth.ensures in
+    let flat = c.requires.steps root whole u p in
+    let fits = c.ranges.steps.fits in
+    let w = is_whole whole u part.0 s c.args.known c.args.steps c.saturating_add-nodes.result c.saturating_add-depth.result c.counts_below.result c.args.t.now part.2 (c.requires.known root whole u p) (c.requires.within root whole u p)
+    (c.counts_below.ensures part.0 part.1) t (omega (arith, flat, fits)) c.saturating_add-nodes.ensures c.saturating_add-depth.ensures in
     let within = c.if-are_within.ensures.0 refl in
     (λ _. w.small within.0 within.1, λ _. refl)
 
@@ -27,8 +29,10 @@ pub returns-then-are_within-clause-nodes : goal.returns-then-are_within-clause-n
 returns-then-are_within-clause-nodes c = λ root whole s u p t.
     let g = c.args.terms.now in
     let part = part_held g c.facts.ensures u c.args.at root whole p.way p.holds in
-    let w = is_whole whole u part.0 s c.args.known c.steps_up.result c.saturating_add-nodes.result c.saturating_add-depth.result c.counts_below.result c.args.t.now part.2 (c.requires.known root whole u p) (c.requires.within root whole u p)
-    (c.counts_below.ensures part.0 part.1) t (c.steps_up.ensures root whole u p) c.saturating_add-nodes.ensures c.saturating_add-depth.ensures in
+    let flat = c.requires.steps root whole u p in
+    let fits = c.ranges.steps.fits in
+    let w = is_whole whole u part.0 s c.args.known c.args.steps c.saturating_add-nodes.result c.saturating_add-depth.result c.counts_below.result c.args.t.now part.2 (c.requires.known root whole u p) (c.requires.within root whole u p)
+    (c.counts_below.ensures part.0 part.1) t (omega (arith, flat, fits)) c.saturating_add-nodes.ensures c.saturating_add-depth.ensures in
     let few = (c.if-are_within.ensures.0 refl).0 in
     let count = w.count in
     omega (arith, few, count)
@@ -37,14 +41,18 @@ pub returns-clause-small : goal.returns-clause-small
 returns-clause-small c = λ root whole s u p t.
     let g = c.args.terms.now in
     let part = part_held g c.facts.ensures u c.args.at root whole p.way p.holds in
-    let w = is_whole whole u part.0 s c.args.known c.steps_up.result c.saturating_add-nodes.result c.saturating_add-depth.result c.counts_below.result c.args.t.now part.2 (c.requires.known root whole u p) (c.requires.within root whole u p)
-    (c.counts_below.ensures part.0 part.1) t (c.steps_up.ensures root whole u p) c.saturating_add-nodes.ensures c.saturating_add-depth.ensures in
+    let flat = c.requires.steps root whole u p in
+    let fits = c.ranges.steps.fits in
+    let w = is_whole whole u part.0 s c.args.known c.args.steps c.saturating_add-nodes.result c.saturating_add-depth.result c.counts_below.result c.args.t.now part.2 (c.requires.known root whole u p) (c.requires.within root whole u p)
+    (c.counts_below.ensures part.0 part.1) t (omega (arith, flat, fits)) c.saturating_add-nodes.ensures c.saturating_add-depth.ensures in
     (λ e. absurd (false≢true e), λ is. c.if-are_within.ensures.1 (w.few is, w.flat is))
 
 pub returns-clause-counts : goal.returns-clause-counts
 returns-clause-counts c = λ root whole s u p t.
     let g = c.args.terms.now in
     let part = part_held g c.facts.ensures u c.args.at root whole p.way p.holds in
-    let w = is_whole whole u part.0 s c.args.known c.steps_up.result c.saturating_add-nodes.result c.saturating_add-depth.result c.counts_below.result c.args.t.now part.2 (c.requires.known root whole u p) (c.requires.within root whole u p)
-    (c.counts_below.ensures part.0 part.1) t (c.steps_up.ensures root whole u p) c.saturating_add-nodes.ensures c.saturating_add-depth.ensures in
+    let flat = c.requires.steps root whole u p in
+    let fits = c.ranges.steps.fits in
+    let w = is_whole whole u part.0 s c.args.known c.args.steps c.saturating_add-nodes.result c.saturating_add-depth.result c.counts_below.result c.args.t.now part.2 (c.requires.known root whole u p) (c.requires.within root whole u p)
+    (c.counts_below.ensures part.0 part.1) t (omega (arith, flat, fits)) c.saturating_add-nodes.ensures c.saturating_add-depth.ensures in
     record { nodes = w.count; depth = c.depth_over.ensures root whole s u p t.depth }

@@ -1,59 +1,24 @@
-use Rattle.std.proofs.Common.{◌+◌, take, drop, get_or, sym, ap, ◌∙◌, subst, arith}
-use Rattle.std.specs.Prelude.{reverse, option_and_then}
-use Rattle.std.proofs.lemmas.Bool.{false≢true}
-use Rattle.std.proofs.lemmas.List.{get_or_default}
-use Rattle.sg_kinds.specs.Places.{child, place_of}
+use Rattle.std.proofs.Common.{◌++◌, ap, ◌∙◌, ◌-◌, subst, take, drop, length, arith}
+use Rattle.std.proofs.lemmas.List.{length-drop, take_all}
+use Rattle.sg_kinds.specs.Places.{place_of}
 use Rattle.sg_groves.specs.Holds.{IsPlaced}
-use Rattle.sg_build.proofs.Told.{the_term}
-use Rattle.sg_select.specs.Around.{kids}
-use Rattle.sg_select.proofs.Around.{child_is}
-use Rattle.sg_select.proofs.Fronts.{front_all, front_more, front_rest, past_none}
-use Rattle.sg_select.proofs.Leading.{child_live, held, kid_placed, sub_there}
+use Rattle.sg_select.specs.Paths.{GoesTo}
+use Rattle.sg_select.proofs.Fronts.{climber_live, low_long, parted, whole_path}
 use Rattle.sg_select.proofs.paths.deepest.Goals as goal
 
-pub returns-then-k-kid_count-clause-goes : goal.returns-then-k-kid_count-clause-goes
-returns-then-k-kid_count-clause-goes c = λ t h.
-    let g = c.args.terms.now in
-    let n = c.loop-k.at in
-    let path = c.args.path.now in
-    let i = c.loop-k.k-index in
-    let placed = c.loop-k.invariant.placed t h in
-    let holds = held g c.facts.ensures n c.loop-k.invariant.live in
-    let there = sub_there g c.facts.ensures c.args.root t (the_term g n) (place_of (take i path)) n placed holds in
-    let count = c.kid_count.ensures.count (the_term g n) holds in
-    let high = c.if-k-kid_count.true in
-    let k = get_or path i 0 in
-    record {
-      front = place_of (take i path);
-      placed = placed;
-      all = λ no. absurd (false≢true no);
-      ends = λ _. record {
-        rest = reverse (drop (i + 1) path);
-        next = k;
-        is = front_rest path i k c.loop-k-test.true (get_or_default path i 0 k c.loop-k-test.true);
-        none = ap (option_and_then (child k)) there ∙ child_is k (the_term g n) ∙ past_none (kids (the_term g n)) k (omega (arith, count, high));
-      };
-    }
-
-pub loop-k-preserved : goal.loop-k-preserved
-loop-k-preserved c =
-    let g = c.args.terms.now in
-    let path = c.args.path.now in
-    let i = c.loop-k.k-index in
-    record {
-      live = child_live g c.facts.ensures c.kid-at.result c.loop-k.at (get_or path i 0) c.kid-at.ensures.child;
-      placed = λ t h.
-          subst (λ u. IsPlaced g c.args.root t u c.kid-at.result) (sym (front_more path i (get_or path i 0) c.loop-k-test.true (get_or_default path i 0 (get_or path i 0) c.loop-k-test.true)))
-          (kid_placed g c.facts.ensures c.args.root t (place_of (take i path)) c.loop-k.at c.kid-at.result (get_or path i 0) (c.loop-k.invariant.placed t h) c.kid-at.ensures.child);
-    }
+pub ancestor-above-requires : goal.ancestor-above-requires
+ancestor-above-requires c = climber_live c.args.terms.now (place_of c.args.way.now) c.args.near c.args.root c.requires.root c.requires.near
 
 pub returns-clause-goes : goal.returns-clause-goes
 returns-clause-goes c = λ t h.
+    let g = c.args.terms.now in
+    let root = c.args.root in
     let path = c.args.path.now in
-    let i = c.loop-k.k-index in
-    record {
-      front = place_of (take i path);
-      placed = c.loop-k.invariant.placed t h;
-      all = λ _. sym (front_all path i c.loop-k-test.false);
-      ends = λ no. absurd (false≢true (sym no));
-    }
+    let way = c.args.way.now in
+    let front = c.shared-front.result in
+    let known : IsPlaced g root t (place_of way) c.args.near = record { top = c.requires.root; holds = h; way = c.requires.near } in
+    let split = subst (λ u. IsPlaced g root t u c.args.near) (parted way front) known in
+    let above = c.ancestor-above.ensures.placed root t (place_of (drop front way)) (place_of (take front way)) split (low_long way front) in
+    let rest = take_all (length path - front) (drop front path) (omega (arith, length-drop front path)) in
+    let went = c.deepest_below.ensures.goes root t (place_of (take front way)) above in
+    subst (λ u. GoesTo g root t u c.deepest_below.result.0 c.deepest_below.result.1) (ap (λ l. place_of l ++ place_of (take front way)) rest ∙ whole_path path way front c.shared-front.ensures.same) went

@@ -2,7 +2,8 @@ use Rattle.std.specs.Prelude.{◌≡◌, ◌≤◌, IfSome}
 use Rattle.std.proofs.Common.{subst}
 use Rattle.sg_states.specs.Beginnings.{Begins, BeginsAlone, foretold}
 use Rattle.sg_states.specs.Paged.{IsForetold}
-use Rattle.sg_states.proofs.Foretold.{begun_after, climber_live, if_some}
+use Rattle.sg_select.proofs.Fronts.{climber_live}
+use Rattle.sg_states.proofs.Foretold.{begun_after, if_some}
 use Rattle.sg_states.proofs.begins.begins_after.Goals as goal
 
 pub begins_alone-requires : goal.begins_alone-requires

@@ -25,6 +25,7 @@ returns c = λ t whole.
     let l : Look = record {
       selected = n;
       spot = record { selection = record { path = path; count = c.count_at-count.result }; top = c.topped-top.result };
+      way = c.in_ok-kept.kept;
       page = f.page;
       begins = f.begins;
     } in
@@ -32,5 +33,5 @@ returns c = λ t whole.
     let there : IsTrue went.result.1 → Climbs (nodes g) (place_of c.args.select.now.path) n root =
     λ on. subst (λ p. Climbs (nodes g) (place_of p) n root) c.as_slice-way.ensures (went.ensures.there t whole.holds on) in
     subst (λ p. let select : Selection = record { path = p; count = c.args.select.now.count } in IsLook g root t (seen g.spec c.args.height t (settled_selection g.spec t select) c.args.top) l) c.as_slice-way.ensures
-    (looked g c.facts.ensures root t s c.args.height c.args.top c.topped-top.result path c.count_at-count.result n f whole
+    (looked g c.facts.ensures root t s c.args.height c.args.top c.topped-top.result path c.in_ok-kept.kept c.count_at-count.result n f c.in_ok-kept.ensures whole
     (went.ensures.settled t whole.holds reached) (λ u placed. c.in_ok-path.ensures root t u placed there) (c.count_at-count.ensures t) (λ u way. c.in_ok-found.ensures t u whole way) c.topped-top.ensures)

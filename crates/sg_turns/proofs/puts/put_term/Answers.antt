@@ -2,9 +2,13 @@ use Rattle.std.specs.Prelude.{IfSome}
 use Rattle.std.proofs.Common.{sym, ◌∙◌, subst}
 use Rattle.sg_kinds.specs.declared.spec.Spec.{Spec}
 use Rattle.sg_eval.specs.Journal.{now_of}
+use Rattle.sg_kinds.specs.Places.{place_of}
+use Rattle.sg_forest.specs.Trees.{Climbs}
+use Rattle.sg_groves.specs.Grove.{nodes}
 use Rattle.sg_groves.specs.TermAt.{term_at}
+use Rattle.sg_groves.proofs.Ways.{one_way}
 use Rattle.sg_propagate.specs.Exchanged.{Reaches}
-use Rattle.sg_states.proofs.Foretold.{climber_live}
+use Rattle.sg_select.proofs.Fronts.{climber_live}
 use Rattle.sg_turns.specs.Known.{WillTell}
 use Rattle.sg_turns.proofs.Placing.{as_was, built_root, may_turn, put_notes, put_notes_some, put_now}
 use Rattle.sg_turns.proofs.Turning.{noted_already}
@@ -74,6 +78,18 @@ told_after-before-requires c =
     let e = c.in-Ok.ensures in
     let turns = may_turn c.args.terms.now c.build.new.terms c.facts.ensures c.facts-2.ensures c.args.root c.args.at c.in-Ok.built e.grew m.0 m.1 c.args.t.now m.2 e.terms e.held in
     climber_live c.exchanged.new.terms m.1 c.in-Ok.built c.in-Ok-exchanged.done.root (c.in-Ok-exchanged.ensures.turned m.0 m.1 turns).whole.top (c.in-Ok-exchanged.ensures.reach m.0 m.1 turns).way
+
+pub look_after-requires-clause-near : goal.look_after-requires-clause-near
+look_after-requires-clause-near c =
+    let m = c.requires.may in
+    let e = c.in-Ok.ensures in
+    let new = c.exchanged.new.terms in
+    let root = c.in-Ok-exchanged.done.root in
+    let top = m.2.whole.top in
+    let turns = may_turn c.args.terms.now c.build.new.terms c.facts.ensures c.facts-2.ensures c.args.root c.args.at c.in-Ok.built e.grew m.0 m.1 c.args.t.now m.2 e.terms e.held in
+    let same = (one_way c.args.terms.now c.facts.ensures (place_of c.args.way.now) m.1 c.args.at c.args.root c.args.root top top c.requires.way m.2.way).0 in
+    subst (λ p. Climbs (nodes new) (place_of p) c.in-Ok.built root) (sym c.as_slice-place.ensures)
+    (subst (λ u. Climbs (nodes new) u c.in-Ok.built root) (sym same) (c.in-Ok-exchanged.ensures.reach m.0 m.1 turns).way)
 
 pub look_after-requires-clause-before : goal.look_after-requires-clause-before
 look_after-requires-clause-before c =

@@ -7,24 +7,24 @@ use Rattle.sg_buffer.proofs.buffers.Buffer.extend.Goals as goal
 pub returns-in_default-clause-told : goal.returns-in_default-clause-told
 returns-in_default-clause-told c =
     let b = held c.self.inside in
-    none_here (held c.self.inside) c.args.self.now c.self.view_is c.self.inside.nodes c.self.inside.history.room c.self.inside.page c.self.inside.begins c.self.invariant (rw c.in_default.is at (c.spine_of.ensures.leads b.root (state_of b).term (selected_place (state_of b)) (placed_now b c.self.inside.nodes c.self.inside.history.room c.self.inside.page c.self.inside.begins c.self.invariant)))
+    none_here (held c.self.inside) c.args.self.now c.self.view_is c.self.inside.nodes c.self.inside.history.room c.self.inside.page c.self.inside.standing c.self.invariant (rw c.in_default.is at (c.spine_of.ensures.leads b.root (state_of b).term (selected_place (state_of b)) (placed_now b c.self.inside.nodes c.self.inside.history.room c.self.inside.page c.self.inside.standing c.self.invariant)))
 
 pub returns-then-elements_from-self-clause-told : goal.returns-then-elements_from-self-clause-told
 returns-then-elements_from-self-clause-told c =
     let wide : 65536 ≤ 18446744073709551615 = omega arith in
-    full_here (held c.self.inside) c.args.self.now c.self.view_is c.self.inside.nodes c.self.inside.history.room c.self.inside.page c.self.inside.begins c.self.invariant c.in-Some.spine c.elements_from.result 18446744073709551615 c.in-Some.ensures.leads c.elements_from.ensures wide c.if-elements_from-self.true
+    full_here (held c.self.inside) c.args.self.now c.self.view_is c.self.inside.nodes c.self.inside.history.room c.self.inside.page c.self.inside.standing c.self.invariant c.in-Some.spine c.elements_from.result 18446744073709551615 c.in-Some.ensures.leads c.elements_from.ensures wide c.if-elements_from-self.true
 
 pub invariant_of-self : goal.invariant_of-self
 invariant_of-self c =
     let wide : 65536 ≤ 18446744073709551615 = omega arith in
-    (longer_here (held c.self.inside) c.args.self.now c.self.view_is c.self.inside.nodes c.self.inside.history.room c.self.inside.page c.self.inside.begins c.self.invariant c.requires (room_here (held c.self.inside) c.args.self.now c.self.view_is c.self.inside.nodes c.self.inside.history.room c.self.inside.page c.self.inside.begins c.self.invariant c.in-Some.spine c.elements_from.result 18446744073709551615 c.in-Some.ensures.leads c.elements_from.ensures wide c.if-elements_from-self.false)).0
+    (longer_here (held c.self.inside) c.args.self.now c.self.view_is c.self.inside.nodes c.self.inside.history.room c.self.inside.page c.self.inside.standing c.self.invariant c.requires (room_here (held c.self.inside) c.args.self.now c.self.view_is c.self.inside.nodes c.self.inside.history.room c.self.inside.page c.self.inside.standing c.self.invariant c.in-Some.spine c.elements_from.result 18446744073709551615 c.in-Some.ensures.leads c.elements_from.ensures wide c.if-elements_from-self.false)).0
 
 pub returns-clause-told : goal.returns-clause-told
 returns-clause-told c =
     let wide : 65536 ≤ 18446744073709551615 = omega arith in
-    more_here (held c.self.inside) c.args.self.now c.self.view_is c.self.inside.nodes c.self.inside.history.room c.self.inside.page c.self.inside.begins c.self.invariant c.in-Some.spine c.elements_from.result 18446744073709551615 c.in-Some.ensures.leads c.elements_from.ensures wide c.if-elements_from-self.false
+    more_here (held c.self.inside) c.args.self.now c.self.view_is c.self.inside.nodes c.self.inside.history.room c.self.inside.page c.self.inside.standing c.self.invariant c.in-Some.spine c.elements_from.result 18446744073709551615 c.in-Some.ensures.leads c.elements_from.ensures wide c.if-elements_from-self.false
 
 pub returns-clause-done : goal.returns-clause-done
 returns-clause-done c = λ same.
     let wide : 65536 ≤ 18446744073709551615 = omega arith in
-    (longer_here (held c.self.inside) c.args.self.now c.self.view_is c.self.inside.nodes c.self.inside.history.room c.self.inside.page c.self.inside.begins c.self.invariant c.requires (room_here (held c.self.inside) c.args.self.now c.self.view_is c.self.inside.nodes c.self.inside.history.room c.self.inside.page c.self.inside.begins c.self.invariant c.in-Some.spine c.elements_from.result 18446744073709551615 c.in-Some.ensures.leads c.elements_from.ensures wide c.if-elements_from-self.false)).1
+    (longer_here (held c.self.inside) c.args.self.now c.self.view_is c.self.inside.nodes c.self.inside.history.room c.self.inside.page c.self.inside.standing c.self.invariant c.requires (room_here (held c.self.inside) c.args.self.now c.self.view_is c.self.inside.nodes c.self.inside.history.room c.self.inside.page c.self.inside.standing c.self.invariant c.in-Some.spine c.elements_from.result 18446744073709551615 c.in-Some.ensures.leads c.elements_from.ensures wide c.if-elements_from-self.false)).1

@@ -5,13 +5,13 @@ use Rattle.sg_undo.specs.Timeline.{Timeline}
 use Rattle.sg_changes.specs.declared.step.Step.{Step}
 use Rattle.sg_buffer.specs.Held.{state_of}
 use Rattle.sg_buffer.proofs.Kept.{kept_here}
-use Rattle.sg_buffer.proofs.Methods.{held}
+use Rattle.sg_buffer.proofs.Methods.{held, way_there}
 use Rattle.sg_buffer.proofs.Undoing.{first_step, gained_here, may_undo, no_step, noted_here, nothing_past, rest_of, some_past, undone_here}
 use Rattle.sg_buffer.proofs.buffers.Buffer.undo.Goals as goal
 
 pub returns-in_default-clause-nothing : goal.returns-in_default-clause-nothing
 returns-in_default-clause-nothing c = (
-  (λ same. nothing_past (held c.self.inside) c.args.self.now c.self.view_is c.self.inside.nodes c.self.inside.history.room c.self.inside.page c.self.inside.begins c.self.invariant (no_step c.self.inside.history.past c.in_default.ensures)),
+  (λ same. nothing_past (held c.self.inside) c.args.self.now c.self.view_is c.self.inside.nodes c.self.inside.history.room c.self.inside.page c.self.inside.standing c.self.invariant (no_step c.self.inside.history.past c.in_default.ensures)),
   (λ none. refl),
 )
 
@@ -19,26 +19,26 @@ pub step_back-requires-clause-may : goal.step_back-requires-clause-may
 step_back-requires-clause-may c =
     let steps = c.self.inside.history.past in
     let b = held c.self.inside in
-    ((state_of b).term, may_undo b c.self.inside.nodes c.self.inside.history.room c.self.inside.page c.self.inside.begins c.self.invariant c.in-Some.step.now (rest_of steps) (first_step steps c.in-Some.step.now c.in-Some.ensures))
+    ((state_of b).term, may_undo b c.self.inside.nodes c.self.inside.history.room c.self.inside.page c.self.inside.standing c.self.invariant c.in-Some.step.now (rest_of steps) (first_step steps c.in-Some.step.now c.in-Some.ensures))
 
 pub invariant_of-self : goal.invariant_of-self
 invariant_of-self c =
     let e = c.in_err-undone.ensures in
-    (kept_here (held c.self.inside) c.self.inside.nodes c.self.inside.history.room c.self.inside.page c.self.inside.begins c.self.invariant c.step_back.new.terms e.spec e.grown e.as_before c.args.self.now c.self.view_is).0
+    (kept_here (held c.self.inside) c.self.inside.nodes c.self.inside.history.room c.self.inside.page c.self.inside.standing c.self.invariant c.step_back.new.terms e.spec e.grown e.as_before c.args.self.now c.self.view_is).0
 
 pub returns-in_err-undone-clause-as_before : goal.returns-in_err-undone-clause-as_before
 returns-in_err-undone-clause-as_before c =
     let e = c.in_err-undone.ensures in
     let p = err_from_is_err_and c.from_residual.result c.from_residual.ensures.1 in
     rw p.1
-    (kept_here (held c.self.inside) c.self.inside.nodes c.self.inside.history.room c.self.inside.page c.self.inside.begins c.self.invariant c.step_back.new.terms e.spec e.grown e.as_before c.args.self.now c.self.view_is).1
+    (kept_here (held c.self.inside) c.self.inside.nodes c.self.inside.history.room c.self.inside.page c.self.inside.standing c.self.invariant c.step_back.new.terms e.spec e.grown e.as_before c.args.self.now c.self.view_is).1
 
 pub returns-in_err-undone-clause-noted : goal.returns-in_err-undone-clause-noted
 returns-in_err-undone-clause-noted c =
     let steps = c.self.inside.history.past in
     let p = err_from_is_err_and c.from_residual.result c.from_residual.ensures.1 in
     rw p.1
-    (noted_here (held c.self.inside) c.args.self.now c.self.view_is c.self.inside.nodes c.self.inside.history.room c.self.inside.page c.self.inside.begins c.self.invariant
+    (noted_here (held c.self.inside) c.args.self.now c.self.view_is c.self.inside.nodes c.self.inside.history.room c.self.inside.page c.self.inside.standing c.self.invariant
     c.in-Some.step.now (rest_of steps) (first_step steps c.in-Some.step.now c.in-Some.ensures) (now_of c.args.journal.now) (now_of c.step_back.new.journal) c.in_err-undone.ensures.some)
 
 pub returns-in_err-undone-clause-some : goal.returns-in_err-undone-clause-some
@@ -46,7 +46,7 @@ returns-in_err-undone-clause-some c =
     let steps = c.self.inside.history.past in
     let p = err_from_is_err_and c.from_residual.result c.from_residual.ensures.1 in
     rw p.1
-    (some_past (held c.self.inside) c.args.self.now c.self.view_is c.self.inside.nodes c.self.inside.history.room c.self.inside.page c.self.inside.begins c.self.invariant
+    (some_past (held c.self.inside) c.args.self.now c.self.view_is c.self.inside.nodes c.self.inside.history.room c.self.inside.page c.self.inside.standing c.self.invariant
     c.in-Some.step.now (rest_of steps) (first_step steps c.in-Some.step.now c.in-Some.ensures))
 
 pub invariant_of-self-2 : goal.invariant_of-self-2
@@ -56,7 +56,7 @@ invariant_of-self-2 c =
     let first = first_step steps s c.in-Some.ensures in
     let e = c.in_ok-undone.ensures in
     let h = c.put_forth.ensures s (rest_of steps) first in
-    (undone_here (held c.self.inside) c.args.self.now c.self.view_is c.self.inside.nodes c.self.inside.history.room c.self.inside.page c.self.inside.begins c.self.invariant
+    (undone_here (held c.self.inside) c.args.self.now c.self.view_is c.self.inside.nodes c.self.inside.history.room c.self.inside.page c.self.inside.standing c.self.invariant
     s (rest_of steps) first c.requires.none c.step_back.new.terms c.facts.ensures e.spec c.in_ok-undone.undone e.stepped c.put_forth.new.history
     (ap (λ (t : Timeline Step). t.past) h) (ap (λ (t : Timeline Step). t.future) h) (ap (λ (t : Timeline Step). t.room) h)).0
 
@@ -64,7 +64,7 @@ pub returns-clause-nothing : goal.returns-clause-nothing
 returns-clause-nothing c =
     let steps = c.self.inside.history.past in (
       (λ never. absurd (cc never)),
-      (λ none. absurd (some_past (held c.self.inside) c.args.self.now c.self.view_is c.self.inside.nodes c.self.inside.history.room c.self.inside.page c.self.inside.begins c.self.invariant
+      (λ none. absurd (some_past (held c.self.inside) c.args.self.now c.self.view_is c.self.inside.nodes c.self.inside.history.room c.self.inside.page c.self.inside.standing c.self.invariant
           c.in-Some.step.now (rest_of steps) (first_step steps c.in-Some.step.now c.in-Some.ensures) none)),
     )
 
@@ -75,12 +75,15 @@ returns-clause-done c = λ same.
     let first = first_step steps s c.in-Some.ensures in
     let e = c.in_ok-undone.ensures in
     let h = c.put_forth.ensures s (rest_of steps) first in
-    (undone_here (held c.self.inside) c.args.self.now c.self.view_is c.self.inside.nodes c.self.inside.history.room c.self.inside.page c.self.inside.begins c.self.invariant
+    (undone_here (held c.self.inside) c.args.self.now c.self.view_is c.self.inside.nodes c.self.inside.history.room c.self.inside.page c.self.inside.standing c.self.invariant
     s (rest_of steps) first c.requires.none c.step_back.new.terms c.facts.ensures e.spec c.in_ok-undone.undone e.stepped c.put_forth.new.history
     (ap (λ (t : Timeline Step). t.past) h) (ap (λ (t : Timeline Step). t.future) h) (ap (λ (t : Timeline Step). t.room) h)).1
 
 pub returns-clause-evaluated : goal.returns-clause-evaluated
 returns-clause-evaluated c = λ same.
     let steps = c.self.inside.history.past in
-    gained_here (held c.self.inside) c.args.self.now c.self.view_is c.self.inside.nodes c.self.inside.history.room c.self.inside.page c.self.inside.begins c.self.invariant
+    gained_here (held c.self.inside) c.args.self.now c.self.view_is c.self.inside.nodes c.self.inside.history.room c.self.inside.page c.self.inside.standing c.self.invariant
     c.in-Some.step.now (rest_of steps) (first_step steps c.in-Some.step.now c.in-Some.ensures) c.step_back.new.terms c.in_ok-undone.undone.root (now_of c.args.journal.now) (now_of c.step_back.new.journal) c.in_ok-undone.ensures.noted
+
+pub step_back-requires-clause-near : goal.step_back-requires-clause-near
+step_back-requires-clause-near c = way_there (held c.self.inside) c.self.inside.nodes c.self.inside.history.room c.self.inside.page c.self.inside.standing c.self.invariant

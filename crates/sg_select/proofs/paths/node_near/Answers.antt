@@ -6,7 +6,7 @@ use Rattle.sg_forest.specs.Trees.{Climbs}
 use Rattle.sg_select.specs.Paths.{there}
 use Rattle.sg_select.proofs.Fronts.{there_is, there_not}
 use Rattle.sg_select.proofs.Leading.{a_lead, held, no_lead, sub_there}
-use Rattle.sg_select.proofs.paths.node_along.Goals as goal
+use Rattle.sg_select.proofs.paths.node_near.Goals as goal
 
 pub returns-then-is_whole-clause-leads : goal.returns-then-is_whole-clause-leads
 returns-then-is_whole-clause-leads c = λ t h.
