@@ -175,7 +175,7 @@ module _ (spec : Spec) (plans : Plans) (t : Term) (planned : IsPlanned spec plan
         by (suc k) slot has = argument k slot has
 
   -- and by those of a node above
-  raised : (w : List ℕ) (u : Place) (q : ℕ) (a : Reference Place) → IsNodeAt t (w ++ u) → IsBefore rules plans t (w ++ u) q a → IsBefore rules plans t u (suc (position_at rules plans t w u q)) a
+  pub raised : (w : List ℕ) (u : Place) (q : ℕ) (a : Reference Place) → IsNodeAt t (w ++ u) → IsBefore rules plans t (w ++ u) q a → IsBefore rules plans t u (suc (position_at rules plans t w u q)) a
   raised w u q a is b =
       let p = position_of rules plans b.site in
       let l = b.less in
@@ -183,7 +183,7 @@ module _ (spec : Spec) (plans : Plans) (t : Term) (planned : IsPlanned spec plan
       let rise = positions_rise spec in_range plans planned.valid t planned.root planned.fits w u (position_at rules plans t b.way (w ++ u) p) q is (omega (arith, l)) in
       record { site = b.site; found = b.found; live = b.live; way = b.way ++ w; below = b.below ∙ sym (append_assoc b.way w u); less = omega (arith, at, rise) }
 
-  named_on_way : (w : List ℕ) (u : Place) (q : ℕ) (a : Reference Place) → IsNodeAt t (w ++ u) → IsNamed rules plans t (w ++ u) (belongs rules plans (operator_in t (w ++ u)) q) q a
+  pub named_on_way : (w : List ℕ) (u : Place) (q : ℕ) (a : Reference Place) → IsNodeAt t (w ++ u) → IsNamed rules plans t (w ++ u) (belongs rules plans (operator_in t (w ++ u)) q) q a
       → IsNamed rules plans t u (visit_at rules plans t w u q) (suc (position_at rules plans t w u q)) a
   named_on_way w u q a is (leaf l) = leaf l
   named_on_way w u q a is (before b) = before (raised w u q a is b)

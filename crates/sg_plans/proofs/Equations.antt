@@ -19,7 +19,7 @@ use Rattle.sg_kinds.specs.Instances.{below, attr_count, defines, rule_for}
 use Rattle.sg_kinds.specs.Dependencies.{is_inherited_there, phylum_there, occurrence}
 use Rattle.sg_kinds.specs.Sound as sound
 use Rattle.sg_kinds.specs.Sound.{HasShapes, HasRules, IsValue, IsShaped, is_operator_of, operators_of}
-use Rattle.sg_kinds.specs.Typing.{attr_types, slots_there, slot_type}
+use Rattle.sg_kinds.specs.Typing.{attr_types, slots_there}
 use Rattle.sg_dependencies.specs.Proper.{is_owed, AreApart, AreProper}
 use Rattle.sg_dependencies.specs.Vertices.{IsVertex, locals_there}
 use Rattle.sg_dependencies.proofs.Below.{length-below, get_or-below}

@@ -7,5 +7,4 @@ pub mod Stepped
 pub mod Outside
 pub mod Solved
 pub mod Visiting
-pub mod Rows
 pub mod FewVisits

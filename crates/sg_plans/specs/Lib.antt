@@ -1,4 +1,3 @@
 pub mod Planned
 pub mod Segments
 pub mod Stepping
-pub mod Reading

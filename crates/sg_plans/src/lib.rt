@@ -3,6 +3,5 @@
 
 pub mod laws;
 mod reading;
-mod vertices;
 
-pub use reading::{readers, steps, visit_count, visit_of};
+pub use reading::{steps, visit_count, visit_of};

@@ -1,17 +1,15 @@
 //! What plans say of an operator, read where it stands.
-ghost use Rattle.std.specs.Prelude.{◌≡◌, ◌↔◌, ◌-◌, ◌<◌, ◌≤◌, ℕ, length, slice_index, Contains, MatchOption};
+ghost use Rattle.std.specs.Prelude.{◌≡◌, ◌-◌, ◌<◌, ◌≤◌, length, slice_index, MatchOption};
 ghost use Rattle.sg_kinds.specs.Specification.{phylum_of, rules_of};
-ghost use Rattle.sg_kinds.specs.ValidPlans.{AreValid, readers_of};
-ghost use Rattle.sg_kinds.specs.Visits.{row_at, vertex, visit_count as visit_count_of};
-ghost use Rattle.sg_dependencies.specs.Vertices.{AreInRange, IsVertex};
-ghost use Rattle.sg_plans.specs.Reading.{IsReader};
+ghost use Rattle.sg_kinds.specs.ValidPlans.{AreValid};
+ghost use Rattle.sg_kinds.specs.Visits.{row_at, visit_count as visit_count_of};
+ghost use Rattle.sg_dependencies.specs.Vertices.{AreInRange};
 ghost use Rattle.sg_plans.specs.Stepping.{steps_of};
 
-use crate::vertices::vertex_of;
-use sg_kinds::ids::{OpId, PhylumId, RuleId};
+use sg_kinds::ids::{OpId, PhylumId};
 use sg_kinds::plans::{PlanStep, Plans};
 use sg_kinds::row::item;
-use sg_kinds::spec::{Occurrence, Spec};
+use sg_kinds::spec::Spec;
 
 /// How many visits a node of an operator has, as all of its phylum have: at least one.
 pub fn visit_count(spec: &Spec, plans: &Plans, op: OpId) -> u32
@@ -31,18 +29,6 @@ pub fn steps(plans: &Plans, op: OpId, visit: u32) -> &[PlanStep]
 {
     let visits = item(plans.steps.as_slice(), op.number as usize);
     item(visits.as_slice(), visit as usize - 1).as_slice()
-}
-
-/// The equations of an operator that name an occurrence, in source order. It takes a step an argument of the operator.
-pub fn readers<'a>(spec: &Spec, plans: &'a Plans, op: OpId, o: Occurrence) -> &'a [RuleId]
-    requires range { AreInRange (rules_of spec.now) }
-    requires valid { AreValid (rules_of spec.now) plans.now }
-    requires there { IsVertex (rules_of spec.now) op o }
-    ensures exact { result.now ≡ readers_of (rules_of spec.now) op (vertex (rules_of spec.now) op o) }
-    ensures names { (r : ℕ) → Contains result.now r ↔ IsReader (rules_of spec.now) op o r }
-{
-    let rows = item(plans.readers.as_slice(), op.number as usize);
-    item(rows.as_slice(), vertex_of(spec, op, o)).as_slice()
 }
 
 /// The visit of an attribute of a phylum, counted from 1.

@@ -1,7 +1,7 @@
 -- Equations that the exchange cannot reach but by what a node at its place or above it gives: those outside the node, and
 -- those that come before one of its visits.
-use Rattle.std.specs.Prelude.{◌≡◌, ◌⊎◌, ℕ, zero, suc, ◌<◌, ◌≤◌, List, [], ◌∷◌, ◌++◌, length, map, Option, None, Some, All, Bool, true, false, not, cond, slice_index, option_map, unwrap_or, Contains}
-use Rattle.std.proofs.Common.{refl, sym, ap, ◌∙◌, subst, get_or, arith, inl, inr, append_assoc}
+use Rattle.std.specs.Prelude.{◌≡◌, ◌⊎◌, ℕ, zero, suc, ◌<◌, ◌≤◌, List, [], ◌∷◌, ◌++◌, Option, None, Some, All, Bool, true, false, not, cond, slice_index, option_map, unwrap_or, Contains}
+use Rattle.std.proofs.Common.{refl, sym, ap, ◌∙◌, subst, arith, inl, inr, append_assoc}
 use Rattle.std.proofs.lemmas.Bool.{cases_lt}
 use Rattle.std.proofs.lemmas.List.{append-nil}
 use Rattle.std.proofs.lemmas.List.Elements.{All-contains}
@@ -22,7 +22,6 @@ use Rattle.sg_dependencies.specs.Vertices.{AreInRange, IsVertex}
 use Rattle.sg_dependencies.proofs.Numbers.{some_attr}
 use Rattle.sg_orders.specs.LiveSites.{IsLive}
 use Rattle.sg_orders.specs.Timed.{AreTimed}
-use Rattle.sg_orders.proofs.Fixpoint.{site_induction}
 use Rattle.sg_orders.proofs.PlanFacts.{belongs_itself, seat_rises}
 use Rattle.sg_orders.proofs.KeysFall.{site_found}
 use Rattle.sg_orders.proofs.ValidFacts.{from_scratch_values, valid_timed}
@@ -30,7 +29,7 @@ use Rattle.sg_groves.specs.Evaluated.{HasChanged}
 use Rattle.sg_groves.proofs.Below.{below_or_not}
 use Rattle.sg_plans.specs.Planned.{IsPlanned}
 use Rattle.sg_plans.specs.Segments.{IsGivenBy, IsLeafSlot, IsNodeAt, IsOutside, IsTaken, bearer, position_at, position_of, visit_at}
-use Rattle.sg_plans.proofs.Bearers.{bearer_found, found_bears, found_live, inherited_at, live_node, live_op, owed_site, ranges}
+use Rattle.sg_plans.proofs.Bearers.{found_bears, found_live, inherited_at, live_node, live_op, owed_site, ranges}
 use Rattle.sg_plans.proofs.Closed as named
 use Rattle.sg_plans.proofs.Closed.{IsBefore, IsNamed, closed, taken_before}
 use Rattle.sg_plans.proofs.Outside.{label_outside}
@@ -41,21 +40,13 @@ use Rattle.sg_dependencies.specs.Proper.{is_owed}
 use Rattle.sg_dependencies.proofs.Sound.{attr_vertex}
 use Rattle.sg_plans.proofs.Nodes.{below_at, node_at, node_on_way, not_held}
 use Rattle.sg_plans.proofs.Visiting.{visit_some}
-use Rattle.sg_plans.proofs.Ways.{one_way, position_joins, positions_rise, visit_high, visit_low, visits_rise}
+use Rattle.sg_plans.proofs.Ways.{one_way, position_joins, visit_high, visit_low, visits_rise}
 use Rattle.sg_attrib.proofs.Stepped.{taken_not_given}
-use Rattle.sg_work.proofs.Changing as changing
-use Rattle.sg_work.proofs.Clean.{leaf_same}
+use Rattle.sg_work.proofs.Changing.{leaf_same}
+use Rattle.sg_work.proofs.Clean as untouched
+use Rattle.sg_work.proofs.Clean.{IsClosed}
 use Rattle.sg_propagate.proofs.Given.{given_below}
 use Rattle.sg_propagate.specs.Scenes.{Scene, term_now, value_now, value_was}
-
--- an element of a list's image
-mapped : {X Y : Type 0} (f : X → Y) (xs : List X) (y : Y) → Contains (map f xs) y → (x : X) × Contains xs x × (f x ≡ y)
-mapped f [] y has = absurd (let l = has.1 in omega (arith, l))
-mapped {X} {Y} f (x ∷ xs) y has = by has.0 has.1 has.2 (mapped f xs y)
-  where
-    by : (i : ℕ) → i < length (map f (x ∷ xs)) → get_or (map f (x ∷ xs)) i y ≡ y → (Contains (map f xs) y → (z : X) × Contains xs z × (f z ≡ y)) → (z : X) × Contains (x ∷ xs) z × (f z ≡ y)
-    by zero low at rest = (x, (0, omega arith, refl), at)
-    by (suc i) low at rest = let r = rest (i, (omega (arith, low)), at) in let c = r.1 in let l = c.1 in (r.0, (suc c.0, omega (arith, l), c.2), r.2)
 
 -- what an equation outside a node names at the node or below it is the node's own
 crossing : (u n r : Place) → IsOutside u n → (r ≡ n) ⊎ ((k : ℕ) × (r ≡ k ∷ n)) → (x : List ℕ) → r ≡ x ++ u → r ≡ u
@@ -104,37 +95,12 @@ module _ (plans : Plans) (sc : Scene) (was_planned : IsPlanned sc.spec plans sc.
   abbrev Changed : Site Place → Type 0
   Changed i = HasChanged sc.spec sc.was sc.place sc.part i
 
-  -- equations outside the new subterm whose arguments have the values of before, or are defined by such equations
-  abbrev IsClosed : (Site Place → Type 0) → Type 0
-  IsClosed P = (i : Site Place) → IsLive (rules_of sc.spec) (term_now sc) i → P i → (o : Occurrence) → Contains i.rule.args o
-      → IsSame (referred (net_of (term_now sc)) i.node o) ⊎ ((j : Site Place) × (site_of (rules_of sc.spec) (net_of (term_now sc)) (referred (net_of (term_now sc)) i.node o) ≡ Some j) × P j)
-
-  module _ (P : Site Place → Type 0) (far : (i : Site Place) → P i → IsOutside sc.place i.node) (is_closed : IsClosed P) where
-    pub IsClean : Site Place → Type 0
-    IsClean i = P i → Changed i → ⊥
-
-    same_by : (i : Site Place) → IsLive rules t i → P i → (Changed i → ⊥) → IsSame (bearer t i)
-    same_by i live is clean = changing.cut sc.spec plans sc.was sc.part sc.place was_planned planned i (record { live = live; outside = far i is }) (λ d. clean (record { arg = d.ref; named = d.named; changed = d.changed }))
-
-    clean_step : (i : Site Place) → IsLive (rules_of sc.spec) (term_now sc) i
-        → ((o : Occurrence) → Contains i.rule.args o → (j : Site Place) → site_of (rules_of sc.spec) (net_of (term_now sc)) (referred (net_of (term_now sc)) i.node o) ≡ Some j → IsClean j) → IsClean i
-    unfolding IsClean
-    clean_step i live rest is has =
-        let o = mapped (referred net i.node) i.rule.args has.arg has.named in
-        elim (is_closed i live is o.0 o.1) [
-          | inl same ↦ has.changed (subst IsSame o.2 same)
-          | inr next ↦
-              let there = found_live rules t (referred net i.node o.0) next.0 next.1 in
-              let bears = found_bears rules t (referred net i.node o.0) next.0 next.1 in
-              has.changed (subst IsSame (bears ∙ o.2) (same_by next.0 there next.2 (rest o.0 o.1 next.0 next.1 next.2)))
-        ]
-
+  module _ (P : Site Place → Type 0) (far : (i : Site Place) → P i → IsOutside sc.place i.node) (is_closed : IsClosed sc.spec sc.was sc.part sc.place P) where
     pub clean : (i : Site Place) → IsLive rules t i → P i → Changed i → ⊥
-    unfolding IsClean
-    clean i live = site_induction sc.spec in_range plans timed t planned.root planned.fits IsClean clean_step (bearer t i) i (bearer_found sc.spec t planned.root planned.sound planned.fits i live)
+    clean i live is has = has.changed (untouched.clean sc.spec plans sc.was sc.part sc.place was_planned planned P far is_closed i live is has.arg has.named)
 
     pub same : (i : Site Place) → IsLive rules t i → P i → IsSame (bearer t i)
-    same i live is = same_by i live is (clean i live is)
+    same = untouched.same sc.spec plans sc.was sc.part sc.place was_planned planned P far is_closed
 
   -- what has no equation outside the new subterm is a leaf's or is not there, before and now
   site_same : (a : Reference Place) → IsOutside sc.place a.node → site_of rules (net_of t) a ≡ site_of rules (net_of sc.was) a
@@ -159,24 +125,6 @@ module _ (plans : Plans) (sc : Scene) (was_planned : IsPlanned sc.spec plans sc.
       ∙ ap (λ l. leaf_or l (Fault Fuel)) (label_outside sc.was sc.place sc.part a.node out)
       ∙ sym (ap (λ o. leaf_or (label_of (sub sc.was a.node)) (site_value sc.spec (net_of sc.was) (value_in sc.spec sc.was) o)) (sym (site_same a out) ∙ none))
       ∙ sym (from_scratch_values sc.spec plans sc.was was_planned.root in_range was_planned.valid was_planned.fits a)
-
-  -- what stands before a position of a node is before a position above, as sg_plans has it
-  raised : (w : List ℕ) (u : Place) (q : ℕ) (a : Reference Place) → IsNodeAt t (w ++ u) → IsBefore rules plans t (w ++ u) q a → IsBefore rules plans t u (suc (position_at rules plans t w u q)) a
-  raised w u q a is b =
-      let p = position_of rules plans b.site in
-      let l = b.less in
-      let at = position_joins rules plans t b.way w u p in
-      let rise = positions_rise sc.spec in_range plans planned.valid t planned.root planned.fits w u (position_at rules plans t b.way (w ++ u) p) q is (omega (arith, l)) in
-      record { site = b.site; found = b.found; live = b.live; way = b.way ++ w; below = b.below ∙ sym (append_assoc b.way w u); less = omega (arith, at, rise) }
-
-  named_on_way : (w : List ℕ) (u : Place) (q : ℕ) (a : Reference Place) → IsNodeAt t (w ++ u) → IsNamed rules plans t (w ++ u) (belongs rules plans (operator_in t (w ++ u)) q) q a
-      → IsNamed rules plans t u (visit_at rules plans t w u q) (suc (position_at rules plans t w u q)) a
-  named_on_way w u q a is (named.leaf l) = named.leaf l
-  named_on_way w u q a is (named.before b) = named.before (raised w u q a is b)
-  named_on_way [] u q a is (named.taken x) = named.taken x
-  named_on_way (k ∷ w) u q a is (named.taken x) =
-      let b = below_at sc.spec t planned.root planned.fits k (w ++ u) is in
-      named.before (raised w u (seat rules plans (operator_in t (w ++ u)) k (belongs rules plans (operator_in t (k ∷ w ++ u)) q)) a b.above (taken_before sc.spec plans t planned k (w ++ u) (belongs rules plans (operator_in t (k ∷ w ++ u)) q) a is x))
 
   -- an equation at a node or below it, not below a child, that stands before a visit of the child
   pub record IsBeside (kid : ℕ) (q : Place) (j : ℕ) (i : Site Place) : Type 0 where
@@ -337,7 +285,7 @@ module _ (plans : Plans) (sc : Scene) (was_planned : IsPlanned sc.spec plans sc.
         let here : IsNodeAt t (beside.way ++ q) = subst (IsNodeAt t) beside.below (live_node sc.spec t planned.root planned.sound planned.fits i live) in
         let there = subst (λ n. IsNamed rules plans t n (belongs rules plans (operator_in t n) p) p a) beside.below (named.named sc.spec plans t planned i live o names) in
         let less = beside.less in
-        elim (named_on_way beside.way q p a here there) [
+        elim (named.named_on_way sc.spec plans t planned beside.way q p a here there) [
           | named.leaf l ↦ inl l
           | named.taken x ↦
               let rise = visits_rise sc.spec in_range plans planned.valid t planned.root planned.fits q (position_at rules plans t beside.way q p) (seat rules plans (operator_in t q) kid j) up (omega (arith, less)) in
@@ -362,19 +310,16 @@ module _ (plans : Plans) (sc : Scene) (was_planned : IsPlanned sc.spec plans sc.
       crossed i o out x at = crossing u i.node (referred net i.node o).node out (named_at t i.node o) x at
 
       leaf_stays : (i : Site Place) (o : Occurrence) → IsOutside u i.node → IsLeafSlot t (referred net i.node o) → IsSame (referred net i.node o)
-      leaf_stays i o out leaf = leaf_same sc.spec plans sc.was sc.part sc.place was_planned planned (referred net i.node o) (record {
-        leaf = leaf;
-        outside = λ w at. (
-            let same = crossed i o out (w ++ z) (at ∙ ap (λ v. w ++ v) over ∙ sym (append_assoc w z u)) in
-            not_held (operator_in t u) leaf.phylum leaf.value (sym leaf.label ∙ ap (λ n. label_of (sub t n)) same ∙ is));
-      })
+      leaf_stays i o out leaf = leaf_same sc.spec plans sc.was sc.part sc.place was_planned planned (referred net i.node o) leaf (λ w at. (
+          let same = crossed i o out (w ++ z) (at ∙ ap (λ v. w ++ v) over ∙ sym (append_assoc w z u)) in
+          not_held (operator_in t u) leaf.phylum leaf.value (sym leaf.label ∙ ap (λ n. label_of (sub t n)) same ∙ is)))
 
       given_crossed : (i : Site Place) → IsLive rules t i → (o : Occurrence) → Contains i.rule.args o → (h : ℕ) → IsOutside u i.node → IsGivenBy rules plans t u h (referred net i.node o) → IsAttrAt (rules_of sc.spec) (term_now sc) u (referred net i.node o)
       given_crossed i live o names h out given = let b = given_below rules plans t u h (referred net i.node o) given in attr_named u is i live out o names (crossed i o out b.0 b.1)
 
       -- where the earlier visits give the values of before, so does what comes before a visit
       module _ (j : ℕ) (low : 1 ≤ j) (quiet : (a : Reference Place) (h : ℕ) → h < j → IsAttrAt (rules_of sc.spec) (term_now sc) u a → IsGivenBy rules plans t u h a → IsSame a) where
-        early_closed : IsClosed (IsEarly u j)
+        early_closed : IsClosed sc.spec sc.was sc.part sc.place (IsEarly u j)
         early_closed i live early o names =
             let out = early_outside u j i early in
             elim (named_early u j is low i live early o names) [
@@ -394,7 +339,7 @@ module _ (plans : Plans) (sc : Scene) (was_planned : IsPlanned sc.spec plans sc.
         abbrev IsFar : Site Place → Type 0
         IsFar i = IsOutside u i.node
 
-        outer_closed : IsClosed IsFar
+        outer_closed : IsClosed sc.spec sc.was sc.part sc.place IsFar
         outer_closed i live out o names =
             let a = referred net i.node o in
             let of = visit_some rules plans t [] i.node i live (sym (append-nil i.node)) in

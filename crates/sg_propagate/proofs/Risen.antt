@@ -244,19 +244,20 @@ module _ (plans : Plans) (sc : Scene) (top left : NodeId) (old mid : Grove) (is_
     quiet = quiet_too none;
   }
 
-  -- the end, where no visit gives anything new
+  -- where no visit gives anything new, what they give at the node has the value of before
+  quiet_all : IsRoot (nodes mid) n ⊎ IsQuiet plans mid n k between → ((h : ℕ) → HasVisit rules plans t u h → h ≤ k) → (kid : ℕ) (q : Place) → u ≡ kid ∷ q → (a : Reference Place) (h : ℕ) → IsAttrAt rules t u a → IsGivenBy rules plans t u h a → Same a
+  quiet_all none last kid q e a h at given = let low = last h (visiting.visit_there sc.spec plans t plan u h given.site given.of_visit) in quiet_too none kid q e a h (omega (arith, low)) at given
+
+  -- and that is the end
   pub last_moves : {A E : Type 0} → IsRoot (nodes mid) n ⊎ IsQuiet plans mid n k between → ((h : ℕ) → HasVisit rules plans t u h → h ≤ k) → (x : A) → Moves {A = A} {E = E} sc (HasEquation rules t []) old mid begin between was among (Ok x)
   last_moves none last x =
       moves_ok sc (HasEquation rules t []) old mid begin between was among tt x
       (moves_wider plans sc One (HasEquation rules t []) old mid begin between was among (Ok tt) reached.on.staged (λ a one. (one.given.site, one.given.found)) back reached.moves)
     where
-      quiet_all : (kid : ℕ) (q : Place) → u ≡ kid ∷ q → (a : Reference Place) (h : ℕ) → IsAttrAt (rules_of sc.spec) (term_now sc) u a → IsGivenBy (rules_of sc.spec) plans (term_now sc) u h a → Same a
-      quiet_all kid q e a h at given = (let low = last h (visiting.visit_there sc.spec plans t plan u h given.site given.of_visit) in quiet_too none kid q e a h (omega (arith, low)) at given)
-
       calm_by : (v : Place) → u ≡ v → (a : Reference Place) (i : Site Place) → site_of (rules_of sc.spec) (net_of (term_now sc)) a ≡ Some i → IsOutside u i.node → IsCalm sc a
       calm_by [] e a i found out = absurd (out i.node (sym (append-nil i.node) ∙ ap (λ w. i.node ++ w) (sym e)))
       calm_by (kid ∷ q) e a i found out =
-          calm_of a i found (far_of i.node out) (early.outer_clean plans sc staged.was_planned plan free u reached.way reached.over reached.node (quiet_all kid q e) i (found_live rules t a i found) out)
+          calm_of a i found (far_of i.node out) (early.outer_clean plans sc staged.was_planned plan free u reached.way reached.over reached.node (quiet_all none last kid q e) i (found_live rules t a i found) out)
 
       back : (a : Reference Place) → HasEquation (rules_of sc.spec) (term_now sc) [] a → One a ⊎ IsCalm sc a
       back a is = elim (below_or_not is.0.node u) [
@@ -278,15 +279,12 @@ module _ (plans : Plans) (sc : Scene) (top left : NodeId) (old mid : Grove) (is_
     own = own_by u refl;
   }
     where
-      quiet_all : (kid : ℕ) (q : Place) → u ≡ kid ∷ q → (a : Reference Place) (h : ℕ) → IsAttrAt (rules_of sc.spec) (term_now sc) u a → IsGivenBy (rules_of sc.spec) plans (term_now sc) u h a → Same a
-      quiet_all kid q e a h at given = (let low = last h (visiting.visit_there sc.spec plans t plan u h given.site given.of_visit) in quiet_too none kid q e a h (omega (arith, low)) at given)
-
       outside_by : (v : Place) → u ≡ v → (a : Reference Place) → IsOutside u a.node → Same a
       outside_by [] e a out = absurd (out a.node (sym (append-nil a.node) ∙ ap (λ w. a.node ++ w) (sym e)))
-      outside_by (kid ∷ q) e a out = early.ref_same plans sc staged.was_planned plan free u reached.way reached.over reached.node (quiet_all kid q e) a out
+      outside_by (kid ∷ q) e a out = early.ref_same plans sc staged.was_planned plan free u reached.way reached.over reached.node (quiet_all none last kid q e) a out
 
       own_by : (v : Place) → u ≡ v → (X slot : ℕ) → u ≢ [] → phylum_at sc.spec.ops (label_of (sub (term_now sc) u)) ≡ Some X → IsAttr (rules_of sc.spec) X slot → Same (record { node = u; slot = slot })
       own_by [] e X slot some left attr = absurd (some e)
       own_by (kid ∷ q) e X slot some left attr =
-          early.own_same plans sc staged.was_planned plan free u reached.way reached.over reached.node (quiet_all kid q e) (record { node = u; slot = slot })
+          early.own_same plans sc staged.was_planned plan free u reached.way reached.over reached.node (quiet_all none last kid q e) (record { node = u; slot = slot })
           (record { node = refl; phylum = X; left = ap (phylum_at sc.spec.ops) (sym reached.node) ∙ left; attr = attr })

@@ -2,11 +2,10 @@
 use Rattle.std.specs.Prelude.{◌≡◌, ◌≢◌, ℕ, List, [], ◌∷◌, ◌++◌, Contains, Result, Ok, Err, OnOk}
 use Rattle.std.proofs.Common.{refl, sym, ap, ◌∙◌, subst, inl, inr, arith, append_assoc}
 use Rattle.std.proofs.lemmas.Option.{same_Some}
-use Rattle.sg_kinds.specs.Values.{Value}
 use Rattle.sg_kinds.specs.Terms.{Term}
 use Rattle.sg_kinds.specs.Places.{Place}
-use Rattle.sg_kinds.specs.Nets.{Reference, net_of}
-use Rattle.sg_kinds.specs.Instances.{Site, args_at}
+use Rattle.sg_kinds.specs.Nets.{Reference}
+use Rattle.sg_kinds.specs.Instances.{Site}
 use Rattle.sg_kinds.specs.Specification.{rules_of}
 use Rattle.sg_kinds.specs.declared.plans.Plans.{Plans}
 use Rattle.sg_kinds.specs.declared.plans.PlanStep.TheVariants.{Visit}
@@ -24,7 +23,6 @@ use Rattle.sg_trail.specs.Trails.{IsAnySlot, Way}
 use Rattle.sg_attrib.specs.Visited as visited
 use Rattle.sg_attrib.specs.Visited.{IsGiven, IsKnown, IsNeeded, IsSlotOf, IsStepGiven, IsVisited, Gives}
 use Rattle.sg_attrib.proofs.Stepped.{taken_not_given}
-use Rattle.sg_work.specs.Settled.{IsDirty}
 use Rattle.sg_work.specs.Worklist.{Worklist}
 use Rattle.sg_work.proofs.Changing.{one_above, same_or_not}
 use Rattle.sg_work.proofs.Clean.{visit_clean}
@@ -92,9 +90,6 @@ module _ (plans : Plans) (sc : Scene) (g : Grove) (is : IsGrove g) (w : Worklist
             (record { site = b.site; found = b.found; of_visit = record { live = b.live; way = []; below = e ∙ is_taken.node; visit = refl } }))))
       ]
 
-      dirty_as : {i j : Site Place} → i ≡ j → HasChanged sc.spec sc.was sc.place sc.part i → IsDirty (Reference Place) Value (value_now sc) (value_was sc) (args_at (net_of t) j)
-      dirty_as {i} {j} same has = let there = subst (HasChanged sc.spec sc.was sc.place sc.part) same has in record { ref = there.arg; named = there.named; changed = there.changed }
-
       pub idle_calm : (a : Reference Place) → IsStepGiven rules plans (Visit kid k) t v a → IsCalm sc a
       idle_calm a given = record {
         site = given.site;
@@ -109,9 +104,8 @@ module _ (plans : Plans) (sc : Scene) (g : Grove) (is : IsGrove g) (w : Worklist
                     | inr low ↦ not_over low.0 low.1
                   ]
               | inr both ↦
-                  let has = both.1 in
-                  visit_clean sc.spec plans sc.was sc.part sc.place on.staged.was_planned on.staged.planned (kid ∷ v) kid_outside not_over k taken_same k given.site (omega arith) of
-                  (dirty_as same has)
+                  let has = subst (HasChanged sc.spec sc.was sc.place sc.part) same both.1 in
+                  has.changed (visit_clean sc.spec plans sc.was sc.part sc.place on.staged.was_planned on.staged.planned (kid ∷ v) kid_outside not_over k taken_same k given.site (omega arith) of has.arg has.named)
             ];
       }
 

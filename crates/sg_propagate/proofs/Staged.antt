@@ -17,7 +17,7 @@ use Rattle.sg_plans.specs.Segments.{IsOutside}
 use Rattle.sg_plans.proofs.Bearers.{found_bears, found_live}
 use Rattle.sg_attrib.proofs.Placed.{placed_still}
 use Rattle.sg_work.specs.Worklist.{Worklist}
-use Rattle.sg_work.proofs.Changing as changing
+use Rattle.sg_work.proofs.Changing.{cut, same_or_not}
 use Rattle.sg_propagate.specs.Scenes.{Scene, term_now, value_now, value_was, IsMeant, IsCalm, AreNoted, IsStaged, IsFine}
 use Rattle.sg_propagate.specs.Moves.{IsRefSlot, IsMore, IsOnStage}
 
@@ -29,9 +29,10 @@ module _ (sc : Scene) (a : Reference Place) (c : IsCalm sc a) where
   pub calm_same : (plans : Plans) → IsPlanned sc.spec plans sc.was → IsPlanned sc.spec plans (term_now sc) → value_now sc a ≡ value_was sc a
   calm_same plans was_planned planned =
       subst (λ b. value_now sc b ≡ value_was sc b) (found_bears (rules_of sc.spec) (term_now sc) a c.site c.found)
-      (changing.cut sc.spec plans sc.was sc.part sc.place was_planned planned c.site
-      (record { live = found_live (rules_of sc.spec) (term_now sc) a c.site c.found; outside = calm_outside })
-      (λ d. c.still (record { site = c.site; found = c.found; why = inr (λ b. calm_outside b.below b.is, record { arg = d.ref; named = d.named; changed = d.changed }) })))
+      (cut sc.spec plans sc.was sc.part sc.place was_planned planned c.site (found_live (rules_of sc.spec) (term_now sc) a c.site c.found) calm_outside (λ b has. elim (same_or_not (value_now sc b) (value_was sc b)) [
+        | inl same ↦ same
+        | inr other ↦ absurd (c.still (record { site = c.site; found = c.found; why = inr (λ below. calm_outside below.below below.is, record { arg = b; named = has; changed = other }) }))
+      ]))
 
 -- and so it is fine
 pub calm_fine : (plans : Plans) (sc : Scene) (g : Grove) (w : Worklist) → IsStaged plans sc g w → (a : Reference Place) (m : NodeId) → IsCalm sc a → Climbs (nodes g) a.node m sc.root → IsFine sc g w a m

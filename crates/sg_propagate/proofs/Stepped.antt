@@ -38,7 +38,7 @@ use Rattle.sg_attrib.proofs.Nodes.{not_held, op_in, label_op, has_visit}
 use Rattle.sg_attrib.proofs.Evaluated.{argument_vertex}
 use Rattle.sg_attrib.proofs.Leaves.{leaf_right}
 use Rattle.sg_work.specs.Worklist.{Worklist}
-use Rattle.sg_work.proofs.Clean.{leaf_same}
+use Rattle.sg_work.proofs.Changing.{leaf_same}
 use Rattle.sg_propagate.specs.Scenes.{Scene, term_now, IsCalm, IsStaged, IsFine, AreFine, AreStale}
 use Rattle.sg_propagate.specs.Moves.{AreMeant, IsGivenFrom, IsKnownFrom, IsRefSlot, IsOnStage, Moves, Refs, Repairs}
 use Rattle.sg_propagate.proofs.Staged.{calm_fine, fine_kept, value_kept, staged_still, on_stage_still}
@@ -71,8 +71,8 @@ module _ (plans : Plans) (sc : Scene) (g : Grove) (is : IsGrove g) (w : Worklist
       let here : IsVertex (rules_of g.spec) op o = subst (λ (s : Spec). IsVertex (rules_of s) op o) (sym spec_is) vertex in
       record {
         right = leaf_right g is plans n sc.root (term_now sc) v op o plan placed_here at here m climbs lf ∙ ap (λ (s : Spec). value_in s (term_now sc) (referred (net_of (term_now sc)) v o)) spec_is;
-        noted = λ far other. absurd (other (leaf_same sc.spec plans sc.was sc.part sc.place on.staged.was_planned on.staged.planned (referred (net_of (term_now sc)) v o) (record { leaf = lf; outside = far })));
-        awake = λ far other. absurd (other (leaf_same sc.spec plans sc.was sc.part sc.place on.staged.was_planned on.staged.planned (referred (net_of (term_now sc)) v o) (record { leaf = lf; outside = far })));
+        noted = λ far other. absurd (other (leaf_same sc.spec plans sc.was sc.part sc.place on.staged.was_planned on.staged.planned (referred (net_of (term_now sc)) v o) lf far));
+        awake = λ far other. absurd (other (leaf_same sc.spec plans sc.was sc.part sc.place on.staged.was_planned on.staged.planned (referred (net_of (term_now sc)) v o) lf far));
       }
 
 -- one step more

@@ -16,7 +16,7 @@ use sg_kinds::row::item;
 use sg_kinds::spec::Spec;
 use sg_terms::Terms;
 
-// whether an attribute of a phylum is inherited
+/// Whether an attribute of a phylum is inherited.
 pub fn is_handed(spec: &Spec, phylum: PhylumId, slot: usize) -> bool
     ensures { result ≡ is_inherited spec.now.phyla phylum slot }
 {
@@ -29,7 +29,7 @@ pub fn is_handed(spec: &Spec, phylum: PhylumId, slot: usize) -> bool
     attr.way == Way::Inherited
 }
 
-// the inherited values of the old top, in the slots of the new one
+/// Puts the inherited values of the old top into the slots of the new one.
 pub fn take_over(terms: &mut Terms, top: NodeId, left: NodeId)
     requires tops { AreTops terms.old top left }
     ensures stored { OnlyStored terms.old terms.new (IsSlotAt top) }
@@ -49,7 +49,7 @@ pub fn take_over(terms: &mut Terms, top: NodeId, left: NodeId)
     }
 }
 
-// how many attributes a phylum has
+/// How many attributes a phylum has.
 pub fn attr_count(spec: &Spec, phylum: PhylumId) -> usize
     requires phylum { phylum < length spec.now.phyla }
     requires range { AreInRange (rules_of spec.now) }

@@ -7,3 +7,4 @@ pub mod Sheeted
 pub mod Looking
 pub mod Typing
 pub mod Foretold
+pub mod Undoing

@@ -107,6 +107,11 @@ redone_by (c ∷ cs) st = record st {
 abbrev pub redone : State → State
 redone st = redone_by st.future st
 
+-- a state as it was before a change that led to another one and was taken back: the newest 255 changes before it are
+-- kept, it comes next, and nothing is being typed
+abbrev pub taken_back : State → State → State
+taken_back next st = record st { past = take 255 st.past; future = take 1 next.past; capture = None }
+
 -- a selection with another count: one more element of the list, or one less
 abbrev pub recounted : ℕ → State → State
 recounted n st =

@@ -1,4 +1,3 @@
-pub mod Settling
 pub mod Changing
 pub mod Members
 pub mod Clean

@@ -1,7 +1,7 @@
 -- The members of a set after a key was put in or taken out.
-use Rattle.std.specs.Prelude.{◌≡◌, ◌≢◌, ◌↔◌, ◌⊎◌, ℕ, zero, suc, ◌<◌, Bool, true, false, cond, ◌&&◌, ◌||◌, List, [], ◌∷◌, length, Contains, nat_eq}
+use Rattle.std.specs.Prelude.{◌≡◌, ◌↔◌, ◌⊎◌, ℕ, zero, suc, ◌<◌, Bool, true, false, cond, ◌&&◌, ◌||◌, List, [], ◌∷◌, length, Contains, nat_eq}
 use Rattle.std.proofs.Common.{refl, sym, ap, ◌∙◌, subst, get_or, arith, inl, inr}
-use Rattle.std.proofs.lemmas.Bool.{false≢true, and_parts, and_from}
+use Rattle.std.proofs.lemmas.Bool.{and_parts, and_from}
 use Rattle.std.specs.List.{list_any}
 use Rattle.std.proofs.lemmas.Map.Views.{Contains-from_any}
 use Rattle.sg_kinds.proofs.Elementary.{eq_is, eq_itself}
@@ -34,23 +34,9 @@ module _ {K : Type 0} (eq : K → K → Bool) (itself : (x : K) → eq x x ≡ t
         stays true at = refl
         stays false at = at
 
-    pub removed : ((q : K) → list_any (eq q) new ≡ cond (eq k q) false (list_any (eq q) old)) → (x : K) → Contains new x ↔ (Contains old x × (x ≢ k))
-    removed out x = (λ has. there_and (eq k x) refl (sym (out x) ∙ there new x has), λ has. found new x (out x ∙ stays (eq k x) refl (there old x has.0) has.1))
-      where
-        there_and : (b : Bool) → eq k x ≡ b → cond b false (list_any (eq x) old) ≡ true → Contains old x × (x ≢ k)
-        there_and true is at = absurd (false≢true at)
-        there_and false is at = (found old x at, λ same. false≢true (sym is ∙ ap (eq k) same ∙ itself k))
-
-        stays : (b : Bool) → eq k x ≡ b → list_any (eq x) old ≡ true → (x ≢ k) → cond b false (list_any (eq x) old) ≡ true
-        stays true is at other = absurd (other (sym (same k x is)))
-        stays false is at other = at
-
   module _ (before old new : List K) (is : before ≡ old) (k : K) where
     pub put_in : ((q : K) → list_any (eq q) new ≡ cond (eq k q) true (list_any (eq q) before)) → (x : K) → Contains new x ↔ (Contains old x ⊎ (x ≡ k))
     put_in put x = subst (λ ks. Contains new x ↔ (Contains ks x ⊎ (x ≡ k))) is (inserted before new k put x)
-
-    pub taken_out : ((q : K) → list_any (eq q) new ≡ cond (eq k q) false (list_any (eq q) before)) → (x : K) → Contains new x ↔ (Contains old x × (x ≢ k))
-    taken_out out x = subst (λ ks. Contains new x ↔ (Contains ks x × (x ≢ k))) is (removed before new k out x)
 
     pub is_in : (b : Bool) → b ≡ list_any (eq k) before → (b ≡ true) ↔ Contains old k
     is_in b at = subst (λ ks. (b ≡ true) ↔ Contains ks k) is (λ yes. found before k (sym at ∙ yes), λ has. at ∙ there before k has)

@@ -1,3 +1,1 @@
-pub mod Settled
-pub mod Change
 pub mod Worklist

@@ -45,15 +45,7 @@ impl Work {
         Ok(())
     }
 
-    /// Whether no slot is noted.
-    pub fn is_quiet(&self) -> bool
-        ensures { IsTrue result ↔ (self.now.changed ≡ []) }
-    {
-        self.changed.is_empty()
-    }
-
-    /// Whether a slot of a node has another value. Where nothing is noted yet, as on the way down to the new subterm,
-    /// no look-up is made.
+    /// Whether a slot of a node has another value. Where nothing is noted yet no look-up is made.
     pub fn is_noted(&self, node: NodeId, slot: u32) -> bool
         ensures { IsTrue result ↔ Contains self.now.changed (node.key, slot) }
     {
