@@ -180,9 +180,9 @@ gained_forth : (g new : Grove) (root : NodeId) (t : Term) (s : Step) (was now : 
 gained_forth g new root t (Replaced path hangs before after) was now notes = notes
 gained_forth g new root t (Marked path old made before after) was now notes = notes
 
-noted_forth : (g : Grove) (t : Term) (s : Step) (was now : List Instance) → NotesSome g t (step_place s) (redoing s) was now → NotedForth g.spec t was now (future_change (term_at g) t s)
-noted_forth g t (Replaced path hangs before after) was now notes = notes
-noted_forth g t (Marked path old made before after) was now notes = notes
+noted_forth : (g : Grove) (root : NodeId) (t : Term) (s : Step) (was now : List Instance) → NotesSome g root t (step_place s) (redoing s) was now → NotedForth g root t was now (future_change (term_at g) t s)
+noted_forth g root t (Replaced path hangs before after) was now notes = (hangs, notes)
+noted_forth g root t (Marked path old made before after) was now notes = notes
 
 -- where the fields are seen as another value
 module _ (b v : Held) (view : b ≡ v) (count room : ℕ) (page : Option Sheet) (standing : Standing) (is : IsBuffer b count room page standing) where
@@ -219,9 +219,9 @@ module _ (b v : Held) (view : b ≡ v) (count room : ℕ) (page : Option Sheet) 
         (gained_forth b.grove new root (state_of b).term s was now (notes (state_of b).term (may_redo b count room page standing is s rest future_is))))
 
     pub noted_here : (was now : List Instance)
-        → ((t : Term) → MayStep b.grove b.root t (step_place s) (redoing s) (seen_after s) count → NotesSome b.grove t (step_place s) (redoing s) was now)
-        → OfFirst (state_of v).future (NotedForth v.grove.spec (state_of v).term was now)
+        → ((t : Term) → MayStep b.grove b.root t (step_place s) (redoing s) (seen_after s) count → NotesSome b.grove b.root t (step_place s) (redoing s) was now)
+        → OfFirst (state_of v).future (NotedForth v.grove v.root (state_of v).term was now)
     noted_here was now notes =
-        subst (λ (z : Held). OfFirst (state_of z).future (NotedForth z.grove.spec (state_of z).term was now)) view
-        (subst (λ cs. OfFirst cs (NotedForth b.grove.spec (state_of b).term was now)) (future_then b count room page standing is s rest future_is)
-        (noted_forth b.grove (state_of b).term s was now (notes (state_of b).term (may_redo b count room page standing is s rest future_is))))
+        subst (λ (z : Held). OfFirst (state_of z).future (NotedForth z.grove z.root (state_of z).term was now)) view
+        (subst (λ cs. OfFirst cs (NotedForth b.grove b.root (state_of b).term was now)) (future_then b count room page standing is s rest future_is)
+        (noted_forth b.grove b.root (state_of b).term s was now (notes (state_of b).term (may_redo b count room page standing is s rest future_is))))

@@ -211,9 +211,9 @@ gained_back : (g new : Grove) (root : NodeId) (t : Term) (s : Step) (was now : L
 gained_back g new root t (Replaced path hangs before after) was now notes = notes
 gained_back g new root t (Marked path old made before after) was now notes = notes
 
-noted_back : (g : Grove) (t : Term) (s : Step) (was now : List Instance) → NotesSome g t (step_place s) (undoing s) was now → NotedBack g.spec t was now (past_change (term_at g) t s)
-noted_back g t (Replaced path hangs before after) was now notes = notes
-noted_back g t (Marked path old made before after) was now notes = notes
+noted_back : (g : Grove) (root : NodeId) (t : Term) (s : Step) (was now : List Instance) → NotesSome g root t (step_place s) (undoing s) was now → NotedBack g root t was now (past_change (term_at g) t s)
+noted_back g root t (Replaced path hangs before after) was now notes = (hangs, notes)
+noted_back g root t (Marked path old made before after) was now notes = notes
 
 -- where the fields are seen as another value
 module _ (b v : Held) (view : b ≡ v) (count room : ℕ) (page : Option Sheet) (standing : Standing) (is : IsBuffer b count room page standing) where
@@ -250,9 +250,9 @@ module _ (b v : Held) (view : b ≡ v) (count room : ℕ) (page : Option Sheet) 
         (gained_back b.grove new root (state_of b).term s was now (notes (state_of b).term (may_undo b count room page standing is s rest past_is))))
 
     pub noted_here : (was now : List Instance)
-        → ((t : Term) → MayStep b.grove b.root t (step_place s) (undoing s) (seen_before s) count → NotesSome b.grove t (step_place s) (undoing s) was now)
-        → OfFirst (state_of v).past (NotedBack v.grove.spec (state_of v).term was now)
+        → ((t : Term) → MayStep b.grove b.root t (step_place s) (undoing s) (seen_before s) count → NotesSome b.grove b.root t (step_place s) (undoing s) was now)
+        → OfFirst (state_of v).past (NotedBack v.grove v.root (state_of v).term was now)
     noted_here was now notes =
-        subst (λ (z : Held). OfFirst (state_of z).past (NotedBack z.grove.spec (state_of z).term was now)) view
-        (subst (λ cs. OfFirst cs (NotedBack b.grove.spec (state_of b).term was now)) (past_then b count room page standing is s rest past_is)
-        (noted_back b.grove (state_of b).term s was now (notes (state_of b).term (may_undo b count room page standing is s rest past_is))))
+        subst (λ (z : Held). OfFirst (state_of z).past (NotedBack z.grove z.root (state_of z).term was now)) view
+        (subst (λ cs. OfFirst cs (NotedBack b.grove b.root (state_of b).term was now)) (past_then b count room page standing is s rest past_is)
+        (noted_back b.grove b.root (state_of b).term s was now (notes (state_of b).term (may_undo b count room page standing is s rest past_is))))

@@ -14,7 +14,7 @@ ghost use Rattle.sg_terms.specs.Entries.{GainedAll};
 ghost use Rattle.sg_build.specs.Counted.{AreCounts};
 ghost use Rattle.sg_states.specs.States as states;
 ghost use Rattle.sg_states.specs.States.{marked, replaced};
-ghost use Rattle.sg_turns.specs.Noted.{Noted};
+ghost use Rattle.sg_turns.specs.Noted.{NotedPut};
 ghost use Rattle.sg_buffer.specs.AsBefore.{IsAsBefore};
 ghost use Rattle.sg_buffer.specs.Gains.{GainedBack, GainedForth, NotedBack, NotedForth, OfFirst};
 ghost use Rattle.sg_buffer.specs.Held.{state_of};
@@ -114,10 +114,8 @@ impl Buffer {
         ensures refused { (c : Counts) → IsErrOf result (BufferFault.Size c)
             → (self.new ≡ self.old) × (now_of journal.new ≡ now_of journal.old) }
         ensures as_before { IsErrOf result BufferFault.NoMemory → IsAsBefore self.old self.new }
-        ensures noted { IsErrOf result BufferFault.NoMemory → Noted self.old.grove.spec
-            (put (state_of self.old).term (place_of at.now) t.now)
-            (IsEvaluated self.old.grove.spec (state_of self.old).term (place_of at.now) t.now)
-            (now_of journal.old) (now_of journal.new) }
+        ensures noted { IsErrOf result BufferFault.NoMemory → NotedPut self.old.grove self.old.root None
+            (state_of self.old).term (place_of at.now) t.now (now_of journal.old) (now_of journal.new) }
         ensures spec { self.new.grove.spec ≡ self.old.grove.spec }
         ensures height { self.new.height ≡ self.old.height }
         ensures total { total_of journal.new ≡ total_of journal.old }
@@ -156,10 +154,8 @@ impl Buffer {
             (IsEvaluated self.old.grove.spec (state_of self.old).term (place_of at.now) t.now)
             (now_of journal.old) (now_of journal.new)) }
         ensures as_before { OnErr result (IsAsBefore self.old self.new) }
-        ensures noted { OnErr result (Noted self.old.grove.spec
-            (put (state_of self.old).term (place_of at.now) t.now)
-            (IsEvaluated self.old.grove.spec (state_of self.old).term (place_of at.now) t.now)
-            (now_of journal.old) (now_of journal.new)) }
+        ensures noted { OnErr result (NotedPut self.old.grove self.old.root None
+            (state_of self.old).term (place_of at.now) t.now (now_of journal.old) (now_of journal.new)) }
         ensures spec { self.new.grove.spec ≡ self.old.grove.spec }
         ensures height { self.new.height ≡ self.old.height }
         ensures total { total_of journal.new ≡ total_of journal.old }
@@ -221,7 +217,7 @@ impl Buffer {
             (GainedBack self.old.grove.spec (state_of self.old).term (now_of journal.old) (now_of journal.new)
             self.new.grove self.new.root)) }
         ensures as_before { OnErr result (IsAsBefore self.old self.new) }
-        ensures noted { OnErr result (OfFirst (state_of self.old).past (NotedBack self.old.grove.spec
+        ensures noted { OnErr result (OfFirst (state_of self.old).past (NotedBack self.old.grove self.old.root
             (state_of self.old).term (now_of journal.old) (now_of journal.new))) }
         ensures some { OnErr result ((state_of self.old).past ≢ []) }
         ensures spec { self.new.grove.spec ≡ self.old.grove.spec }
@@ -278,7 +274,7 @@ impl Buffer {
             (GainedForth self.old.grove.spec (state_of self.old).term (now_of journal.old) (now_of journal.new)
             self.new.grove self.new.root)) }
         ensures as_before { OnErr result (IsAsBefore self.old self.new) }
-        ensures noted { OnErr result (OfFirst (state_of self.old).future (NotedForth self.old.grove.spec
+        ensures noted { OnErr result (OfFirst (state_of self.old).future (NotedForth self.old.grove self.old.root
             (state_of self.old).term (now_of journal.old) (now_of journal.new))) }
         ensures some { OnErr result ((state_of self.old).future ≢ []) }
         ensures spec { self.new.grove.spec ≡ self.old.grove.spec }

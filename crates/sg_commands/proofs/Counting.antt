@@ -12,6 +12,9 @@ use Rattle.sg_forest.specs.declared.node_id.NodeId.{NodeId}
 use Rattle.sg_groves.specs.Grove.{Grove}
 use Rattle.sg_terms.specs.Entries.{AreEntries, Gained, GainedAll}
 use Rattle.sg_turns.specs.Noted.{Noted}
+use Rattle.sg_states.specs.States.{State}
+use Rattle.sg_buffer.specs.Held.{Held}
+use Rattle.sg_commands.specs.Did.{NotedOf}
 
 module _ {X : Type 0} where
   contains_first : (x : X) (xs : List X) → Contains (x ∷ xs) x
@@ -99,6 +102,10 @@ module _ (g : Grove) (root : NodeId) (t : Term) where
         omega (arith, long, many, most, least)
 
 -- what is noted where memory was wanting
+pub noted_plain : (spec : Spec) (old : Held) (then : State) (set : List (Reference Place)) (was now : List Instance) → (now ≡ was) ⊎ NotedOf spec old then set was now → Noted spec then.term (Contains set) was now
+noted_plain spec old then set was now (inl same) = inl same
+noted_plain spec old then set was now (inr some) = inr some.entries.some
+
 pub noted_most : (spec : Spec) (t : Term) (set : List (Reference Place)) (was now : List Instance) → was ≡ [] → Noted spec t (Contains set) was now → length now ≤ length set
 noted_most spec t set was now none (inl same) = let long : length now ≡ length {A = Instance} [] = ap length (same ∙ none) in omega (arith, long)
 noted_most spec t set was now none (inr some) = gained_most some.grove some.root t set was now none some.gained

@@ -1,5 +1,5 @@
 -- A replacement in a buffer is the turn of its choice.
-use Rattle.std.specs.Prelude.{◌≡◌, refl, ℕ, Bool, true, false, cond, ◌&&◌, nat_le, List, [], Contains, Option, Some, None, Result, Ok, Err, OnErr}
+use Rattle.std.specs.Prelude.{◌≡◌, ◌⊎◌, refl, ℕ, Bool, true, false, cond, ◌&&◌, nat_le, List, [], Contains, Option, Some, None, Result, Ok, Err, OnErr}
 use Rattle.std.proofs.Common.{sym, ap, ◌∙◌, subst, inl, inr, arith}
 use Rattle.std.proofs.lemmas.Bool.{and_parts, false≢true}
 use Rattle.std.proofs.lemmas.List.{append-nil}
@@ -14,7 +14,8 @@ use Rattle.sg_groves.specs.Grove.{Grove}
 use Rattle.sg_groves.specs.Evaluated.{evaluated, IsEvaluated}
 use Rattle.sg_groves.proofs.EvaluatedOnce.{evaluated_from, evaluated_to}
 use Rattle.sg_terms.specs.Entries.{Gained, GainedAll}
-use Rattle.sg_turns.specs.Noted.{Noted}
+use Rattle.sg_turns.specs.Noted.{NotedPut, NotedSomeAt}
+use Rattle.sg_changes.specs.Changes.{Put as Putting, part_of}
 use Rattle.sg_changes.specs.declared.spot.Selection.{Selection}
 use Rattle.sg_states.specs.Selections.{alone, place_in}
 use Rattle.sg_states.specs.States.{State, replaced}
@@ -27,7 +28,7 @@ use Rattle.sg_buffer.specs.declared.fault.BufferFault.{BufferFault}
 use Rattle.sg_buffer.specs.declared.fault.BufferFault.TheVariants as fault
 use Rattle.sg_edits.specs.Choice.{Choice, Refused, Put, limited}
 use Rattle.sg_edits.specs.declared.clip.Clip.{Clip}
-use Rattle.sg_commands.specs.Did.{Did, GaveUp}
+use Rattle.sg_commands.specs.Did.{Did, GaveUp, NotedOf}
 use Rattle.std.specs.Option.{option_map_or}
 use Rattle.sg_kinds.specs.Completing.{completing}
 use Rattle.sg_edits.specs.Edits.{deleted, phylum_in}
@@ -101,9 +102,20 @@ module _ (spec : Spec) (sound : IsSound spec) (t : Term) (u : Place) (s : Term) 
     every = λ a has. all.every a (evaluated_from spec t u s a has);
   }
 
-  pub noted_listed : (w : Term) → Noted spec w (IsEvaluated spec t u s) was now → Noted spec w (Contains (evaluated spec t u s)) was now
-  noted_listed w (inl same) = inl same
-  noted_listed w (inr some) = inr (record { grove = some.grove; same = some.same; root = some.root; gained = gained_listed some.grove some.root w some.gained })
+  pub at_listed : (old : Grove) (top : NodeId) (from : Option NodeId) (w : Term)
+      → NotedSomeAt spec old top u from w (IsEvaluated spec t u s) was now
+      → NotedSomeAt spec old top u from w (Contains (evaluated spec t u s)) was now
+  at_listed old top from w p = record {
+    some = record {
+      grove = p.some.grove;
+      is = p.some.is;
+      same = p.some.same;
+      root = p.some.root;
+      holds = p.some.holds;
+      gained = gained_listed p.some.grove p.some.root w p.some.gained;
+    };
+    tree = p.tree;
+  }
 
 module _ (old new : Held) (clip : Option Clip) (was now : List Instance) where
   -- a message, in a state that it left
@@ -126,6 +138,9 @@ module _ (old new : Held) (clip : Option Clip) (was now : List Instance) where
     abbrev whole : Term
     whole = put (state_of old).term u s
 
+    abbrev then : State
+    then = replaced old.grove.spec old.height u s (alone (place_in select)) (state_of old)
+
     pub size_did : (IsSmall whole → ⊥) → new ≡ old → now ≡ was → Did (puts old.grove.spec old.height clip (state_of old) choice) message.Size new clip was now
     size_did large same none =
         subst (λ c. Did (replaces old.grove.spec old.height clip (state_of old) clip c) message.Size new clip was now)
@@ -145,15 +160,21 @@ module _ (old new : Held) (clip : Option Clip) (was now : List Instance) where
         })
 
     pub put_gave_up : IsSound old.grove.spec → ((IsSmall whole → ⊥) → ⊥) → state_of new ≡ state_of old
-        → Noted old.grove.spec whole (IsEvaluated old.grove.spec (state_of old).term u s) was now
+        → NotedPut old.grove old.root None (state_of old).term u s was now
         → GaveUp old.grove.spec (puts old.grove.spec old.height clip (state_of old) choice) old new clip clip was now
     put_gave_up sound not_large state noted =
         subst (λ c. GaveUp old.grove.spec (replaces old.grove.spec old.height clip (state_of old) clip c) old new clip clip was now)
         (sym (stays (state_of old).term u s (place_in select) not_large))
-        (record {
-          state = state;
-          copied = refl;
-          noted = noted_listed old.grove.spec sound (state_of old).term u s was now whole noted;
+        (record { state = state; copied = refl; noted = put_noted noted })
+      where
+        put_noted : NotedPut old.grove old.root None (state_of old).term u s was now
+            → (now ≡ was) ⊎ NotedOf old.grove.spec old then (evaluated old.grove.spec (state_of old).term u s) was now
+        put_noted (inl same) = inl same
+        put_noted (inr p) = inr (record {
+          place = u;
+          from = None;
+          puts = (Putting u (part_of (state_of old).term u) s (state_of old).spot then.spot, refl, refl);
+          entries = at_listed old.grove.spec sound (state_of old).term u s was now old.grove old.root None whole p;
         })
 
   -- nothing happened

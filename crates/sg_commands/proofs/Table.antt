@@ -20,7 +20,7 @@ use Rattle.sg_commands.specs.Turn.{Reads, Turn}
 use Rattle.sg_commands.specs.Turns.{copied_of, plain_turn, selected_term, turn, typing_turn}
 use Rattle.sg_commands.specs.Typing.{IsTyping}
 use Rattle.sg_commands.proofs.Choosing.{live_here, selected_held}
-use Rattle.sg_commands.proofs.Counting.{gained_count, noted_most}
+use Rattle.sg_commands.proofs.Counting.{gained_count, noted_most, noted_plain}
 use Rattle.sg_commands.proofs.Keeping.{IsKept}
 
 module _ (spec : Spec) (height : ℕ) (reads : Reads) (clip : Option Clip) (st : State) (x : Command) where
@@ -54,7 +54,7 @@ module _ (t : Turn) (old new : Held) (had has : Option Clip) (was now : List Ins
   pub fewer_of : {E : Type 0} (r : Result Message E) → OnErr r (GaveUp old.grove.spec t old new had has was now) → was ≡ []
       → OnErr r (length now ≤ length t.set)
   fewer_of (Ok m) gave_up none = tt
-  fewer_of (Err e) gave_up none = noted_most old.grove.spec t.state.term t.set was now none gave_up.noted
+  fewer_of (Err e) gave_up none = noted_most old.grove.spec t.state.term t.set was now none (noted_plain old.grove.spec old t.state t.set was now gave_up.noted)
 
   pub typing_of : {E : Type 0} (r : Result Message E) → IfOk r (λ m. Did t m new has was now)
       → OnErr r (GaveUp old.grove.spec t old new had has was now) → IsTyping old.grove.spec (state_of old)

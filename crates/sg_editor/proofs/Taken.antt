@@ -23,7 +23,7 @@ use Rattle.sg_script.specs.declared.command.Command.{Command}
 use Rattle.sg_commands.specs.Did.{Did, GaveUp, turn_of}
 use Rattle.sg_commands.specs.Turn.{Turn}
 use Rattle.sg_commands.specs.Turns.{turn}
-use Rattle.sg_commands.proofs.Counting.{gained_count, noted_most}
+use Rattle.sg_commands.proofs.Counting.{gained_count, noted_most, noted_plain}
 use Rattle.sg_editor.specs.declared.desk.Named.{Named}
 use Rattle.sg_editor.specs.Ask.{Step, Readers, says, opens, turned_to, turned_at, in_current}
 use Rattle.sg_editor.specs.Editing.{Kept, IsOver, told, session_in, current_in}
@@ -206,7 +206,8 @@ module _ (spec : Spec) (k : Kept) (i : ℕ) (b : Named) (here : slice_get k.buff
     turn_some old (Err e) up fewer =
         subst (λ (step : Step). AreSome spec step now) (sym (current_turn height r c over))
         (turned_some the_turn now (subst (λ (sp : Spec). Noted sp the_turn.state.term (Contains the_turn.set) [] now) over.spec_is
-        (subst (λ (es : List Instance). Noted b.buffer.grove.spec the_turn.state.term (Contains the_turn.set) es now) none up.noted)) fewer)
+        (subst (λ (es : List Instance). Noted b.buffer.grove.spec the_turn.state.term (Contains the_turn.set) es now) none
+        (noted_plain b.buffer.grove.spec old the_turn.state the_turn.set was now up.noted))) fewer)
 
     turned_back : state_of h ≡ state_of b.buffer → clip ≡ k.clip → session_in (after k i b h clip) ≡ session_in k
     turned_back state same =

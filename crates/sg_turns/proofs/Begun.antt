@@ -57,10 +57,12 @@ module _ (empty built new : Grove) (spec : Spec) (root : NodeId) (t : Term) (spe
         gained_all_after built new (λ n slot. IsInside (nodes built) n root) frame root t (Contains (instances (rules_of spec) t)) was now
         (subst (λ (s : Spec). GainedAll built root t (Contains (instances (rules_of s) t)) was now) built_spec all)
 
-  pub refused : (was now : List Instance) → Gained built root t (Contains (instances (rules_of built.spec) t)) was now → Noted spec t (Contains (instances (rules_of spec) t)) was now
-  refused was now some = inr (record {
+  pub refused : IsGrove built → Holds built root t → (was now : List Instance) → Gained built root t (Contains (instances (rules_of built.spec) t)) was now → Noted spec t (Contains (instances (rules_of spec) t)) was now
+  refused is held was now some = inr (record {
     grove = built;
+    is = is;
     same = built_spec;
     root = root;
+    holds = held;
     gained = subst (λ (s : Spec). Gained built root t (Contains (instances (rules_of s) t)) was now) built_spec some;
   })

@@ -4,6 +4,7 @@ pub mod Times
 pub mod Trees
 pub mod Gaining
 pub mod Swaps
+pub mod Coming
 pub mod Turning
 pub mod Values
 pub mod Dropping

@@ -19,7 +19,7 @@ use Rattle.sg_groves.specs.Grove.{Grove, nodes, IsGrove}
 use Rattle.sg_groves.specs.Holds.{Holds}
 use Rattle.sg_groves.specs.TermAt.{term_at}
 use Rattle.sg_groves.proofs.Held.{held_at, held_fits, part_held}
-use Rattle.sg_terms.specs.Entries.{GainedAll}
+use Rattle.sg_terms.specs.Entries.{Gained, GainedAll}
 use Rattle.sg_terms.specs.Kept.{KeepsTerms}
 use Rattle.sg_build.specs.Grown.{GrewBy}
 use Rattle.sg_build.proofs.Framed.{grew_outside, grew_root, not_there, there_or_not}
@@ -28,7 +28,7 @@ use Rattle.sg_changes.specs.declared.spot.Selection.{Selection}
 use Rattle.sg_states.specs.Selections.{settled_selection}
 use Rattle.sg_states.specs.Seen.{seen}
 use Rattle.sg_states.specs.Paged.{IsLook, IsWhole}
-use Rattle.sg_turns.specs.Noted.{Noted}
+use Rattle.sg_turns.specs.Noted.{NotedPut}
 use Rattle.sg_turns.specs.Puts.{MayPut, IsPut}
 use Rattle.sg_turns.specs.Roots.{KeepsTree}
 use Rattle.sg_turns.specs.Turns.{MayTurn, IsTurned, Notes, NotesSome}
@@ -36,7 +36,7 @@ use Rattle.sg_turns.specs.declared.turns.Turned.{Turned}
 use Rattle.sg_turns.specs.declared.turns.What.TheVariants.{Tree}
 use Rattle.sg_turns.proofs.Hanging.{roots_alike, times_swap}
 use Rattle.sg_turns.proofs.Times.{grown_roots}
-use Rattle.sg_turns.proofs.Trees.{climbs_on, whole_kept}
+use Rattle.sg_turns.proofs.Trees.{climbs_back, climbs_on, whole_kept}
 
 abbrev TheNodes : Type 0
 TheNodes = NodeId → Option (forest.Node Kind Part)
@@ -103,10 +103,26 @@ module _ (old mid : Grove) (is : IsGrove old) (on : IsGrove mid) (root at d : No
       subst (λ z. GainedAll new r (put t u z) (IsEvaluated old.spec t u z) was now) comes
       (subst (λ (z : Spec). GainedAll new r (put t u (term_at mid d)) (IsEvaluated z t u (term_at mid d)) was now) grew.spec notes)
 
-  pub put_notes_some : (was now : List Instance) → NotesSome mid t u (Tree d) was now → Noted old.spec (put t u s) (IsEvaluated old.spec t u s) was now
-  put_notes_some was now notes =
-      subst (λ z. Noted old.spec (put t u z) (IsEvaluated old.spec t u z) was now) comes
-      (subst (λ (z : Spec). Noted z (put t u (term_at mid d)) (IsEvaluated z t u (term_at mid d)) was now) grew.spec notes)
+  pub put_notes_some : (was now : List Instance) → NotesSome mid root t u (Tree d) was now → NotedPut old root None t u s was now
+  put_notes_some was now (inl same) = inl same
+  put_notes_some was now (inr p) =
+      let g = p.some.grove in
+      let r = p.some.root in
+      inr (record {
+        some = record {
+          grove = g;
+          is = p.some.is;
+          same = p.some.same ∙ grew.spec;
+          root = r;
+          holds = subst (λ z. Holds g r (put t u z)) comes p.some.holds;
+          gained = subst (λ z. Gained g r (put t u z) (IsEvaluated old.spec t u z) was now) comes
+              (subst (λ (z : Spec). Gained g r (put t u (term_at mid d)) (IsEvaluated z t u (term_at mid d)) was now) grew.spec p.some.gained);
+        };
+        tree = record {
+          outside = λ v n out c. climbs_back old mid root root_tree is on v n (p.tree.outside v n out c);
+          inside = λ v n c. grew_outside old mid (d ∷ []) grew is 0 n d refl (record { path = v; climbs = (p.tree.inside v n c).2 });
+        };
+      })
 
 -- what was built is gone again
 module _ (old mid back new : Grove) (is : IsGrove old) (d : NodeId) (grew : GrewBy old mid (d ∷ [])) (same : (n : NodeId) → nodes back n ≡ nodes mid n) where

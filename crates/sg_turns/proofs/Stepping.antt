@@ -91,9 +91,9 @@ module _ (g : Grove) (is : IsGrove g) (root : NodeId) (t : Term) (u : Place) (wh
   may_here n way = subst (λ m. MayTurn g root m what t u) (one_node g is u may.at n root may.may.way way) may.may
 
 -- nothing is noted before anything is done
-pub noted_none : (g : Grove) (t : Term) (u : Place) (what : What) (was : List Instance) → NotesSome g t u what was was
-noted_none g t u (Tree d) was = inl refl
-noted_none g t u (Shown m) was = refl
+pub noted_none : (g : Grove) (root : NodeId) (t : Term) (u : Place) (what : What) (was : List Instance) → NotesSome g root t u what was was
+noted_none g root t u (Tree d) was = inl refl
+noted_none g root t u (Shown m) was = refl
 
 -- how many nodes the term has then
 module _ (g : Grove) (is : IsGrove g) (root at : NodeId) (t : Term) (u : Place) where

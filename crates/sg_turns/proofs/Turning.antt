@@ -1,5 +1,5 @@
 -- What the exchange of two trees is as a turn of the edited term.
-use Rattle.std.specs.Prelude.{◌≡◌, ◌≢◌, List, ◌∷◌}
+use Rattle.std.specs.Prelude.{◌≡◌, ◌≢◌, List, ◌∷◌, Some}
 use Rattle.std.proofs.Common.{sym, subst, inr}
 use Rattle.sg_kinds.specs.Terms.{Term}
 use Rattle.sg_kinds.specs.Places.{Place, put}
@@ -18,9 +18,11 @@ use Rattle.sg_trail.specs.Trails.{IsAnySlot, IsExchanged}
 use Rattle.sg_propagate.specs.Asked.{IsAsked, root_then}
 use Rattle.sg_propagate.specs.Exchanged.{KeepsOtherRoots}
 use Rattle.sg_states.specs.Paged.{IsWhole}
+use Rattle.sg_turns.specs.Noted.{IsTreeThen}
 use Rattle.sg_turns.specs.Roots.{AreTheRoots}
 use Rattle.sg_turns.specs.Turns.{MayTurn, IsTurned, Notes, NotesSome}
 use Rattle.sg_turns.specs.declared.turns.What.TheVariants.{Tree}
+use Rattle.sg_turns.proofs.Coming.{grove_then, holds_then, tree_then, tree_there}
 use Rattle.sg_turns.proofs.Swaps.{asked, fits_then, hanging_then, out_then, root_is, roots_then, whole_then}
 
 -- what a replacement did
@@ -63,10 +65,27 @@ module _ (old new : Grove) (is : IsGrove old) (on : IsGrove new) (spec : new.spe
     pub swapped_notes : Notes old new then t u (Tree d) was now
     swapped_notes = subst (λ r. GainedAll new r (put t u s) (IsEvaluated old.spec t u s) was now) (sym then_is) (does.evaluated root t u s ask)
 
-pub refused_first : (old : Grove) (root at d : NodeId) (t : Term) (u : Place) (was now : List Instance)
-    → (g : Grove) × IsExchanged old g at d × Gained g (root_then u root d) (put t u (term_at old d)) (IsEvaluated old.spec t u (term_at old d)) was now → NotesSome old t u (Tree d) was now
-refused_first old root at d t u was now p = inr (record { grove = p.0; same = p.1.spec; root = root_then u root d; gained = p.2 })
+    pub swapped_tree : IsTreeThen old root u (Some d) new then
+    swapped_tree = tree_then old does.links.0 is at d does.links.1 root u may.whole.top may.way may.may.1 new does.links.2 then then_is
+
+-- where it was refused
+module _ (old : Grove) (is : IsGrove old) (root at d : NodeId) (t : Term) (u : Place) (may : MayTurn old root at (Tree d) t u) (was now : List Instance) where
+  pub refused_first : (g : Grove) × IsExchanged old g at d × Gained g (root_then u root d) (put t u (term_at old d)) (IsEvaluated old.spec t u (term_at old d)) was now → NotesSome old root t u (Tree d) was now
+  refused_first p =
+      let ask = asked old is root at d t u may in
+      inr (record {
+        some = record {
+          grove = p.0;
+          is = grove_then old p.0 is at d p.1;
+          same = p.1.spec;
+          root = root_then u root d;
+          holds = holds_then old p.0 is at d p.1 root u may.whole.top may.way may.may.1 t (term_at old d) may.whole.holds ask.part;
+          gained = p.2;
+        };
+        tree = tree_there old p.0 is at d p.1 root u may.whole.top may.way may.may.1;
+      })
 
 -- a look that failed noted what the exchange did
-pub noted_already : (old new : Grove) (r : NodeId) (t : Term) (u : Place) (d : NodeId) (was now : List Instance) → new.spec ≡ old.spec → Notes old new r t u (Tree d) was now → NotesSome old t u (Tree d) was now
-noted_already old new r t u d was now spec notes = inr (record { grove = new; same = spec; root = r; gained = notes.gained })
+pub noted_already : (old new : Grove) → IsGrove new → (root r : NodeId) (t : Term) (u : Place) (d : NodeId) (was now : List Instance) → new.spec ≡ old.spec → Holds new r (put t u (term_at old d)) → IsTreeThen old root u (Some d) new r → Notes old new r t u (Tree d) was now → NotesSome old root t u (Tree d) was now
+noted_already old new on root r t u d was now spec holds tree notes =
+    inr (record { some = record { grove = new; is = on; same = spec; root = r; holds = holds; gained = notes.gained }; tree = tree })

@@ -20,7 +20,7 @@ use Rattle.sg_changes.specs.declared.spot.Selection.{Selection}
 use Rattle.sg_states.specs.Selections.{settled_selection}
 use Rattle.sg_states.specs.Seen.{seen}
 use Rattle.sg_states.specs.Paged.{IsWhole, IsLook}
-use Rattle.sg_turns.specs.Noted.{Noted}
+use Rattle.sg_turns.specs.Noted.{NotedPut}
 use Rattle.sg_turns.specs.Roots.{AreTheRoots}
 use Rattle.sg_turns.specs.declared.turns.What.{What}
 use Rattle.sg_turns.specs.declared.turns.What.TheVariants.{Tree, Shown}
@@ -89,7 +89,7 @@ Notes old new root t u (Tree d) was now =
     GainedAll new root (put t u (term_at old d)) (IsEvaluated old.spec t u (term_at old d)) was now
 Notes old new root t u (Shown m) was now = now ≡ was
 
-abbrev pub NotesSome : Grove → Term → Place → What → List Instance → List Instance → Type 0
-NotesSome old t u (Tree d) was now =
-    Noted old.spec (put t u (term_at old d)) (IsEvaluated old.spec t u (term_at old d)) was now
-NotesSome old t u (Shown m) was now = now ≡ was
+-- or some of it
+abbrev pub NotesSome : Grove → NodeId → Term → Place → What → List Instance → List Instance → Type 0
+NotesSome old root t u (Tree d) was now = NotedPut old root (Some d) t u (term_at old d) was now
+NotesSome old root t u (Shown m) was now = now ≡ was

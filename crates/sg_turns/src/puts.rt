@@ -1,5 +1,5 @@
 //! A term in the place of a node, and what is selected and seen before it comes there.
-ghost use Rattle.std.specs.Prelude.{◌≡◌, ◌<◌, Some, IfOk, IfSome, OnErr};
+ghost use Rattle.std.specs.Prelude.{◌≡◌, ◌<◌, None, Some, IfOk, IfSome, OnErr};
 ghost use Rattle.sg_kinds.specs.Places.{Place, place_of, put, sub};
 ghost use Rattle.sg_kinds.specs.Specification.{rules_of};
 ghost use Rattle.sg_kinds.specs.Terms.{Term as IsTerm};
@@ -12,7 +12,7 @@ ghost use Rattle.sg_groves.specs.Grove.{nodes};
 ghost use Rattle.sg_groves.specs.Holds.{Holds};
 ghost use Rattle.sg_terms.specs.Entries.{GainedAll};
 ghost use Rattle.sg_turns.specs.Known.{IsKnown};
-ghost use Rattle.sg_turns.specs.Noted.{Noted};
+ghost use Rattle.sg_turns.specs.Noted.{NotedPut};
 ghost use Rattle.sg_turns.specs.Puts.{IsPut, MayPut};
 
 use crate::told::{Known, told_after, told_before};
@@ -82,8 +82,7 @@ pub fn put_term(
         GainedAll terms.new r.root (put whole u t.now) (IsEvaluated terms.old.spec whole u t.now)
         (now_of journal.old) (now_of journal.new)) }
     ensures some { (whole : IsTerm) (u : Place) → MayPut terms.old root at whole u t.now → OnErr result
-        (Noted terms.old.spec (put whole u t.now) (IsEvaluated terms.old.spec whole u t.now)
-        (now_of journal.old) (now_of journal.new)) }
+        (NotedPut terms.old root None whole u t.now (now_of journal.old) (now_of journal.new)) }
     ensures as_before { OnErr result ((n : _) → nodes terms.new n ≡ nodes terms.old n) }
     ensures spec { terms.new.spec ≡ terms.old.spec }
     ensures grown { IsGrown terms.old.pool terms.new.pool }

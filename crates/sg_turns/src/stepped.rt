@@ -83,7 +83,7 @@ fn turned_at(
     ensures noted { (t : Term) → MayStep terms.old root t (place_of path.now) what spot.now known → IfOk result (λ r.
         Notes terms.old terms.new r.root t (place_of path.now) what (now_of journal.old) (now_of journal.new)) }
     ensures some { (t : Term) → MayStep terms.old root t (place_of path.now) what spot.now known → OnErr result
-        (NotesSome terms.old t (place_of path.now) what (now_of journal.old) (now_of journal.new)) }
+        (NotesSome terms.old root t (place_of path.now) what (now_of journal.old) (now_of journal.new)) }
     ensures as_before { OnErr result ((n : _) → nodes terms.new n ≡ nodes terms.old n) }
     ensures spec { terms.new.spec ≡ terms.old.spec }
     ensures grown { IsGrown terms.old.pool terms.new.pool }
@@ -141,7 +141,7 @@ pub fn step_back(
         (now_of journal.old) (now_of journal.new)) }
     ensures some { (t : Term) → MayStep terms.old root t (step_place step.now) (undoing step.now)
         (seen_before step.now) known
-        → OnErr result (NotesSome terms.old t (step_place step.now) (undoing step.now)
+        → OnErr result (NotesSome terms.old root t (step_place step.now) (undoing step.now)
         (now_of journal.old) (now_of journal.new)) }
     ensures as_before { OnErr result ((n : _) → nodes terms.new n ≡ nodes terms.old n) }
     ensures spec { terms.new.spec ≡ terms.old.spec }
@@ -204,7 +204,7 @@ pub fn step_forth(
         (now_of journal.old) (now_of journal.new)) }
     ensures some { (t : Term) → MayStep terms.old root t (step_place step.now) (redoing step.now)
         (seen_after step.now) known
-        → OnErr result (NotesSome terms.old t (step_place step.now) (redoing step.now)
+        → OnErr result (NotesSome terms.old root t (step_place step.now) (redoing step.now)
         (now_of journal.old) (now_of journal.new)) }
     ensures as_before { OnErr result ((n : _) → nodes terms.new n ≡ nodes terms.old n) }
     ensures spec { terms.new.spec ≡ terms.old.spec }

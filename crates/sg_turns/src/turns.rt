@@ -14,6 +14,7 @@ ghost use Rattle.sg_terms.specs.Kept.{ChangesTerms, KeepsTermsWithout};
 ghost use Rattle.sg_trail.specs.Trails.{LeadsBack};
 ghost use Rattle.sg_changes.specs.Changes.{with_marks};
 ghost use Rattle.sg_turns.specs.Known.{ReachesThen};
+ghost use Rattle.sg_turns.specs.Noted.{IsTreeThen};
 ghost use Rattle.sg_turns.specs.Turns.{IsSeen, IsTurned, MayTurn, Notes, NotesSome, stands_there};
 
 use sg_changes::{Marks, Selection};
@@ -79,9 +80,11 @@ pub fn exchanged(
     ensures noted { (t : Term) (u : Place) → MayTurn terms.old root at (What.Tree detached) t u → IfOk result (λ r.
         Notes terms.old terms.new r.root t u (What.Tree detached) (now_of journal.old) (now_of journal.new)) }
     ensures some { (t : Term) (u : Place) → MayTurn terms.old root at (What.Tree detached) t u → OnErr result
-        (NotesSome terms.old t u (What.Tree detached) (now_of journal.old) (now_of journal.new)) }
+        (NotesSome terms.old root t u (What.Tree detached) (now_of journal.old) (now_of journal.new)) }
     ensures reach { (t : Term) (u : Place) → MayTurn terms.old root at (What.Tree detached) t u → IfOk result (λ r.
         ReachesThen terms.old terms.new detached r.root t u r.reach) }
+    ensures tree { (t : Term) (u : Place) → MayTurn terms.old root at (What.Tree detached) t u → IfOk result (λ r.
+        IsTreeThen terms.old root u (Some detached) terms.new r.root) }
     ensures leads_back { IfOk result (λ r. LeadsBack terms.old terms.new r.trail) }
     ensures as_before { OnErr result ((n : _) → nodes terms.new n ≡ nodes terms.old n) }
     ensures spec { terms.new.spec ≡ terms.old.spec }
@@ -183,7 +186,7 @@ pub fn turn(
     ensures noted { (t : Term) (u : Place) → MayTurn terms.old root at what t u → IfOk result (λ r.
         Notes terms.old terms.new r t u what (now_of journal.old) (now_of journal.new)) }
     ensures some { (t : Term) (u : Place) → MayTurn terms.old root at what t u → OnErr result
-        (NotesSome terms.old t u what (now_of journal.old) (now_of journal.new)) }
+        (NotesSome terms.old root t u what (now_of journal.old) (now_of journal.new)) }
     ensures as_before { OnErr result ((n : _) → nodes terms.new n ≡ nodes terms.old n) }
     ensures spec { terms.new.spec ≡ terms.old.spec }
     ensures grown { IsGrown terms.old.pool terms.new.pool }

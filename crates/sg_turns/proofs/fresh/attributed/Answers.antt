@@ -20,7 +20,7 @@ returns-in_err-attribute-clause-noted c =
     let p = err_from_is_err_and c.from_residual-in_err-attribute.result c.from_residual-in_err-attribute.ensures.1 in
     rw p.1
     (refused c.in_ok-terms.terms c.build.new.terms c.attribute.new.terms c.args.spec.now c.in-Ok.root c.args.t.now c.in_ok-terms.ensures.spec c.in_ok-terms.ensures.empty c.in-Ok.ensures.grew
-    (now_of c.args.journal.now) (now_of c.attribute.new.journal) (c.in_err-attribute.ensures.noted c.args.t.now c.in-Ok.ensures.held))
+    c.facts.ensures c.in-Ok.ensures.held (now_of c.args.journal.now) (now_of c.attribute.new.journal) (c.in_err-attribute.ensures.noted c.args.t.now c.in-Ok.ensures.held))
 
 pub returns-clause-whole : goal.returns-clause-whole
 returns-clause-whole c =

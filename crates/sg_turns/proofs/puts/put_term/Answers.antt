@@ -63,7 +63,8 @@ returns-in-Err-look_after-clause-some c = λ whole u may.
     let turns = may_turn c.args.terms.now c.build.new.terms c.facts.ensures c.facts-2.ensures c.args.root c.args.at c.in-Ok.built e.grew whole u c.args.t.now may e.terms e.held in
     put_notes_some c.args.terms.now c.build.new.terms c.facts.ensures c.facts-2.ensures c.args.root c.args.at c.in-Ok.built e.grew whole u c.args.t.now may e.terms e.held
     (now_of c.args.journal.now) (now_of c.exchanged.new.journal)
-    (noted_already c.build.new.terms c.exchanged.new.terms c.in-Ok-exchanged.done.root whole u c.in-Ok.built (now_of c.args.journal.now) (now_of c.exchanged.new.journal) c.in-Ok-exchanged.ensures.spec (c.in-Ok-exchanged.ensures.noted whole u turns))
+    (noted_already c.build.new.terms c.exchanged.new.terms c.facts-3.ensures c.args.root c.in-Ok-exchanged.done.root whole u c.in-Ok.built (now_of c.args.journal.now) (now_of c.exchanged.new.journal) c.in-Ok-exchanged.ensures.spec
+    (c.in-Ok-exchanged.ensures.turned whole u turns).whole.holds (c.in-Ok-exchanged.ensures.tree whole u turns) (c.in-Ok-exchanged.ensures.noted whole u turns))
 
 pub returns-in-Err-look_after-clause-as_before : goal.returns-in-Err-look_after-clause-as_before
 returns-in-Err-look_after-clause-as_before c =

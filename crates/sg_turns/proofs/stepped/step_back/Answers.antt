@@ -22,7 +22,7 @@ returns-in-Replaced-clause-some c =
     let old = c.args.terms.now in
     subst
     (λ (s : Step). (t : Term) → MayStep old c.args.root t (step_place s) (undoing s) (seen_before s) c.args.known → OnErr c.turned_at.result
-    (NotesSome old t (step_place s) (undoing s) (now_of c.args.journal.now) (now_of c.turned_at.new.journal)))
+    (NotesSome old c.args.root t (step_place s) (undoing s) (now_of c.args.journal.now) (now_of c.turned_at.new.journal)))
     (sym c.in-Replaced.is)
     c.turned_at.ensures.some
 
@@ -40,6 +40,6 @@ returns-in-Marked-clause-some c =
     let old = c.args.terms.now in
     subst
     (λ (s : Step). (t : Term) → MayStep old c.args.root t (step_place s) (undoing s) (seen_before s) c.args.known → OnErr c.turned_at-in-Marked.result
-    (NotesSome old t (step_place s) (undoing s) (now_of c.args.journal.now) (now_of c.turned_at-in-Marked.new.journal)))
+    (NotesSome old c.args.root t (step_place s) (undoing s) (now_of c.args.journal.now) (now_of c.turned_at-in-Marked.new.journal)))
     (sym c.in-Marked.is)
     c.turned_at-in-Marked.ensures.some

@@ -45,7 +45,7 @@ node_at-selected-requires-clause-near c =
 pub returns-in_err-to-clause-some : goal.returns-in_err-to-clause-some
 returns-in_err-to-clause-some c = λ t may.
     let p = err_from_is_err_and c.from_residual.result c.from_residual.ensures.1 in
-    rw p.1 (noted_none c.args.terms.now t (place_of c.args.path.now) c.args.what (now_of c.args.journal.now))
+    rw p.1 (noted_none c.args.terms.now c.args.root t (place_of c.args.path.now) c.args.what (now_of c.args.journal.now))
 
 pub returns-in-Ok-clause-stepped : goal.returns-in-Ok-clause-stepped
 returns-in-Ok-clause-stepped c = λ t may.

@@ -3,7 +3,7 @@ use Rattle.sg_eval.specs.Journal.{now_of}
 use Rattle.sg_groves.specs.TermAt.{term_at}
 use Rattle.sg_turns.proofs.Swaps.{apart, asked, at_live, inherits}
 use Rattle.sg_turns.proofs.Telling.{reaches_then}
-use Rattle.sg_turns.proofs.Turning.{Does, swapped_turn, swapped_notes, refused_first}
+use Rattle.sg_turns.proofs.Turning.{Does, swapped_turn, swapped_notes, swapped_tree, refused_first}
 use Rattle.sg_turns.proofs.turns.exchanged.Goals as goal
 
 pub replace-requires-clause-live : goal.replace-requires-clause-live
@@ -19,7 +19,7 @@ pub returns-in_err-done-clause-some : goal.returns-in_err-done-clause-some
 returns-in_err-done-clause-some c = λ t u may.
     let g = c.args.terms.now in
     let p = err_from_is_err_and c.from_residual.result c.from_residual.ensures.1 in
-    rw p.1 (refused_first g c.args.root c.args.at c.args.detached t u _ _ (c.in_err-done.ensures.noted c.args.root t u (term_at g c.args.detached) (asked g c.facts.ensures c.args.root c.args.at c.args.detached t u may)))
+    rw p.1 (refused_first g c.facts.ensures c.args.root c.args.at c.args.detached t u may _ _ (c.in_err-done.ensures.noted c.args.root t u (term_at g c.args.detached) (asked g c.facts.ensures c.args.root c.args.at c.args.detached t u may)))
 
 pub returns-clause-turned : goal.returns-clause-turned
 returns-clause-turned c = λ t u may.
@@ -40,3 +40,9 @@ returns-clause-reach c = λ t u may.
     reaches_then g c.replace.new.terms c.facts.ensures c.args.root c.args.at c.args.detached t u may e.links.0 e.links.1 e.links.2
     c.root_after-root.result c.root_after-root.ensures.here c.root_after-root.ensures.there c.in_ok-done.done.reach
     (e.reach c.args.root t u (term_at g c.args.detached) (asked g c.facts.ensures c.args.root c.args.at c.args.detached t u may))
+
+pub returns-clause-tree : goal.returns-clause-tree
+returns-clause-tree c = λ t u may.
+    let e = c.in_ok-done.ensures in
+    let does : Does c.args.terms.now c.replace.new.terms c.args.at c.args.detached (now_of c.args.journal.now) (now_of c.replace.new.journal) = record { right = e.right; term = e.term; evaluated = e.evaluated; links = e.links; freed = e.freed; roots = e.roots; terms = e.terms } in
+    swapped_tree c.args.terms.now c.replace.new.terms c.facts.ensures c.facts-2.ensures e.spec c.args.root c.args.at c.args.detached _ _ does c.root_after-root.result c.root_after-root.ensures.here c.root_after-root.ensures.there t u may
