@@ -5,3 +5,5 @@ pub mod Kept
 pub mod ArgsTyped
 pub mod BodyTyped
 pub mod ListsThere
+pub mod PatternsFit
+pub mod ExprsFit
