@@ -40,7 +40,7 @@ use Rattle.sg_typing.specs.Written.{IsUsable, HasLists, AreOutside, IsCallable, 
 use Rattle.sg_typing.proofs.RecordTyped.{unless_is, untyped_is, known-append, pattern_typed}
 
 -- a variable that is known
-known_cons : (v : scope.Variable) (vs : List scope.Variable) (S : List ℕ) → known (v ∷ vs) ≡ Some S → (p : ℕ) × (ps : List ℕ) × (v.of ≡ Some p) × (known vs ≡ Some ps) × (S ≡ p ∷ ps)
+pub known_cons : (v : scope.Variable) (vs : List scope.Variable) (S : List ℕ) → known (v ∷ vs) ≡ Some S → (p : ℕ) × (ps : List ℕ) × (v.of ≡ Some p) × (known vs ≡ Some ps) × (S ≡ p ∷ ps)
 known_cons v vs S h = by v.of (known vs) refl refl h
   where
     by : (o : Option ℕ) (r : Option (List ℕ)) → v.of ≡ o → known vs ≡ r → option_and_then (λ p. option_map (λ ps. p ∷ ps) r) o ≡ Some S → (p : ℕ) × (ps : List ℕ) × (v.of ≡ Some p) × (known vs ≡ Some ps) × (S ≡ p ∷ ps)

@@ -35,16 +35,18 @@ use Rattle.sg_types.specs.Patterns as pattern
 use Rattle.sg_types.specs.Expressions.{type_in, mismatch_in, mismatch_in_all, mismatch_in_cases, recorded, recorded_all, recorded_cases, where_wanted, at_infix, at_cons, sign_of, given, infix_at, infix_in, prefix_type, prefix_of, params_in, pair_in, called_in, called_type}
 use Rattle.sg_typing.specs.Written.{IsUsable, HasLists, AreOutside, IsCallable, AreCallable, is_builtin, known}
 use Rattle.sg_typing.proofs.PatternsFit.{Means, is_unless, then_parts, if_parts, both_none, pattern_fits}
+use Rattle.sg_typing.proofs.NamesTyped.{variable_there, named_there}
+use Rattle.sg_typing.proofs.ListsThere.{ListsTold}
 use Rattle.sg_typing.proofs.ExprTyped.{variable_typed, reference_typed, known_two, one_known}
 
--- each name of an expression means something that has a type, and each call has as many arguments as declared
+-- each name of an expression means something, and each call has as many arguments as declared
 abbrev mutual
   pub HasMeaning : Table → Owner → List scope.Variable → Expr → Type 0
   HasMeaning t w vs (Amount n place) = ⊤
   HasMeaning t w vs (Chars s) = ⊤
   HasMeaning t w vs (Truth b place) = ⊤
-  HasMeaning t w vs (Variable n) = is_some (type_there (variable_at t w vs n.text)) ≡ true
-  HasMeaning t w vs (Attribute r) = is_some (type_there (reference_at t w r)) ≡ true
+  HasMeaning t w vs (Variable n) = is_some (variable_at t w vs n.text) ≡ true
+  HasMeaning t w vs (Attribute r) = is_some (reference_at t w r) ≡ true
   HasMeaning t w vs (MadeOf made n place) = is_some (look.usable_named t n.text) ≡ true
   HasMeaning t w vs (Paren a place) = HasMeaning t w vs a
   HasMeaning t w vs (Single f a place) = HasMeaning t w vs a
@@ -62,12 +64,6 @@ abbrev mutual
   CasesMean t w vs subject NoCase = ⊤
   CasesMean t w vs subject (Default e) = HasMeaning t w vs e
   CasesMean t w vs subject (Case q e cs) = Means t q × HasMeaning t w (vs ++ variables_of t q subject) e × CasesMean t w vs subject cs
-
--- each list phylum is told by its shape, and STR is none
-pub record ListsTold (t : Table) : Type 0 where
-  pub lists : HasLists t
-  pub pairs : (l : ℕ) → has_shape t.phyla is_list_shape l ≡ true → (x : ℕ × ℕ) × (list_at t l ≡ Some x)
-  pub texts : has_shape t.phyla is_list_shape texts ≡ false
 
 -- the parts of a test that holds
 cond_parts : {A : Type 0} (b : Bool) (o : Option A) (y : A) → cond b o None ≡ Some y → (b ≡ true) × (o ≡ Some y)
@@ -274,11 +270,11 @@ module _ (t : Table) (usable : IsUsable t) (told : ListsTold t) (calls : AreCall
     expr_fits vs S (Chars s) q k m h = let c = if_parts (is_text s.text) texts q h in (ap Some c.1, refl)
     expr_fits vs S (Truth b place) q k m h = (h, refl)
     expr_fits vs S (Variable n) q k m h =
-        let x = some_there (type_there (variable_at t w vs n.text)) m in
+        let x = variable_there t w vs S n.text k (local_at t w n.text) (found vs n.text) refl refl m in
         let there = variable_typed t usable told.lists calls w outer out vs S n.text x.0 k (local_at t w n.text) (found vs n.text) refl refl x.1 in
         named (type_there (variable_at t w vs n.text)) n.place q (x.1 ∙ sym there ∙ h)
     expr_fits vs S (Attribute r) q k m h =
-        let x = some_there (type_there (reference_at t w r)) m in
+        let x = named_there t w r (reference_at t w r) refl m in
         let there = reference_typed t usable told.lists calls w outer out S r x.0 (reference_at t w r) refl x.1 in
         named (type_there (reference_at t w r)) (occurrence_place r.of) q (x.1 ∙ sym there ∙ h)
     expr_fits vs S (MadeOf made n place) q k m h =

@@ -6,4 +6,6 @@ pub mod ArgsTyped
 pub mod BodyTyped
 pub mod ListsThere
 pub mod PatternsFit
+pub mod NamesTyped
 pub mod ExprsFit
+pub mod NamesMean

@@ -4,3 +4,4 @@ pub mod BodiesView
 pub mod Shown
 pub mod Checked
 pub mod Written
+pub mod Known
