@@ -70,7 +70,7 @@ cond_parts : {A : Type 0} (b : Bool) (o : Option A) (y : A) → cond b o None �
 cond_parts true o y e = (refl, e)
 cond_parts false o y e = cc
 
-found_parts : (t : Table) (wanted : ℕ) (o : Option ℕ) → is_found (drafted t) wanted o ≡ true → (r : ℕ) × (o ≡ Some r) × (is_accepted (drafted t) r wanted ≡ true)
+pub found_parts : (t : Table) (wanted : ℕ) (o : Option ℕ) → is_found (drafted t) wanted o ≡ true → (r : ℕ) × (o ≡ Some r) × (is_accepted (drafted t) r wanted ≡ true)
 found_parts t wanted None h = cc
 found_parts t wanted (Some r) h = (r, refl, h)
 
@@ -82,7 +82,7 @@ found_is : (t : Table) (wanted r : ℕ) (o : Option ℕ) → o ≡ Some r → is
 found_is t wanted r o e a = ap (is_found (drafted t) wanted) e ∙ a
 
 -- what is accepted where it stands has no mismatch there
-wanted_none : (t : Table) (wanted r : ℕ) (o : Option ℕ) (place : Position) (inside : Option Position) → o ≡ Some r → is_accepted (drafted t) r wanted ≡ true → inside ≡ None → where_wanted t (Some wanted) o place inside ≡ None
+pub wanted_none : (t : Table) (wanted r : ℕ) (o : Option ℕ) (place : Position) (inside : Option Position) → o ≡ Some r → is_accepted (drafted t) r wanted ≡ true → inside ≡ None → where_wanted t (Some wanted) o place inside ≡ None
 wanted_none t wanted r o place inside e a i =
     both_none (unless (is_found (drafted t) wanted o) place) inside (is_unless (is_found (drafted t) wanted o) place (found_is t wanted r o e a)) i
 

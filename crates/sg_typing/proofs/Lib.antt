@@ -9,3 +9,4 @@ pub mod PatternsFit
 pub mod NamesTyped
 pub mod ExprsFit
 pub mod NamesMean
+pub mod BodyUntyped

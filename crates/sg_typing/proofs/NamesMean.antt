@@ -39,13 +39,13 @@ use Rattle.sg_typing.proofs.PatternsFit.{Means, Mean}
 use Rattle.sg_typing.proofs.TableFacts.{position_there}
 
 -- uses that are known, in parts
-known_parts : (t : Table) (us ws : List Use) → AreKnown t (us ++ ws) → AreKnown t us × AreKnown t ws
+pub known_parts : (t : Table) (us ws : List Use) → AreKnown t (us ++ ws) → AreKnown t us × AreKnown t ws
 known_parts t us ws h =
     let a = neither (first (unknown_at t) us) (first (unknown_at t) ws) (sym (first-append (unknown_at t) us ws) ∙ h.0) in
     let b = neither (first (arity_at t) us) (first (arity_at t) ws) (sym (first-append (arity_at t) us ws) ∙ h.1) in
     ((a.0, b.0), (a.1, b.1))
 
-known_first : (t : Table) (u : Use) (us : List Use) → AreKnown t (u ∷ us) → (unknown_at t u ≡ None) × (arity_at t u ≡ None) × AreKnown t us
+pub known_first : (t : Table) (u : Use) (us : List Use) → AreKnown t (u ∷ us) → (unknown_at t u ≡ None) × (arity_at t u ≡ None) × AreKnown t us
 known_first t u us h =
     let a = neither (unknown_at t u) (first (unknown_at t) us) h.0 in
     let b = neither (arity_at t u) (first (arity_at t) us) h.1 in
@@ -104,7 +104,7 @@ visible_left xs ys n h = list_any-append (bytes_eq n) xs ys ∙ ap (λ b. b || i
 visible_right : (xs ys : List Bytes) (n : Bytes) → is_visible ys n ≡ true → is_visible (xs ++ ys) n ≡ true
 visible_right xs ys n h = list_any-append (bytes_eq n) xs ys ∙ or_right (is_visible xs n) (is_visible ys n) h
 
-among_one : (scope names : List Bytes) (m : Bytes) → AreAmong scope names → AreAmong (with_variable scope m) (names ++ m ∷ [])
+pub among_one : (scope names : List Bytes) (m : Bytes) → AreAmong scope names → AreAmong (with_variable scope m) (names ++ m ∷ [])
 among_one scope names m h n e = by (is_visible scope m) e
   where
     old : is_visible scope n ≡ true → is_visible (names ++ m ∷ []) n ≡ true
@@ -118,7 +118,7 @@ among_one scope names m h n e = by (is_visible scope m) e
     by true k = old k
     by false k = new (visible_parts scope (m ∷ []) n k)
 
-among_none : (scope names : List Bytes) → AreAmong scope names → AreAmong scope (names ++ [])
+pub among_none : (scope names : List Bytes) → AreAmong scope names → AreAmong scope (names ++ [])
 among_none scope names h n e = visible_left names [] n (h n e)
 
 module _ (t : Table) where
