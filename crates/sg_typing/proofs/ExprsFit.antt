@@ -302,9 +302,11 @@ module _ (t : Table) (usable : IsUsable t) (told : ListsTold t) (calls : AreCall
         let y = expr_fits vs S a p.0 k m.1 p.1 in
         let z = expr_fits vs S b r.0 k m.2 r.1 in
         let second : where_wanted t (type_in t w vs a) (type_in t w vs b) (expr_place b) (mismatch_in t w vs b) ≡ None = ap (λ o. where_wanted t o (type_in t w vs b) (expr_place b) (mismatch_in t w vs b)) y.0 ∙ wanted_none t p.0 r.0 (type_in t w vs b) (expr_place b) (mismatch_in t w vs b) z.0 r.2 z.1 in
-        let branches = both_none (mismatch_in t w vs a) (where_wanted t (type_in t w vs a) (type_in t w vs b) (expr_place b) (mismatch_in t w vs b)) y.1 second in
-        (y.0 ∙ ap Some r.3, both_none (where_wanted t (Some truths) (type_in t w vs c) (expr_place c) (mismatch_in t w vs c)) (or_else (mismatch_in t w vs a) (where_wanted t (type_in t w vs a) (type_in t w vs b) (expr_place b) (mismatch_in t w vs b)))
-            (wanted_none t truths u.0 (type_in t w vs c) (expr_place c) (mismatch_in t w vs c) x.0 u.2 x.1) branches)
+        let branches = both_none (mismatch_in t w vs a) (where_wanted t (type_in t w vs a) (type_in t w vs b) (expr_place b) (mismatch_in t w vs b)) y.1 second in (
+          y.0 ∙ ap Some r.3,
+          both_none (where_wanted t (Some truths) (type_in t w vs c) (expr_place c) (mismatch_in t w vs c)) (or_else (mismatch_in t w vs a) (where_wanted t (type_in t w vs a) (type_in t w vs b) (expr_place b) (mismatch_in t w vs b)))
+              (wanted_none t truths u.0 (type_in t w vs c) (expr_place c) (mismatch_in t w vs c) x.0 u.2 x.1) branches,
+        )
     expr_fits vs S (Call n es) q k m h = call_fits vs S n.place es q m.0 (look.callable t n.text) m.1 (calls n.text m.0 m.1) m.2 (λ ps many fit. all_fits vs S n.place es ps k many m.3 fit) h
     expr_fits vs S (Let n a b place) q k m h =
         let u : scope.Variable = record { name = n.text; of = type_in t w vs a } in
@@ -361,4 +363,4 @@ module _ (t : Table) (usable : IsUsable t) (told : ListsTold t) (calls : AreCall
         let y = pattern_fits t q p f.0 m.0 f.1 in
         let x = expr_fits (vs ++ us) (S ++ f.0) e d.0 (known_two vs us S f.0 k y.1) m.1 (subst (λ G. type_of D G (recorded t w (vs ++ us) e) ≡ Some d.0) (append_assoc outer S f.0) f.2) in
         both_none (pattern.mismatch_in t q (Some p)) (or_else (where_wanted t (Some r) (type_in t w (vs ++ us) e) (expr_place e) (mismatch_in t w (vs ++ us) e)) (mismatch_in_cases t w vs (Some p) (Some r) cs)) y.0
-            (both_none (where_wanted t (Some r) (type_in t w (vs ++ us) e) (expr_place e) (mismatch_in t w (vs ++ us) e)) (mismatch_in_cases t w vs (Some p) (Some r) cs) (wanted_none t r d.0 (type_in t w (vs ++ us) e) (expr_place e) (mismatch_in t w (vs ++ us) e) x.0 d.2 x.1) (cases_fit vs S p r cs k m.2 c.1))
+        (both_none (where_wanted t (Some r) (type_in t w (vs ++ us) e) (expr_place e) (mismatch_in t w (vs ++ us) e)) (mismatch_in_cases t w vs (Some p) (Some r) cs) (wanted_none t r d.0 (type_in t w (vs ++ us) e) (expr_place e) (mismatch_in t w (vs ++ us) e) x.0 d.2 x.1) (cases_fit vs S p r cs k m.2 c.1))
