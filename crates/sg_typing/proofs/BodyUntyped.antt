@@ -67,17 +67,17 @@ module _ (t : Table) (spec : Spec) (table : HasTable t spec) (shapes : HasShapes
   body_untyped w outer out vs types k e scope args sees uses p place h = meant_untyped w outer out vs types k e (body_means t w vs scope e args sees uses) p place h
 
 -- what is visible in an equation, and in a function
-locals_among : (scope names ms : List Bytes) → AreAmong scope names → AreAmong (fold with_variable scope ms) (names ++ ms)
+pub locals_among : (scope names ms : List Bytes) → AreAmong scope names → AreAmong (fold with_variable scope ms) (names ++ ms)
 locals_among scope names [] h = subst (AreAmong scope) (sym (append-nil names)) h
 locals_among scope names (m ∷ ms) h = subst (AreAmong (fold with_variable (with_variable scope m) ms)) (append_assoc names (m ∷ []) ms) (locals_among (with_variable scope m) (names ++ m ∷ []) ms (among_one scope names m h))
 
-params_among : (t : Table) (scope names : List Bytes) (params : List Typed) → AreAmong scope names → AreAmong (params_scope scope params) (names ++ names_of (map (parameter t) params))
+pub params_among : (t : Table) (scope names : List Bytes) (params : List Typed) → AreAmong scope names → AreAmong (params_scope scope params) (names ++ names_of (map (parameter t) params))
 params_among t scope names [] h = subst (AreAmong scope) (sym (append-nil names)) h
 params_among t scope names (x ∷ xs) h =
     subst (AreAmong (params_scope (with_variable scope x.name.text) xs)) (append_assoc names (x.name.text ∷ []) (names_of (map (parameter t) xs)))
     (params_among t (with_variable scope x.name.text) (names ++ x.name.text ∷ []) xs (among_one scope names x.name.text h))
 
-none_among : (names : List Bytes) → AreAmong [] names
+pub none_among : (names : List Bytes) → AreAmong [] names
 none_among names n h = cc
 
 nothing_outside : (t : Table) → AreOutside t OfNothing []

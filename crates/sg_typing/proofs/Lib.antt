@@ -10,3 +10,4 @@ pub mod NamesTyped
 pub mod ExprsFit
 pub mod NamesMean
 pub mod BodyUntyped
+pub mod MismatchHead

@@ -51,7 +51,7 @@ known_first t u us h =
     let b = neither (arity_at t u) (first (arity_at t) us) h.1 in
     (a.0, b.0, (a.1, b.1))
 
-known_is : (b : Bool) (n : Name) → unless_known b n ≡ None → b ≡ true
+pub known_is : (b : Bool) (n : Name) → unless_known b n ≡ None → b ≡ true
 known_is true n h = refl
 known_is false n h = cc
 

@@ -5,3 +5,4 @@ pub mod Shown
 pub mod Checked
 pub mod Written
 pub mod Known
+pub mod Mismatches
