@@ -41,7 +41,7 @@ attr_there t op at p s a there named = by at there
     by zero h = (x.0.of, ap (λ o. slice_get (attr_types (drafted t) o ++ map (λ (l : Local). l.of) (locals_of t.ops op)) s) h ∙ slice_get-before (map (λ (y : Attr). y.of) (attrs_of t.phyla p)) (map (λ (l : Local). l.of) (locals_of t.ops op)) s x.0.of slot)
     by (suc k) h = (x.0.of, ap (λ o. slice_get (attr_types (drafted t) o) s) h ∙ slot)
 
-reference_typed : (t : Table) (op : ℕ) (r : Reference) (o : Occurrence) → reference t op r ≡ Some o → HasType t op o
+pub reference_typed : (t : Table) (op : ℕ) (r : Reference) (o : Occurrence) → reference t op r ≡ Some o → HasType t op o
 reference_typed t op r o h = by (occurrence t op r.of) h
   where
     slotted : (at p : ℕ) → phylum_there t.ops op at ≡ Some p → (s : Option ℕ) → attribute t p r.attr.text ≡ s → option_map (λ s. record { at = at; slot = s }) s ≡ Some o → HasType t op o

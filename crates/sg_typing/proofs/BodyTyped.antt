@@ -28,7 +28,7 @@ fits t w vs wanted e h = by wanted (neither (unless (fits_where t wanted (type_i
     by None k = cc
     by (Some p) k = (p, refl, unless_is (is_found (drafted t) p (type_in t w vs e)) (expr_place e) k, inside)
 
-found_kept : (t : Table) (spec : Spec) → HasTable t spec → (p : ℕ) (o : Option ℕ) → is_found spec p o ≡ is_found (drafted t) p o
+pub found_kept : (t : Table) (spec : Spec) → HasTable t spec → (p : ℕ) (o : Option ℕ) → is_found spec p o ≡ is_found (drafted t) p o
 found_kept t spec h p None = refl
 found_kept t spec h p (Some q) = accepted_kept t spec h q p
 

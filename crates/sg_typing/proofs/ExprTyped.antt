@@ -40,7 +40,7 @@ use Rattle.sg_typing.specs.Written.{IsUsable, HasLists, AreOutside, IsCallable, 
 use Rattle.sg_typing.proofs.RecordTyped.{unless_is, untyped_is, known-append, pattern_typed}
 
 -- a variable that is known
-known_cons : (v : scope.Variable) (vs : List scope.Variable) (S : List ℕ) → known (v ∷ vs) ≡ Some S → (p : ℕ) × (ps : List ℕ) × (v.of ≡ Some p) × (known vs ≡ Some ps) × (S ≡ p ∷ ps)
+pub known_cons : (v : scope.Variable) (vs : List scope.Variable) (S : List ℕ) → known (v ∷ vs) ≡ Some S → (p : ℕ) × (ps : List ℕ) × (v.of ≡ Some p) × (known vs ≡ Some ps) × (S ≡ p ∷ ps)
 known_cons v vs S h = by v.of (known vs) refl refl h
   where
     by : (o : Option ℕ) (r : Option (List ℕ)) → v.of ≡ o → known vs ≡ r → option_and_then (λ p. option_map (λ ps. p ∷ ps) r) o ≡ Some S → (p : ℕ) × (ps : List ℕ) × (v.of ≡ Some p) × (known vs ≡ Some ps) × (S ≡ p ∷ ps)
@@ -190,7 +190,7 @@ called_typed t G (callable.Builtin f) (kept.AndExpr e es) k h =
     (look.builtin_result f, refl, builtin_typed t G f e k b.0)
 
 -- the variables of a pattern are known
-known_two : (xs ys : List scope.Variable) (ps qs : List ℕ) → known xs ≡ Some ps → known ys ≡ Some qs → known (xs ++ ys) ≡ Some (ps ++ qs)
+pub known_two : (xs ys : List scope.Variable) (ps qs : List ℕ) → known xs ≡ Some ps → known ys ≡ Some qs → known (xs ++ ys) ≡ Some (ps ++ qs)
 known_two xs ys ps qs h g = known-append xs ys ∙ rw (h, g) refl
 
 mutual
@@ -212,7 +212,7 @@ mutual
       let b = all_known t xs ps in
       (a.0 ++ b.0, known_two (variables_of t x (Some p)) (variables_of_all t xs ps) a.0 b.0 a.1 b.1)
 
-one_known : (v : scope.Variable) (p : ℕ) → v.of ≡ Some p → known (v ∷ []) ≡ Some (p ∷ [])
+pub one_known : (v : scope.Variable) (p : ℕ) → v.of ≡ Some p → known (v ∷ []) ≡ Some (p ∷ [])
 one_known v p e = rw e refl
 
 has_some : (o : Option ℕ) (p : ℕ) → o ≡ Some p → is_some o ≡ true
@@ -245,11 +245,11 @@ module _ (t : Table) (usable : IsUsable t) (lists : HasLists t) (calls : AreCall
   outer_typed : (S : List ℕ) (x : ℕ × Option ℕ) (p : ℕ) → slice_get outer x.0 ≡ x.1 → x.1 ≡ Some p → slice_get (outer ++ S) x.0 ≡ Some p
   outer_typed S x p at is = slice_get-before outer S x.0 p (at ∙ is)
 
-  reference_typed : (S : List ℕ) (r : Reference) (p : ℕ) (o : Option (ℕ × Option ℕ)) → reference_at t w r ≡ o → type_there o ≡ Some p → slice_get (outer ++ S) (place_there o) ≡ Some p
+  pub reference_typed : (S : List ℕ) (r : Reference) (p : ℕ) (o : Option (ℕ × Option ℕ)) → reference_at t w r ≡ o → type_there o ≡ Some p → slice_get (outer ++ S) (place_there o) ≡ Some p
   reference_typed S r p None e h = cc
   reference_typed S r p (Some x) e h = outer_typed S x p (out.references r x e) h
 
-  variable_typed : (vs : List scope.Variable) (S : List ℕ) (n : Bytes) (p : ℕ) → known vs ≡ Some S → (a b : Option (ℕ × Option ℕ)) → local_at t w n ≡ a → found vs n ≡ b
+  pub variable_typed : (vs : List scope.Variable) (S : List ℕ) (n : Bytes) (p : ℕ) → known vs ≡ Some S → (a b : Option (ℕ × Option ℕ)) → local_at t w n ≡ a → found vs n ≡ b
       → type_there (or_else a (option_map (behind (outside w)) b)) ≡ Some p → slice_get (outer ++ S) (place_there (or_else a (option_map (behind (outside w)) b))) ≡ Some p
   variable_typed vs S n p k (Some x) b e f h = outer_typed S x p (out.locals n x e) h
   variable_typed vs S n p k None None e f h = cc

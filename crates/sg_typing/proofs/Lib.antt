@@ -5,3 +5,9 @@ pub mod Kept
 pub mod ArgsTyped
 pub mod BodyTyped
 pub mod ListsThere
+pub mod PatternsFit
+pub mod NamesTyped
+pub mod ExprsFit
+pub mod NamesMean
+pub mod BodyUntyped
+pub mod MismatchHead

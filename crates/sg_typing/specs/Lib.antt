@@ -4,3 +4,5 @@ pub mod BodiesView
 pub mod Shown
 pub mod Checked
 pub mod Written
+pub mod Known
+pub mod Mismatches

@@ -1,19 +1,29 @@
 //! Laws of what is kept of declarations, each as the contract of a function without code.
-ghost use Rattle.std.specs.Prelude.{◌≡◌, ℕ, List, ◌++◌, Option, Some, None, is_some, true};
+ghost use Rattle.std.specs.Prelude.{◌≡◌, ℕ, List, map, ◌++◌, Option, Some, None, is_some, true, false};
 ghost use Rattle.sg_ast.specs.Expressions.{Expr};
 ghost use Rattle.sg_ast.specs.Patterns.{Pattern};
 ghost use Rattle.sg_kinds.specs.Sound.{HasShapes};
 ghost use Rattle.sg_kinds.specs.Typing.{bound_types, is_found, type_of, types_at};
 ghost use Rattle.sg_kinds.specs.declared.spec.Occurrence.{Occurrence};
+ghost use Rattle.sg_kinds.specs.Values.{Bytes};
+ghost use Rattle.sg_kinds.specs.declared.fault.Position.{Position};
 ghost use Rattle.sg_kinds.specs.declared.spec.Spec.{Spec};
+ghost use Rattle.sg_names.specs.Uses.{InOperator, equation_uses, expr_uses, in_function, in_transform, local_scope};
+ghost use Rattle.sg_names.specs.Uses.{pattern_uses, right_uses};
+ghost use Rattle.sg_names.specs.Lookups.{phylum_named};
+ghost use Rattle.sg_ast.specs.Declarations.{Equation, Right};
+ghost use Rattle.sg_ast.specs.declared.name.Name.{Name};
+ghost use Rattle.sg_ast.specs.declared.name.Typed.{Typed};
+ghost use Rattle.sg_typing.specs.Bodies as body;
 ghost use Rattle.sg_names.specs.declared.table.Table.{Table};
 ghost use Rattle.sg_types.specs.declared.scope.Variable.{Variable};
-ghost use Rattle.sg_types.specs.Bindings.{Owner, OfEquation};
+ghost use Rattle.sg_types.specs.Bindings.{Owner, OfEquation, OfProduction};
 ghost use Rattle.sg_names.specs.Drafted.{HasTable, drafted};
 ghost use Rattle.sg_typing.specs.Arguments.{args_in};
 ghost use Rattle.sg_types.specs.Expressions as expr;
 ghost use Rattle.sg_types.specs.Patterns.{mismatch_in, recorded, variables_of};
 ghost use Rattle.sg_ast.specs.Written.{HasValues, AreWritten};
+ghost use Rattle.sg_typing.specs.Known.{AreKnown, HasArguments, SeesVariables, site_of};
 ghost use Rattle.sg_typing.specs.Written.{HasLists, AreOutside, known};
 
 /// A pattern without a mismatch binds its variables in the record too, each with its type.
@@ -55,6 +65,49 @@ pub fn bodies_are_typed()
         → (wanted : Option ℕ) (e : Expr) → AreWritten e → expr.mismatch_at t w vs wanted e ≡ None
         → (p : ℕ) × (wanted ≡ Some p) × (is_found spec p (type_of spec (outer ++ types) (expr.recorded t w vs e))
         ≡ true) }
+{}
+
+/// A pattern with a mismatch binds nothing in any record with these names, where its names mean something.
+pub fn mismatched_patterns_are_untyped()
+    ensures { (t : Table) (spec : Spec) → HasTable t spec → (q : Pattern) (p : ℕ) (scope : List Bytes)
+        → AreKnown t (pattern_uses scope q) → (place : Position) → mismatch_in t q (Some p) ≡ Some place
+        → bound_types spec (recorded t q) p ≡ None }
+{}
+
+/// An expression with a mismatch where a type is wanted has, in each record with these names, no type that is accepted
+/// there, where its names mean something.
+#[tactic(auto, using(crate::proofs::BodyUntyped::body_untyped))]
+pub fn mismatches_are_untyped()
+    ensures { (t : Table) (spec : Spec) → HasTable t spec → HasShapes spec → (w : Owner) (outer : List ℕ)
+        → AreOutside t w outer → (vs : List Variable) (types : List ℕ) → known vs ≡ Some types
+        → (e : Expr) (scope : List Bytes) → HasArguments t w e → SeesVariables t w vs scope
+        → AreKnown t (expr_uses (site_of w) scope e) → (p : ℕ) (place : Position)
+        → expr.mismatch_at t w vs (Some p) e ≡ Some place
+        → is_found spec p (type_of spec (outer ++ types) (expr.recorded t w vs e)) ≡ false }
+{}
+
+/// So with the body of each declaration whose uses are known: where it has a mismatch, its expression in each record with
+/// these names has no type that is accepted where it stands, or its pattern binds nothing.
+pub fn mismatched_bodies_are_untyped()
+    ensures equations { (t : Table) (spec : Spec) → HasTable t spec → HasShapes spec → (op : ℕ) (q : Equation)
+        (types : List ℕ) → AreKnown t (equation_uses (InOperator op) (local_scope t op) q)
+        → types_at spec op (args_in t op q.expr) ≡ Some types → (p : ℕ) (place : Position)
+        → body.target_type t op q.target ≡ Some p → body.equation_mismatch t op q ≡ Some place
+        → is_found spec p (type_of spec types (body.equation_typed t op q).expr) ≡ false }
+    ensures functions { (t : Table) (spec : Spec) → HasTable t spec → HasShapes spec → (of : Name)
+        (params : List Typed) (e : Expr) (types : List ℕ) → AreKnown t (in_function of params e)
+        → known (map (body.parameter t) params) ≡ Some types → (p : ℕ) (place : Position)
+        → phylum_named t of.text ≡ Some p → body.function_mismatch t of params e ≡ Some place
+        → is_found spec p (type_of spec types (body.function_typed t params e).expr) ≡ false }
+    ensures transforms { (t : Table) (spec : Spec) → HasTable t spec → HasShapes spec → (n : Name) (q : Pattern)
+        (e : Expr) (types : List ℕ) → AreKnown t (in_transform n q e) → (p : ℕ) (place : Position)
+        → phylum_named t n.text ≡ Some p → bound_types spec (recorded t q) p ≡ Some types
+        → body.transform_mismatch t n q e ≡ Some place
+        → is_found spec p (type_of spec types (body.transform_typed t n q e).expr) ≡ false }
+    ensures productions { (t : Table) (spec : Spec) → HasTable t spec → HasShapes spec → (n : Name) (r : Right)
+        (types : List ℕ) → AreKnown t (right_uses n.text r) → AreOutside t (OfProduction n.text r.parts) types
+        → (p : ℕ) (place : Position) → body.result_type t n ≡ Some p → body.right_mismatch t n r ≡ Some place
+        → is_found spec p (type_of spec types (body.right_typed t n r).expr) ≡ false }
 {}
 
 /// Where the shapes are sound, each list phylum has its binary operator.
