@@ -8,7 +8,7 @@ use Rattle.sg_replies.specs.Calls.{ShelfState, Replied, Served, ServedOrOneMore}
 use Rattle.sg_replies.specs.Requests.{Request, Keep}
 use Rattle.sg_replies.specs.declared.reply.Reply.{Reply}
 use Rattle.sg_replies.proofs.Laws.{served_one, none_or_one_more, unanswered_one_more}
-use Rattle.sg_outside.proofs.Tally.{tallied-zero}
+use Rattle.sg_outside.proofs.Tally.{answered_by-zero}
 use Rattle.sg_screen.specs.declared.message.Message.{Message}
 use Rattle.sg_editor.specs.Ask.{Ask, Step, Tells, Asks, says, keeps, said_of_keep}
 use Rattle.sg_editor.specs.Editing.{Editing, session_in, session_of}
@@ -17,7 +17,7 @@ use Rattle.sg_editor.proofs.Taken.{none_some, said}
 
 -- no call was made
 not_served : (s : ShelfState) → Served s [] [] s
-not_served s = record { files = refl; faults = omega arith; later = omega arith; calls = sym (tallied-zero s.calls) }
+not_served s = record { files = refl; faults = omega arith; later = omega arith; calls = sym (answered_by-zero s.calls) }
 
 pub of_kept : (e : Editing) → session_of e ≡ session_in e.kept
 unfolding session_of

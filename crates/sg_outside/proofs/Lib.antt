@@ -1,4 +1,3 @@
 pub mod FileSearch
-pub mod Failing
 pub mod Tally
 pub mod Untold

@@ -2,16 +2,19 @@
 use Rattle.std.specs.Prelude.{ℕ, List, [], take, unwrap_or, refl}
 use Rattle.std.specs.FinMap.{get}
 use Rattle.std.specs.Coded.{Coded, code_by, coded×, coded_ℕ}
+use Rattle.sg_outside.specs.Count.{Calls}
 use Rattle.sg_outside.specs.Shelf.{Files, files_code}
 
 pub record UnfailingShelf : Type 0 where
   pub files : Files
-  -- how many calls there were
-  pub calls : ℕ
+  -- the calls that there were
+  pub calls : Calls
 
--- it is stored as the pair of its parts
+-- it is stored as the pairs of its parts
 abbrev pub unfailing_shelf_code : Coded UnfailingShelf
-unfailing_shelf_code = code_by (Files × ℕ) (coded× files_code coded_ℕ) (λ s. (s.files, s.calls)) (λ p. record { files = p.0; calls = p.1 }) (λ _. refl)
+unfailing_shelf_code =
+    code_by (Files × (ℕ × ℕ)) (coded× files_code (coded× coded_ℕ coded_ℕ)) (λ s. (s.files, (s.calls.answered, s.calls.unanswered)))
+    (λ p. record { files = p.0; calls = record { answered = p.1.0; unanswered = p.1.1 } }) (λ _. refl)
 
 -- the first `most` bytes of the file of that name, and where there is none those of the empty file
 abbrev pub front_or_empty : Files → List ℕ → ℕ → List ℕ

@@ -1,7 +1,7 @@
 // A shelf in memory whose calls fail at given numbers.
 ghost use Rattle.std.specs.Prelude.{◌≡◌, ◌≤◌, ◌↔◌, Some, vec_len, IfOk, OnOk, OnErr, IsErrOf, IsTrue};
 ghost use Rattle.std.specs.FinMap.{insert};
-ghost use Rattle.sg_outside.specs.Count.{Rose, raised};
+ghost use Rattle.sg_outside.specs.Count.{Rose, raised, more_answered, one_unanswered};
 ghost use Rattle.sg_outside.specs.Shelf.{Fetches, files_from};
 ghost use Rattle.sg_outside.specs.MemShelf.{IsDue, FailsFetch};
 
@@ -10,14 +10,15 @@ use crate::{NoMemory, Shelf, ShelfError};
 use std::alloc::Global;
 use std::marker::Model;
 
-/// A shelf in memory, which tells its files and its calls. Its calls are numbered from 1, and
+/// A shelf in memory, which tells its files and its calls. All its calls are numbered from 1, and
 /// from 2^64 - 1 on the number stays. A call fails where its number is listed, and a fetch where
 /// the name is not there.
 #[derive(Drop)]
 pub struct MemShelf {
     log: FileLog,
     fails: Vec<u64>,
-    calls: u64,
+    answered: u64,
+    unanswered: u64,
     faults: u64,
 }
 
@@ -28,7 +29,12 @@ impl Model for MemShelf {
 
     ghost coded = { numbered_shelf_code };
 
-    ghost view = { λ s. record { files = s.log; fails = s.fails.items; calls = s.calls; faults = s.faults } };
+    ghost view = { λ s. record {
+      files = s.log;
+      fails = s.fails.items;
+      calls = record { answered = s.answered; unanswered = s.unanswered };
+      faults = s.faults;
+    } };
 }
 
 impl MemShelf {
@@ -41,33 +47,54 @@ impl MemShelf {
     ) -> Result<Self, NoMemory>
         ensures files { IfOk result (λ shelf. shelf.files ≡ files_from files.items) }
         ensures fails { IfOk result (λ shelf. shelf.fails ≡ fails.items) }
-        ensures calls { IfOk result (λ shelf. shelf.calls ≡ 0) }
+        ensures answered { IfOk result (λ shelf. shelf.calls.answered ≡ 0) }
+        ensures unanswered { IfOk result (λ shelf. shelf.calls.unanswered ≡ 0) }
         ensures faults { IfOk result (λ shelf. shelf.faults ≡ 0) }
     {
         Ok(MemShelf {
             log: FileLog::new(alloc, files)?,
             fails,
-            calls: 0,
+            answered: 0,
+            unanswered: 0,
             faults: 0,
         })
     }
 
-    // Counts one call, and answers whether it is to fail.
-    fn is_due(&mut self) -> bool
-        ensures due { IsTrue result ↔ IsDue self.old }
-        ensures counted { self.new ≡ record self.old { calls = raised self.old.calls } }
+    // Whether the next call is to fail.
+    fn is_due(&self) -> bool
+        ensures { IsTrue result ↔ IsDue self.now }
     {
-        self.calls = self.calls.saturating_add(1);
-        self.fails.contains(&self.calls)
+        let made = self.answered.saturating_add(self.unanswered);
+        self.fails.contains(&made.saturating_add(1))
     }
 
+    fn answer(&mut self)
+        ensures { self.new ≡ record self.old { calls = more_answered 1 self.old.calls } }
+    {
+        self.answered = self.answered.saturating_add(1);
+    }
+
+    // Counts a call that failed, which is an answer.
     fn fail(&mut self) -> ShelfError
         ensures failed { result ≡ ShelfError.Failed }
-        ensures counted { self.new ≡ record self.old { faults = raised self.old.faults } }
+        ensures counted { self.new ≡ record self.old {
+          calls = more_answered 1 self.old.calls;
+          faults = raised self.old.faults;
+        } }
         ensures later { self.old.faults ≤ self.new.faults }
     {
+        self.answer();
         self.faults = self.faults.saturating_add(1);
         ShelfError::Failed
+    }
+
+    // Counts a call for which there was no memory.
+    fn miss(&mut self) -> ShelfError
+        ensures memory { result ≡ ShelfError.NoMemory }
+        ensures counted { self.new ≡ record self.old { calls = one_unanswered self.old.calls } }
+    {
+        self.unanswered = self.unanswered.saturating_add(1);
+        ShelfError::NoMemory
     }
 }
 
@@ -84,7 +111,8 @@ impl Shelf for MemShelf {
         ensures failed { IsErrOf result ShelfError.Failed ↔ FailsFetch self.old name.now }
         ensures same { self.new.files ≡ self.old.files }
         ensures fails { self.new.fails ≡ self.old.fails }
-        ensures calls { self.new.calls ≡ raised self.old.calls }
+        ensures answered { (IsErrOf result ShelfError.NoMemory → ⊥) → self.new.calls ≡ more_answered 1 self.old.calls }
+        ensures unanswered { IsErrOf result ShelfError.NoMemory → self.new.calls ≡ one_unanswered self.old.calls }
         ensures risen { IsErrOf result ShelfError.Failed → self.new.faults ≡ raised self.old.faults }
         ensures quiet { (IsErrOf result ShelfError.Failed → ⊥) → self.new.faults ≡ self.old.faults }
         ensures later { self.old.faults ≤ self.new.faults }
@@ -93,10 +121,14 @@ impl Shelf for MemShelf {
         if self.is_due() {
             return Err(self.fail());
         }
-        match self.log.get(name) {
-            Some(bytes) => Ok(front(alloc, bytes, most)?),
-            None => Err(self.fail()),
-        }
+        let Some(bytes) = self.log.get(name) else {
+            return Err(self.fail());
+        };
+        let Ok(bytes) = front(alloc, bytes, most) else {
+            return Err(self.miss());
+        };
+        self.answer();
+        Ok(bytes)
     }
 
     fn keep(&mut self, name: &str, bytes: &[u8]) -> Result<(), ShelfError>
@@ -104,7 +136,8 @@ impl Shelf for MemShelf {
         ensures err { OnErr result (self.new.files ≡ self.old.files) }
         ensures failed { IsErrOf result ShelfError.Failed ↔ IsDue self.old }
         ensures fails { self.new.fails ≡ self.old.fails }
-        ensures calls { self.new.calls ≡ raised self.old.calls }
+        ensures answered { (IsErrOf result ShelfError.NoMemory → ⊥) → self.new.calls ≡ more_answered 1 self.old.calls }
+        ensures unanswered { IsErrOf result ShelfError.NoMemory → self.new.calls ≡ one_unanswered self.old.calls }
         ensures risen { IsErrOf result ShelfError.Failed → self.new.faults ≡ raised self.old.faults }
         ensures quiet { (IsErrOf result ShelfError.Failed → ⊥) → self.new.faults ≡ self.old.faults }
         ensures later { self.old.faults ≤ self.new.faults }
@@ -113,7 +146,10 @@ impl Shelf for MemShelf {
         if self.is_due() {
             return Err(self.fail());
         }
-        self.log.insert(name, bytes)?;
+        if self.log.insert(name, bytes).is_err() {
+            return Err(self.miss());
+        }
+        self.answer();
         Ok(())
     }
 }

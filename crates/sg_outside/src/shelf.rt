@@ -1,7 +1,7 @@
 // A shelf of files.
 ghost use Rattle.std.specs.Prelude.{◌≡◌, ◌≤◌, ℕ, vec_len, IfOk, OnOk, OnErr, IsErrOf, Option};
 ghost use Rattle.sg_outside.specs.declared.shelf.ShelfError.TheVariants.{NoMemory as OutOfMemory};
-ghost use Rattle.sg_outside.specs.Count.{Rose, tallied};
+ghost use Rattle.sg_outside.specs.Count.{Calls, Rose, answered_by, unanswered_once};
 ghost use Rattle.sg_outside.specs.Shelf.{Files, Fetches, kept};
 
 use std::alloc::{AllocError, AllocFailed, Global};
@@ -42,8 +42,9 @@ pub trait Shelf {
     /// How often a call failed; it stays at 2^64 - 1.
     ghost faults: { Self → ℕ };
 
-    /// How often it was called, where the shelf tells it; it stays at 2^64 - 1.
-    ghost calls: { Self → Option ℕ };
+    /// How many of its calls were answered, and how many had no answer for want of memory, where
+    /// the shelf tells it. Each of the two counts stays at 2^64 - 1.
+    ghost calls: { Self → Option Calls };
 
     /// The first `most` bytes of the file of that name, or the whole file where it is shorter.
     /// A shelf that tells its files never answers so for a name that is not there.
@@ -53,7 +54,8 @@ pub trait Shelf {
         ensures same { files self.new ≡ files self.old }
         ensures later { faults self.old ≤ faults self.new }
         ensures cause { IsErrOf result ShelfError.Failed → Rose (faults self.old) (faults self.new) }
-        ensures counted { calls self.new ≡ tallied 1 (calls self.old) };
+        ensures answered { (IsErrOf result ShelfError.NoMemory → ⊥) → calls self.new ≡ answered_by 1 (calls self.old) }
+        ensures unanswered { IsErrOf result ShelfError.NoMemory → calls self.new ≡ unanswered_once (calls self.old) };
 
     /// Puts a file of that name and these bytes on the shelf, in the place of the one before.
     /// After a refusal the files are as before, where the shelf tells them.
@@ -62,5 +64,6 @@ pub trait Shelf {
         ensures err { OnErr result (files self.new ≡ files self.old) }
         ensures later { faults self.old ≤ faults self.new }
         ensures cause { IsErrOf result ShelfError.Failed → Rose (faults self.old) (faults self.new) }
-        ensures counted { calls self.new ≡ tallied 1 (calls self.old) };
+        ensures answered { (IsErrOf result ShelfError.NoMemory → ⊥) → calls self.new ≡ answered_by 1 (calls self.old) }
+        ensures unanswered { IsErrOf result ShelfError.NoMemory → calls self.new ≡ unanswered_once (calls self.old) };
 }

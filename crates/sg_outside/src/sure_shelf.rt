@@ -1,7 +1,7 @@
 // A shelf in memory that never fails.
 ghost use Rattle.std.specs.Prelude.{◌≡◌, ◌≤◌, Some, None, vec_len, IfOk, OnOk, OnErr, IsErrOf};
 ghost use Rattle.std.specs.FinMap.{insert};
-ghost use Rattle.sg_outside.specs.Count.{raised};
+ghost use Rattle.sg_outside.specs.Count.{more_answered, one_unanswered};
 ghost use Rattle.sg_outside.specs.Shelf.{files_from};
 ghost use Rattle.sg_outside.specs.SureShelf.{front_or_empty};
 
@@ -15,7 +15,8 @@ use std::marker::Model;
 #[derive(Drop)]
 pub struct SureShelf {
     log: FileLog,
-    calls: u64,
+    answered: u64,
+    unanswered: u64,
 }
 
 impl Model for SureShelf {
@@ -25,19 +26,38 @@ impl Model for SureShelf {
 
     ghost coded = { unfailing_shelf_code };
 
-    ghost view = { λ s. record { files = s.log; calls = s.calls } };
+    ghost view = { λ s. record { files = s.log; calls = record { answered = s.answered; unanswered = s.unanswered } } };
 }
 
 impl SureShelf {
     /// A shelf of these files, of which the last of a name counts.
     pub fn new(alloc: Global, files: Vec<(String, Vec<u8>)>) -> Result<Self, NoMemory>
         ensures files { IfOk result (λ shelf. shelf.files ≡ files_from files.items) }
-        ensures calls { IfOk result (λ shelf. shelf.calls ≡ 0) }
+        ensures answered { IfOk result (λ shelf. shelf.calls.answered ≡ 0) }
+        ensures unanswered { IfOk result (λ shelf. shelf.calls.unanswered ≡ 0) }
     {
         Ok(SureShelf {
             log: FileLog::new(alloc, files)?,
-            calls: 0,
+            answered: 0,
+            unanswered: 0,
         })
+    }
+
+    fn answer(&mut self)
+        ensures files { self.new.files ≡ self.old.files }
+        ensures calls { self.new.calls ≡ more_answered 1 self.old.calls }
+    {
+        self.answered = self.answered.saturating_add(1);
+    }
+
+    // Counts a call for which there was no memory.
+    fn miss(&mut self) -> ShelfError
+        ensures memory { result ≡ ShelfError.NoMemory }
+        ensures files { self.new.files ≡ self.old.files }
+        ensures calls { self.new.calls ≡ one_unanswered self.old.calls }
+    {
+        self.unanswered = self.unanswered.saturating_add(1);
+        ShelfError::NoMemory
     }
 }
 
@@ -52,20 +72,28 @@ impl Shelf for SureShelf {
         ensures bound { IfOk result (λ bytes. vec_len bytes ≤ most) }
         ensures content { IfOk result (λ bytes. bytes.items ≡ front_or_empty self.old.files name.now most) }
         ensures sure { IsErrOf result ShelfError.Failed → ⊥ }
-        ensures same { self.new ≡ record self.old { calls = raised self.old.calls } }
+        ensures same { self.new.files ≡ self.old.files }
+        ensures answered { (IsErrOf result ShelfError.NoMemory → ⊥) → self.new.calls ≡ more_answered 1 self.old.calls }
+        ensures unanswered { IsErrOf result ShelfError.NoMemory → self.new.calls ≡ one_unanswered self.old.calls }
     {
-        self.calls = self.calls.saturating_add(1);
-        Ok(front(alloc, self.log.get(name).unwrap_or(&[]), most)?)
+        let Ok(bytes) = front(alloc, self.log.get(name).unwrap_or(&[]), most) else {
+            return Err(self.miss());
+        };
+        self.answer();
+        Ok(bytes)
     }
 
     fn keep(&mut self, name: &str, bytes: &[u8]) -> Result<(), ShelfError>
         ensures ok { OnOk result (self.new.files ≡ insert self.old.files name.now bytes.now) }
         ensures err { OnErr result (self.new.files ≡ self.old.files) }
         ensures sure { IsErrOf result ShelfError.Failed → ⊥ }
-        ensures calls { self.new.calls ≡ raised self.old.calls }
+        ensures answered { (IsErrOf result ShelfError.NoMemory → ⊥) → self.new.calls ≡ more_answered 1 self.old.calls }
+        ensures unanswered { IsErrOf result ShelfError.NoMemory → self.new.calls ≡ one_unanswered self.old.calls }
     {
-        self.calls = self.calls.saturating_add(1);
-        self.log.insert(name, bytes)?;
+        if self.log.insert(name, bytes).is_err() {
+            return Err(self.miss());
+        }
+        self.answer();
         Ok(())
     }
 }

@@ -1,8 +1,8 @@
 -- Calls of a shelf one after another
-use Rattle.std.proofs.Common.{◌≡◌, ◌≤◌, inl, inr, ℕ, ◌+◌, zero, suc, List, [], ◌∷◌, ◌++◌, length, Option, refl, sym, ap, ◌∙◌, subst, arith, length-append, add_assoc, add-zero}
+use Rattle.std.proofs.Common.{◌≡◌, ◌≤◌, inl, inr, ℕ, ◌+◌, zero, suc, List, [], ◌∷◌, ◌++◌, length, Option, refl, sym, ap, ◌∙◌, subst, arith, length-append, add-zero}
 use Rattle.sg_outside.specs.Shelf.{Files}
-use Rattle.sg_outside.specs.Count.{raised, raised_by, tallied, Rose}
-use Rattle.sg_outside.proofs.Tally.{raised_by-raised_by, tallied-zero, tallied-tallied}
+use Rattle.sg_outside.specs.Count.{Calls, raised, raised_by, answered_by, unanswered_once, Rose}
+use Rattle.sg_outside.proofs.Tally.{raised_by-raised_by, answered_by-zero, answered_by-answered_by}
 use Rattle.sg_replies.specs.declared.reply.Reply.{Reply}
 use Rattle.sg_replies.specs.Requests.{Request, files_after, failure, failures, Serves}
 use Rattle.sg_replies.specs.Counts.{CallsOrOneMore}
@@ -32,16 +32,16 @@ faults_then m n old between new p q =
     let h = raised_by-≤ n (raised_by m old) between p in
     let e = raised_by-raised_by m n old in omega (arith, h, e, q)
 
--- so many calls, and then so many more
-pub calls_then : (m n : ℕ) (old between new : Option ℕ) → between ≡ tallied m old → new ≡ tallied n between → new ≡ tallied (m + n) old
-calls_then m n old between new e f = f ∙ ap (λ (c : Option ℕ). tallied n c) e ∙ tallied-tallied m n old
+-- so many answered calls, and then so many more
+pub calls_then : (m n : ℕ) (old between new : Option Calls) → between ≡ answered_by m old → new ≡ answered_by n between → new ≡ answered_by (m + n) old
+calls_then m n old between new e f = f ∙ ap (λ (c : Option Calls). answered_by n c) e ∙ answered_by-answered_by m n old
 
--- so many calls, and then so many more or one more than that
-pub calls_or_one_more_then : (M M' : Type 0) (m n : ℕ) (old between new : Option ℕ) → (M → M') → between ≡ tallied m old → CallsOrOneMore M n between new
+-- so many answered calls, and then so many more, and perhaps one that was not answered
+pub calls_or_one_more_then : (M M' : Type 0) (m n : ℕ) (old between new : Option Calls) → (M → M') → between ≡ answered_by m old → CallsOrOneMore M n between new
     → CallsOrOneMore M' (m + n) old new
 calls_or_one_more_then M M' m n old between new more e (inl f) = inl (calls_then m n old between new e f)
 calls_or_one_more_then M M' m n old between new more e (inr f) =
-    inr (more f.0, calls_then m (n + 1) old between new e f.1 ∙ ap (λ (k : ℕ). tallied k old) (sym (add_assoc m n 1)))
+    inr (more f.0, f.1 ∙ ap (λ (c : Option Calls). unanswered_once c) (calls_then m n old between (answered_by n between) e refl))
 
 -- without a reply the files are as before, where one request at most is made
 pub Serves-nil : (requests : List Request) (old new : Option Files) → length requests ≤ 1 → new ≡ old → Serves old requests [] new
@@ -74,7 +74,7 @@ served_then old between new qs qs' rs rs' e p q = record {
   faults = subst (λ (n : ℕ). raised_by n old.faults ≤ new.faults) (sym (failures-append rs rs')) (faults_then (failures rs) (failures rs') old.faults between.faults new.faults p.faults q.faults);
   later = let l = p.later in let k = q.later in omega arith;
   calls = calls_then (length rs) (length rs') old.calls between.calls new.calls p.calls q.calls
-      ∙ ap (λ (n : ℕ). tallied n old.calls) (sym (length-append rs rs'));
+      ∙ ap (λ (n : ℕ). answered_by n old.calls) (sym (length-append rs rs'));
 }
 
 -- the replies to these requests, and then those to more requests, and perhaps one more call
@@ -95,7 +95,7 @@ none_or_one_more requests s most = record {
   files = Serves-nil requests s.files s.files most refl;
   faults = omega arith;
   later = omega arith;
-  calls = inl (sym (tallied-zero s.calls));
+  calls = inl (sym (answered_by-zero s.calls));
 }
 
 -- no call brought a reply: one was made, and there was no memory
@@ -104,5 +104,5 @@ unanswered_one_more request old new u = record {
   files = u.files;
   faults = let l = u.later in omega (arith, l);
   later = u.later;
-  calls = inr (refl, u.calls);
+  calls = inr (refl, u.calls ∙ ap (λ (c : Option Calls). unanswered_once c) (sym (answered_by-zero old.calls)));
 }

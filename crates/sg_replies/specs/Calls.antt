@@ -1,18 +1,18 @@
 -- One call of a shelf
 use Rattle.std.specs.Prelude.{◌≡◌, ◌≤◌, ◌+◌, ℕ, List, length, Option, IsTrue}
 use Rattle.sg_outside.specs.Shelf.{Files}
-use Rattle.sg_outside.specs.Count.{raised_by, tallied}
+use Rattle.sg_outside.specs.Count.{Calls, raised_by, answered_by, unanswered_once}
 use Rattle.sg_replies.specs.declared.reply.Reply.{Reply}
 use Rattle.sg_replies.specs.Requests.{Request, fits, Answers, files_after, failure, failures, Serves}
 use Rattle.sg_replies.specs.Counts.{CallsOrOneMore}
 
--- what is known of a shelf: its files, its count of failures, and how often it was called
+-- what is known of a shelf: its files, its count of failures, and how many of its calls were answered and how many not
 pub record ShelfState : Type 0 where
   pub files : Option Files
   pub faults : ℕ
-  pub calls : Option ℕ
+  pub calls : Option Calls
 
-abbrev pub shelf_state : Option Files → ℕ → Option ℕ → ShelfState
+abbrev pub shelf_state : Option Files → ℕ → Option Calls → ShelfState
 shelf_state files faults calls = record { files = files; faults = faults; calls = calls }
 
 -- the shelf was called once, by this request, and gave this reply
@@ -22,22 +22,22 @@ pub record Replied (request : Request) (reply : Reply) (old new : ShelfState) : 
   pub files : new.files ≡ files_after old.files request reply
   pub faults : raised_by (failure reply) old.faults ≤ new.faults
   pub later : old.faults ≤ new.faults
-  pub calls : new.calls ≡ tallied 1 old.calls
+  pub calls : new.calls ≡ answered_by 1 old.calls
 
 -- the shelf was called once, and had no memory
 pub record Unanswered (old new : ShelfState) : Type 0 where
   pub files : new.files ≡ old.files
   pub later : old.faults ≤ new.faults
-  pub calls : new.calls ≡ tallied 1 old.calls
+  pub calls : new.calls ≡ unanswered_once old.calls
 
--- the shelf was called once for each reply; these are its replies to the requests in turn, each failure counted
+-- the shelf was called once for each reply; these are its answers to the requests in turn, each failure counted
 pub record Served (old : ShelfState) (requests : List Request) (replies : List Reply) (new : ShelfState) : Type 0 where
   pub files : Serves old.files requests replies new.files
   pub faults : raised_by (failures replies) old.faults ≤ new.faults
   pub later : old.faults ≤ new.faults
-  pub calls : new.calls ≡ tallied (length replies) old.calls
+  pub calls : new.calls ≡ answered_by (length replies) old.calls
 
--- the same, but that the shelf may have been called for a last request without a reply too
+-- the same, but that the shelf may have been called for a last request without a reply too, and had no memory then
 pub record ServedOrOneMore (old : ShelfState) (requests : List Request) (replies : List Reply)
     (new : ShelfState) : Type 0 where
   pub files : Serves old.files requests replies new.files

@@ -1,7 +1,8 @@
 -- Counts of calls
-use Rattle.std.specs.Prelude.{◌≡◌, ◌+◌, ◌⊎◌, ℕ, Option}
-use Rattle.sg_outside.specs.Count.{tallied}
+use Rattle.std.specs.Prelude.{◌≡◌, ◌⊎◌, ℕ, Option}
+use Rattle.sg_outside.specs.Count.{Calls, answered_by, unanswered_once}
 
--- there were so many calls, or, where More holds, one more
-abbrev pub CallsOrOneMore : Type 0 → ℕ → Option ℕ → Option ℕ → Type 0
-CallsOrOneMore More n old new = (new ≡ tallied n old) ⊎ (More × (new ≡ tallied (n + 1) old))
+-- so many calls were answered, and there was no other, or, where More holds, one more, which was not answered
+abbrev pub CallsOrOneMore : Type 0 → ℕ → Option Calls → Option Calls → Type 0
+CallsOrOneMore More n old new =
+    (new ≡ answered_by n old) ⊎ (More × (new ≡ unanswered_once (answered_by n old)))

@@ -8,5 +8,6 @@ keep-tells g c = record {
   err = on_err c.result refl;
   later = c.ensures.later;
   cause = c.ensures.cause;
-  counted = refl;
+  answered = λ _. refl;
+  unanswered = λ _. refl;
 }
