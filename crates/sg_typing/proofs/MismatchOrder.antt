@@ -1,11 +1,11 @@
 -- All mismatches stand in the order of the text.
-use Rattle.std.proofs.Common.{◌≡◌, refl, sym, ap, subst, ◌∙◌, ℕ, zero, suc, ◌+◌, ◌≤◌, Bool, true, false, List, [], ◌∷◌, ◌++◌, map, Option, Some, None, arith}
-use Rattle.std.specs.Prelude.{flat_map, if◌then◌else◌}
+use Rattle.std.proofs.Common.{◌≡◌, refl, sym, ap, subst, ◌∙◌, ℕ, ◌+◌, ◌≤◌, Bool, true, false, List, [], ◌∷◌, ◌++◌, map, Option, Some, None, arith}
+use Rattle.std.specs.Prelude.{flat_map}
 use Rattle.std.specs.List.{AllByRecursion, join_by}
 use Rattle.sg_kinds.specs.Specification.{truths, numbers, texts}
 use Rattle.sg_kinds.specs.declared.fault.Position.{Position}
 use Rattle.sg_ast.specs.Chains.{expr_place, occurrence_place}
-use Rattle.sg_ast.specs.Declarations.{Decl, Equation, Right, Root, Listed, Optional, Operators, LexemeOf, Attributes, Equations, Schemes, Function, Transform, Productions, Entry}
+use Rattle.sg_ast.specs.Declarations.{Decl, Equation, Right, Equations, Function, Transform, Productions}
 use Rattle.sg_ast.specs.Expressions.{Expr, Exprs, Cases, Amount, Chars, Truth, Variable, Attribute, MadeOf, Paren, Single, Binary, Choice, Call, Let, With, NoExpr, AndExpr, NoCase, Default, Case}
 use Rattle.sg_ast.specs.Patterns as p
 use Rattle.sg_ast.specs.Patterns.{Pattern, Patterns, NoPattern, AndPattern}
@@ -21,8 +21,7 @@ use Rattle.sg_names.specs.Names.{op_named}
 use Rattle.sg_names.specs.Uses.{uses}
 use Rattle.sg_names.specs.declared.table.Table.{Table}
 use Rattle.sg_types.specs.Bindings.{Owner, OfProduction, OfNothing, reference_at, type_there, variable_at}
-use Rattle.sg_types.specs.Expressions.{params_in, prefix_type, taken, type_in}
-use Rattle.sg_types.specs.Patterns as pattern
+use Rattle.sg_types.specs.Expressions.{params_in, prefix_type, type_in}
 use Rattle.sg_types.specs.Patterns.{is_operator_of, parts_of, variables_of}
 use Rattle.sg_types.specs.Types.{do_agree, fits_where, list_of, unless, untyped}
 use Rattle.sg_types.specs.declared.scope.Variable as vars
