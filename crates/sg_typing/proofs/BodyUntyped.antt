@@ -18,22 +18,22 @@ use Rattle.sg_ast.specs.declared.name.Name.{Name}
 use Rattle.sg_ast.specs.declared.name.Typed.{Typed}
 use Rattle.sg_names.specs.Drafted.{HasTable, drafted}
 use Rattle.sg_names.specs.Lookups.{phylum_named}
-use Rattle.sg_names.specs.Uses.{InOperator, InProduction, Elsewhere, Use, UsesPhylum, equation_uses, expr_uses, in_function, in_transform, local_scope, params_scope, params_uses, part_uses, pattern_scope, pattern_uses, right_uses, target_uses, with_variable}
+use Rattle.sg_names.specs.Uses.{InOperator, InProduction, Elsewhere, UsesPhylum, equation_uses, expr_uses, in_function, in_transform, local_scope, params_scope, params_uses, part_uses, pattern_scope, pattern_uses, right_uses, target_uses, with_variable}
 use Rattle.sg_names.specs.declared.table.Table.{Table}
 use Rattle.sg_names.proofs.DraftedLaws.{bound_kept, type_kept, types_kept}
-use Rattle.sg_types.specs.Bindings.{Owner, OfEquation, OfProduction, OfNothing}
+use Rattle.sg_types.specs.Bindings.{Owner, OfProduction, OfNothing}
 use Rattle.sg_types.specs.Expressions.{type_in, mismatch_in, mismatch_at, recorded}
 use Rattle.sg_types.specs.Patterns as pattern
 use Rattle.sg_types.specs.declared.scope.Variable.{Variable}
 use Rattle.sg_typing.specs.Arguments.{args_in}
 use Rattle.sg_typing.specs.Bodies.{equation_mismatch, equation_owner, equation_typed, function_mismatch, function_typed, parameter, result_type, right_mismatch, right_typed, target_type, transform_mismatch, transform_typed}
-use Rattle.sg_typing.specs.Known.{AreAmong, AreKnown, HasArguments, SeesVariables, names_of, names_outside, site_of}
+use Rattle.sg_typing.specs.Known.{AreAmong, AreKnown, HasArguments, SeesVariables, names_of, site_of}
 use Rattle.sg_typing.specs.Written.{AreOutside, known}
 use Rattle.sg_typing.proofs.BodyTyped.{found_kept}
 use Rattle.sg_typing.proofs.ExprsFit.{HasMeaning, expr_fits, found_parts, wanted_none}
 use Rattle.sg_typing.proofs.ListsThere.{lists_told}
 use Rattle.sg_typing.proofs.NamesMean.{among_one, body_means, known_first, known_parts, pattern_among, pattern_means}
-use Rattle.sg_typing.proofs.PatternsFit.{Means, pattern_fits}
+use Rattle.sg_typing.proofs.PatternsFit.{pattern_fits}
 use Rattle.sg_typing.proofs.TableFacts.{callables_known, equation_outside, usable_is}
 
 -- a pattern with a mismatch binds nothing

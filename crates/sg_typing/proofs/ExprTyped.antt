@@ -1,5 +1,5 @@
 -- Expressions of the record have the types that were found, where nothing mismatches.
-use Rattle.std.proofs.Common.{◌≡◌, refl, sym, ap, subst, ◌∙◌, ℕ, zero, suc, ◌+◌, Bool, true, false, List, [], ◌∷◌, ◌++◌, map, Option, Some, None, slice_get, append_assoc}
+use Rattle.std.proofs.Common.{◌≡◌, refl, sym, ap, subst, ◌∙◌, ℕ, zero, suc, Bool, true, false, List, [], ◌∷◌, ◌++◌, map, Option, Some, None, slice_get, append_assoc}
 use Rattle.std.specs.Prelude.{◌^◌, option_map, option_and_then, unwrap_or, is_some}
 use Rattle.std.proofs.lemmas.Bool.{and_parts}
 use Rattle.sg_kinds.proofs.Elementary.{eq_itself, lt_true, slice_get-before, slice_get-behind}

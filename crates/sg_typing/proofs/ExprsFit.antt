@@ -1,8 +1,8 @@
 -- An expression that has a type in the record has no mismatch, where its names mean something.
-use Rattle.std.proofs.Common.{◌≡◌, refl, sym, ap, subst, ◌∙◌, ℕ, zero, suc, Bool, true, false, cond, inl, inr, List, [], ◌∷◌, ◌++◌, map, length, Option, Some, None, slice_get, append_assoc}
+use Rattle.std.proofs.Common.{◌≡◌, refl, sym, ap, subst, ◌∙◌, ℕ, Bool, true, false, cond, inl, inr, List, [], ◌∷◌, ◌++◌, length, Option, Some, None, slice_get, append_assoc}
 use Rattle.std.specs.Prelude.{is_some, nat_eq, option_map, option_and_then, unwrap_or, ⊤, ◌&&◌, ◌⊎◌, pos}
 use Rattle.std.proofs.lemmas.Bool.{and_parts}
-use Rattle.std.proofs.lemmas.Option.{cond_some, slice_get-map}
+use Rattle.std.proofs.lemmas.Option.{slice_get-map}
 use Rattle.sg_kinds.proofs.Elementary.{some_there, and_true, or_one, eq_is}
 use Rattle.sg_kinds.specs.Values.{is_text, is_number}
 use Rattle.sg_kinds.specs.Specification.{truths, numbers, texts, args_of, phylum_of, has_shape, is_list_shape, is_lexical_shape}
@@ -27,13 +27,13 @@ use Rattle.sg_names.specs.Lookups as look
 use Rattle.sg_names.specs.Drafted.{drafted, without_body}
 use Rattle.sg_names.specs.Uses.{exprs_count}
 use Rattle.sg_types.specs.declared.scope.Variable as scope
-use Rattle.sg_types.specs.Types.{unless, untyped, fits_where, do_agree, list_of, list_at}
+use Rattle.sg_types.specs.Types.{unless, untyped, do_agree, list_of, list_at}
 use Rattle.sg_types.specs.Scopes.{found}
-use Rattle.sg_types.specs.Bindings.{Owner, outside, behind, reference_at, local_at, variable_at, type_there, place_there}
+use Rattle.sg_types.specs.Bindings.{Owner, reference_at, local_at, variable_at, type_there}
 use Rattle.sg_types.specs.Patterns.{variables_of}
 use Rattle.sg_types.specs.Patterns as pattern
 use Rattle.sg_types.specs.Expressions.{type_in, mismatch_in, mismatch_in_all, mismatch_in_cases, recorded, recorded_all, recorded_cases, where_wanted, at_infix, at_cons, sign_of, given, infix_at, infix_in, prefix_type, prefix_of, params_in, pair_in, called_in, called_type}
-use Rattle.sg_typing.specs.Written.{IsUsable, HasLists, AreOutside, IsCallable, AreCallable, is_builtin, known}
+use Rattle.sg_typing.specs.Written.{IsUsable, AreOutside, IsCallable, AreCallable, is_builtin, known}
 use Rattle.sg_typing.proofs.PatternsFit.{Means, is_unless, then_parts, if_parts, both_none, pattern_fits}
 use Rattle.sg_typing.proofs.NamesTyped.{variable_there, named_there}
 use Rattle.sg_typing.proofs.ListsThere.{ListsTold}

@@ -11,3 +11,4 @@ pub mod ExprsFit
 pub mod NamesMean
 pub mod BodyUntyped
 pub mod MismatchHead
+pub mod MismatchOrder

@@ -7,7 +7,7 @@ use Rattle.sg_kinds.specs.Specification.{truths, numbers, texts, locals_of}
 use Rattle.sg_kinds.specs.declared.fault.Position.{Position}
 use Rattle.sg_kinds.specs.declared.spec.Local.{Local}
 use Rattle.sg_ast.specs.Chains.{expr_place}
-use Rattle.sg_ast.specs.Declarations.{Decl, Equation, Right, Root, Listed, Optional, Operators, LexemeOf, Attributes, Equations, Schemes, Function, Transform, Productions, Entry}
+use Rattle.sg_ast.specs.Declarations.{Decl, Equation, Right, Equations, Function, Transform, Productions}
 use Rattle.sg_ast.specs.Expressions.{Expr, Exprs, Cases, Amount, Chars, Truth, Variable, Attribute, MadeOf, Paren, Single, Binary, Choice, Call, Let, With, NoExpr, AndExpr, NoCase, Default, Case}
 use Rattle.sg_ast.specs.FirstFault.{first, or_else}
 use Rattle.sg_ast.specs.Patterns as p
@@ -18,17 +18,17 @@ use Rattle.sg_ast.specs.declared.name.Name.{Name}
 use Rattle.sg_ast.specs.declared.name.Typed.{Typed}
 use Rattle.sg_names.specs.Lookups.{callable, operator_at, phylum_named, usable_named}
 use Rattle.sg_names.specs.Names.{op_named}
-use Rattle.sg_names.specs.UnknownName.{unknown_at, unless_known}
-use Rattle.sg_names.specs.Uses.{InOperator, InProduction, Elsewhere, Use, UsesPhylum, UsesOperator, decl_uses, equation_uses, equations_uses, expr_uses, exprs_count, local_scope, params_scope, params_uses, part_uses, pattern_scope, pattern_uses, patterns_count, right_uses, target_uses, uses, within}
+use Rattle.sg_names.specs.UnknownName.{unless_known}
+use Rattle.sg_names.specs.Uses.{InOperator, InProduction, Elsewhere, UsesPhylum, UsesOperator, decl_uses, equation_uses, equations_uses, expr_uses, exprs_count, local_scope, params_scope, params_uses, part_uses, pattern_scope, pattern_uses, patterns_count, right_uses, target_uses, uses, within}
 use Rattle.sg_names.specs.declared.table.Table.{Table}
 use Rattle.sg_types.specs.Bindings.{Owner, OfProduction, OfNothing}
-use Rattle.sg_types.specs.Expressions.{at_cons, at_infix, mismatch_at, mismatch_in, mismatch_in_all, mismatch_in_cases, params_in, prefix_type, taken, type_in, where_wanted}
+use Rattle.sg_types.specs.Expressions.{at_cons, at_infix, mismatch_at, mismatch_in, mismatch_in_all, mismatch_in_cases, params_in, prefix_type, type_in, where_wanted}
 use Rattle.sg_types.specs.Patterns as pattern
 use Rattle.sg_types.specs.Patterns.{is_operator_of, parts_of, variables_of}
 use Rattle.sg_types.specs.Types.{do_agree, fits_where, list_of, unless}
 use Rattle.sg_types.specs.declared.scope.Variable as vars
-use Rattle.sg_typing.specs.Bodies.{equation_mismatch, equation_owner, first_mismatch, mismatch_at_decl, operator, parameter, result_type, right_mismatch, target_type}
-use Rattle.sg_typing.specs.Known.{AreAmong, AreKnown, HasArguments, SeesVariables, names_of, names_outside, site_of}
+use Rattle.sg_typing.specs.Bodies.{equation_mismatch, equation_owner, first_mismatch, mismatch_at_decl, parameter, result_type, right_mismatch, target_type}
+use Rattle.sg_typing.specs.Known.{AreAmong, AreKnown, SeesVariables}
 use Rattle.sg_typing.specs.Mismatches.{and_here, listed, mismatches, of_body, of_cases, of_cons, of_decl, of_equation, of_expr, of_exprs, of_infix, of_pattern, of_patterns, of_right}
 use Rattle.sg_typing.proofs.BodyUntyped.{locals_among, none_among, params_among}
 use Rattle.sg_typing.proofs.ExprsFit.{HasMeaning, HaveMeaning, CasesMean}
@@ -125,8 +125,8 @@ module _ (t : Table) where
           let x = head_here t (Some truths) (type_in t w vs c) (expr_place c) (of_expr t w vs c) (mismatch_in t w vs c) (expr_head vs c m.0) in
           let z = head_here t (type_in t w vs a) (type_in t w vs b) (expr_place b) (of_expr t w vs b) (mismatch_in t w vs b) (expr_head vs b m.2) in
           head_both (and_here t (Some truths) (type_in t w vs c) (expr_place c) (of_expr t w vs c)) (of_expr t w vs a ++ and_here t (type_in t w vs a) (type_in t w vs b) (expr_place b) (of_expr t w vs b))
-              (where_wanted t (Some truths) (type_in t w vs c) (expr_place c) (mismatch_in t w vs c)) (or_else (mismatch_in t w vs a) (where_wanted t (type_in t w vs a) (type_in t w vs b) (expr_place b) (mismatch_in t w vs b))) x
-              (head_both (of_expr t w vs a) (and_here t (type_in t w vs a) (type_in t w vs b) (expr_place b) (of_expr t w vs b)) (mismatch_in t w vs a) (where_wanted t (type_in t w vs a) (type_in t w vs b) (expr_place b) (mismatch_in t w vs b)) (expr_head vs a m.1) z)
+          (where_wanted t (Some truths) (type_in t w vs c) (expr_place c) (mismatch_in t w vs c)) (or_else (mismatch_in t w vs a) (where_wanted t (type_in t w vs a) (type_in t w vs b) (expr_place b) (mismatch_in t w vs b))) x
+          (head_both (of_expr t w vs a) (and_here t (type_in t w vs a) (type_in t w vs b) (expr_place b) (of_expr t w vs b)) (mismatch_in t w vs a) (where_wanted t (type_in t w vs a) (type_in t w vs b) (expr_place b) (mismatch_in t w vs b)) (expr_head vs a m.1) z)
       expr_head vs (Call n es) m =
           let o = callable t n.text in
           exprs_head vs n.place es (params_in t o) (ap (λ o. length (params_in t o)) m.1 ∙ m.2) m.3
@@ -140,7 +140,7 @@ module _ (t : Table) where
           let x = head_both (of_expr t w us b) (of_cases t w vs o (type_in t w us b) cs) (mismatch_in t w us b) (mismatch_in_cases t w vs o (type_in t w us b) cs) (expr_head us b m.2) (cases_head vs o (type_in t w us b) cs m.3) in
           let y = head_both (of_pattern t q o) (of_expr t w us b ++ of_cases t w vs o (type_in t w us b) cs) (pattern.mismatch_in t q o) (or_else (mismatch_in t w us b) (mismatch_in_cases t w vs o (type_in t w us b) cs)) (pattern_head q o m.1) x in
           head_both (of_expr t w vs a) (of_pattern t q o ++ (of_expr t w us b ++ of_cases t w vs o (type_in t w us b) cs)) (mismatch_in t w vs a)
-              (or_else (pattern.mismatch_in t q o) (or_else (mismatch_in t w us b) (mismatch_in_cases t w vs o (type_in t w us b) cs))) (expr_head vs a m.0) y
+          (or_else (pattern.mismatch_in t q o) (or_else (mismatch_in t w us b) (mismatch_in_cases t w vs o (type_in t w us b) cs))) (expr_head vs a m.0) y
 
       exprs_head : (vs : List vars.Variable) (place : Position) (es : Exprs) (ps : List ℕ) → length ps ≡ exprs_count es → HaveMeaning t w vs es → head (of_exprs t w vs es ps) ≡ mismatch_in_all t w vs place es ps
       exprs_head vs place NoExpr [] n m = refl
@@ -149,7 +149,7 @@ module _ (t : Table) where
       exprs_head vs place (AndExpr e es) (p ∷ ps) n m =
           let fewer : length ps ≡ exprs_count es = cc in
           head_both (and_here t (Some p) (type_in t w vs e) (expr_place e) (of_expr t w vs e)) (of_exprs t w vs es ps) (where_wanted t (Some p) (type_in t w vs e) (expr_place e) (mismatch_in t w vs e)) (mismatch_in_all t w vs place es ps)
-              (head_here t (Some p) (type_in t w vs e) (expr_place e) (of_expr t w vs e) (mismatch_in t w vs e) (expr_head vs e m.0)) (exprs_head vs place es ps fewer m.1)
+          (head_here t (Some p) (type_in t w vs e) (expr_place e) (of_expr t w vs e) (mismatch_in t w vs e) (expr_head vs e m.0)) (exprs_head vs place es ps fewer m.1)
 
       cases_head : (vs : List vars.Variable) (o wanted : Option ℕ) (cs : Cases) → CasesMean t w vs o cs → head (of_cases t w vs o wanted cs) ≡ mismatch_in_cases t w vs o wanted cs
       cases_head vs o wanted NoCase m = refl
@@ -158,9 +158,9 @@ module _ (t : Table) where
           let us = vs ++ variables_of t q o in
           let x = head_here t wanted (type_in t w us e) (expr_place e) (of_expr t w us e) (mismatch_in t w us e) (expr_head us e m.1) in
           head_both (of_pattern t q o) (and_here t wanted (type_in t w us e) (expr_place e) (of_expr t w us e) ++ of_cases t w vs o wanted cs) (pattern.mismatch_in t q o)
-              (or_else (where_wanted t wanted (type_in t w us e) (expr_place e) (mismatch_in t w us e)) (mismatch_in_cases t w vs o wanted cs)) (pattern_head q o m.0)
-              (head_both (and_here t wanted (type_in t w us e) (expr_place e) (of_expr t w us e)) (of_cases t w vs o wanted cs) (where_wanted t wanted (type_in t w us e) (expr_place e) (mismatch_in t w us e)) (mismatch_in_cases t w vs o wanted cs) x
-                  (cases_head vs o wanted cs m.2))
+          (or_else (where_wanted t wanted (type_in t w us e) (expr_place e) (mismatch_in t w us e)) (mismatch_in_cases t w vs o wanted cs)) (pattern_head q o m.0)
+          (head_both (and_here t wanted (type_in t w us e) (expr_place e) (of_expr t w us e)) (of_cases t w vs o wanted cs) (where_wanted t wanted (type_in t w us e) (expr_place e) (mismatch_in t w us e)) (mismatch_in_cases t w vs o wanted cs) x
+          (cases_head vs o wanted cs m.2))
 
     body_head : (vs : List vars.Variable) (wanted : Option ℕ) (e : Expr) → HasMeaning t w vs e → head (of_body t w vs wanted e) ≡ mismatch_at t w vs wanted e
     body_head vs wanted e m = head_here t wanted (type_in t w vs e) (expr_place e) (of_expr t w vs e) (mismatch_in t w vs e) (expr_head vs e m)
@@ -213,7 +213,7 @@ module _ (t : Table) where
       let known = known_parts t (pattern_uses [] q) (expr_uses Elsewhere (pattern_scope [] q) e) c.2 in
       let m = pattern_means t [] q known.0 in
       head_both (of_pattern t q o) (of_body t OfNothing (variables_of t q o) o e) (pattern.mismatch_in t q o) (mismatch_at t OfNothing (variables_of t q o) o e) (pattern_head q o m)
-          (body_head OfNothing (variables_of t q o) o e (body_means t OfNothing (variables_of t q o) (pattern_scope [] q) e tt (pattern_among t [] [] q o m (none_among [])) known.1))
+      (body_head OfNothing (variables_of t q o) o e (body_means t OfNothing (variables_of t q o) (pattern_scope [] q) e tt (pattern_among t [] [] q o m (none_among [])) known.1))
   decl_head (Productions n rs) k = rights_head n rs k
   decl_head d k = refl
 

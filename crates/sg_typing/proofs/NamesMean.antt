@@ -1,6 +1,6 @@
 -- Where no use is of an unknown name or over another number of parts, each name of an expression means something.
-use Rattle.std.proofs.Common.{◌≡◌, refl, sym, ap, subst, ◌∙◌, ℕ, zero, suc, ◌+◌, Bool, true, false, cond, inl, inr, List, [], ◌∷◌, ◌++◌, map, length, Option, Some, None, slice_get, append_assoc}
-use Rattle.std.specs.Prelude.{◌⊎◌, ◌&&◌, ◌||◌, if◌then◌else◌, is_some, nat_eq, bytes_eq, option_map, option_and_then, unwrap_or, ⊤}
+use Rattle.std.proofs.Common.{◌≡◌, refl, sym, ap, subst, ◌∙◌, ℕ, ◌+◌, Bool, true, false, inl, inr, List, [], ◌∷◌, ◌++◌, map, length, Option, Some, None, slice_get, append_assoc}
+use Rattle.std.specs.Prelude.{◌⊎◌, ◌||◌, if◌then◌else◌, is_some, nat_eq, bytes_eq, option_map, option_and_then, ⊤}
 use Rattle.std.specs.List.{list_any, position}
 use Rattle.std.proofs.lemmas.List.{append-nil, map-append}
 use Rattle.std.proofs.lemmas.List.Folds.{list_any-append}
@@ -16,15 +16,13 @@ use Rattle.sg_ast.specs.Expressions.{Expr, Exprs, Cases, Amount, Chars, Truth, V
 use Rattle.sg_ast.specs.declared.name.Name.{Name}
 use Rattle.sg_ast.specs.declared.name.Reference.{Reference}
 use Rattle.sg_ast.proofs.FirstLaws.{neither, first-append}
-use Rattle.sg_kinds.specs.declared.fault.SpecFault.{SpecFault}
 use Rattle.sg_kinds.specs.declared.fault.SpecFault.TheVariants.{Arity}
 use Rattle.sg_names.specs.Arity.{arity_at, unless_many}
 use Rattle.sg_names.specs.UnknownName.{unknown_at, unless_known, reference_fault, is_there, is_known}
-use Rattle.sg_names.specs.Uses.{Site, Use, Matches, Calls, Binds, is_visible, with_variable, patterns_count, exprs_count, pattern_scope, patterns_scope, pattern_uses, patterns_uses, expr_uses, exprs_uses, cases_uses}
+use Rattle.sg_names.specs.Uses.{Use, Matches, Calls, Binds, is_visible, with_variable, patterns_count, exprs_count, pattern_scope, patterns_scope, pattern_uses, patterns_uses, expr_uses, exprs_uses, cases_uses}
 use Rattle.sg_names.specs.Names.{op_named}
 use Rattle.sg_names.specs.Lookups.{callable, local, operand, params_of, reference, usable_named}
 use Rattle.sg_names.specs.declared.table.Callable.{Callable}
-use Rattle.sg_names.specs.declared.table.Operand.{Operand}
 use Rattle.sg_names.specs.declared.table.Table.{Table}
 use Rattle.sg_names.proofs.HeadLaws.{some_place}
 use Rattle.sg_types.specs.declared.scope.Variable as vars

@@ -6,7 +6,6 @@ use Rattle.sg_kinds.specs.Values.{Bytes}
 use Rattle.sg_kinds.specs.Typing.{slot_type}
 use Rattle.sg_kinds.specs.declared.spec.Occurrence.{Occurrence}
 use Rattle.sg_ast.specs.FirstFault.{or_else}
-use Rattle.sg_ast.specs.declared.decl.Part.{Part}
 use Rattle.sg_ast.specs.declared.name.Reference.{Reference}
 use Rattle.sg_names.specs.Drafted.{drafted}
 use Rattle.sg_names.specs.Lookups.{local, operand, reference}

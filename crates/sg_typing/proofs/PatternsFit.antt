@@ -1,11 +1,11 @@
 -- A pattern that binds its variables in the record has no mismatch, where its names mean something.
-use Rattle.std.proofs.Common.{◌≡◌, refl, sym, ap, subst, ◌∙◌, ℕ, zero, suc, Bool, true, false, cond, List, [], ◌∷◌, ◌++◌, length, Option, Some, None}
+use Rattle.std.proofs.Common.{◌≡◌, refl, ap, subst, ◌∙◌, ℕ, Bool, true, false, cond, List, [], ◌∷◌, ◌++◌, length, Option, Some, None}
 use Rattle.std.specs.Prelude.{is_some, nat_eq, option_map, option_and_then, unwrap_or, ⊤, ◌&&◌}
 use Rattle.std.proofs.lemmas.Bool.{and_parts}
-use Rattle.std.proofs.lemmas.Option.{cond_some, option_and_then_some}
+use Rattle.std.proofs.lemmas.Option.{option_and_then_some}
 use Rattle.sg_kinds.proofs.Elementary.{some_there}
 use Rattle.sg_kinds.specs.Values.{is_number, is_text}
-use Rattle.sg_kinds.specs.Specification.{truths, numbers, args_of, phylum_of}
+use Rattle.sg_kinds.specs.Specification.{truths, numbers, args_of}
 use Rattle.sg_kinds.specs.Typing.{bound_types, bound_types_all, only_if, is_textual, is_usable, is_accepted}
 use Rattle.sg_kinds.specs.Expressions as kept
 use Rattle.sg_kinds.specs.declared.fault.Position.{Position}

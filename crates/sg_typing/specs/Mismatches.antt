@@ -1,12 +1,12 @@
 -- All mismatches: the first tokens of the expressions and patterns whose types are not accepted where they stand, each
 -- with those inside it.
-use Rattle.std.specs.Prelude.{◌≡◌, ◌≤◌, ℕ, List, [], ◌∷◌, ◌++◌, map, flat_map, Option, Some, None}
+use Rattle.std.specs.Prelude.{ℕ, List, [], ◌∷◌, ◌++◌, map, flat_map, Option, Some, None}
 use Rattle.sg_kinds.specs.Specification.{truths}
 use Rattle.sg_kinds.specs.declared.fault.Position.{Position}
 use Rattle.sg_ast.specs.Chains.{expr_place}
 use Rattle.sg_ast.specs.Declarations.{Decl, Equation, Right, Equations, Function, Transform, Productions}
-use Rattle.sg_ast.specs.Expressions.{Expr, Exprs, Cases, Paren, Single, Binary, Choice, Call, Let, With, NoExpr, AndExpr, NoCase, Default, Case}
-use Rattle.sg_ast.specs.Patterns.{Pattern, Patterns, Applied, NoPattern, AndPattern}
+use Rattle.sg_ast.specs.Expressions.{Expr, Exprs, Cases, Paren, Single, Binary, Choice, Call, Let, With, AndExpr, NoCase, Default, Case}
+use Rattle.sg_ast.specs.Patterns.{Pattern, Patterns, Applied, AndPattern}
 use Rattle.sg_ast.specs.declared.expr.Infix.{Infix}
 use Rattle.sg_ast.specs.declared.expr.Infix.TheVariants.{Equal, Unequal, Cons}
 use Rattle.sg_ast.specs.declared.name.Name.{Name}

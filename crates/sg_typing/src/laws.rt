@@ -1,5 +1,6 @@
 //! Laws of what is kept of declarations, each as the contract of a function without code.
-ghost use Rattle.std.specs.Prelude.{◌≡◌, ℕ, List, map, ◌++◌, Option, Some, None, is_some, true, false};
+ghost use Rattle.std.specs.List.{AllByRecursion};
+ghost use Rattle.std.specs.Prelude.{◌≡◌, ◌≤◌, ℕ, List, map, flat_map, slice_get, ◌++◌, Option, Some, None, is_some, true, false};
 ghost use Rattle.sg_ast.specs.Expressions.{Expr};
 ghost use Rattle.sg_ast.specs.Patterns.{Pattern};
 ghost use Rattle.sg_kinds.specs.Sound.{HasShapes};
@@ -9,9 +10,11 @@ ghost use Rattle.sg_kinds.specs.Values.{Bytes};
 ghost use Rattle.sg_kinds.specs.declared.fault.Position.{Position};
 ghost use Rattle.sg_kinds.specs.declared.spec.Spec.{Spec};
 ghost use Rattle.sg_names.specs.Uses.{InOperator, equation_uses, expr_uses, in_function, in_transform, local_scope};
-ghost use Rattle.sg_names.specs.Uses.{pattern_uses, right_uses};
+ghost use Rattle.sg_names.specs.Uses.{pattern_uses, right_uses, uses};
+ghost use Rattle.sg_ast.specs.Rising.{RiseFrom, places_of};
+ghost use Rattle.sg_typing.specs.Mismatches.{mismatches};
 ghost use Rattle.sg_names.specs.Lookups.{phylum_named};
-ghost use Rattle.sg_ast.specs.Declarations.{Equation, Right};
+ghost use Rattle.sg_ast.specs.Declarations.{Decl, Equation, Right};
 ghost use Rattle.sg_ast.specs.declared.name.Name.{Name};
 ghost use Rattle.sg_ast.specs.declared.name.Typed.{Typed};
 ghost use Rattle.sg_typing.specs.Bodies as body;
@@ -108,6 +111,16 @@ pub fn mismatched_bodies_are_untyped()
         (types : List ℕ) → AreKnown t (right_uses n.text r) → AreOutside t (OfProduction n.text r.parts) types
         → (p : ℕ) (place : Position) → body.result_type t n ≡ Some p → body.right_mismatch t n r ≡ Some place
         → is_found spec p (type_of spec types (body.right_typed t n r).expr) ≡ false }
+{}
+
+/// Of all mismatches of declarations whose uses are known the walk answers the first, and where the places of the
+/// declarations rise, as those of a text do, none of the others stands before it.
+pub fn mismatches_follow_the_text()
+    ensures first { (t : Table) (ds : List Decl) → AreKnown t (uses t ds)
+        → body.first_mismatch t ds ≡ slice_get (mismatches t ds) 0 }
+    ensures least { (t : Table) (ds : List Decl) → AreKnown t (uses t ds) → RiseFrom 0 (flat_map places_of ds)
+        → (p : Position) → body.first_mismatch t ds ≡ Some p
+        → AllByRecursion (λ (q : Position). p.token ≤ q.token) (mismatches t ds) }
 {}
 
 /// Where the shapes are sound, each list phylum has its binary operator.
