@@ -1,2 +1,3 @@
 pub mod JobView
 pub mod DeskView
+pub mod SureWorld

@@ -1,7 +1,7 @@
 // The whole run.
 ghost use Rattle.std.specs.Prelude.{◌≡◌, ◌≢◌, ◌≤◌, ◌<◌, ◌^◌, ◌+◌, ◌⊎◌, ℕ, [], map, sum, length, string_bytes, IsSome, Some, None, IfOk};
 ghost use Rattle.sg_eval.specs.Journal.{counted};
-ghost use Rattle.sg_outside.specs.Count.{Rose, raised_by, tallied};
+ghost use Rattle.sg_outside.specs.Count.{Rose, answered_by, raised_by, tallied};
 ghost use Rattle.sg_outside.specs.Sink.{CutShort, appended};
 ghost use Rattle.sg_replies.specs.Counts.{CallsOrOneMore};
 ghost use Rattle.sg_replies.specs.Requests.{Serves, failures};
@@ -232,8 +232,9 @@ pub fn run<S: Shelf, K: Sink>(
         result.replies.items result.status
         (world_of S.files S.faults S.calls shelf.new K.written K.faults K.puts sink.new (counted journal.new)) }
 
-    // What was written and evaluated, at an end of its own and after it was cut short. Then no reply came past the
-    // block at which that happened, so a shelf that counts its calls is not called again after a put that failed.
+    // What was written and evaluated, at an end of its own and after it was cut short. Then neither a reply nor a call
+    // without one came past the block at which that happened, so a shelf that counts its calls is not called again
+    // after a put that was refused.
     ensures output { (r : Reading) → IsRightFor (job (map string_bytes words.now)) result.replies.items r
         → IsEnd result.status → K.written sink.new ≡ appended (K.written sink.old)
         (joined (told (map string_bytes words.now) r result.replies.items).blocks) }
@@ -266,7 +267,7 @@ pub fn run<S: Shelf, K: Sink>(
         (told (map string_bytes words.now) r result.replies.items).requests result.replies.items (S.files shelf.new) }
     ensures failed_replies { raised_by (failures result.replies.items) (S.faults shelf.old) ≤ S.faults shelf.new }
     ensures calls { result.status ≢ Status.Memory → S.calls shelf.new
-        ≡ tallied (length result.replies.items) (S.calls shelf.old) }
+        ≡ answered_by (length result.replies.items) (S.calls shelf.old) }
     ensures calls_or_one_more { (r : Reading) → IsRightFor (job (map string_bytes words.now)) result.replies.items r
         → CallsOrOneMore (length (told (map string_bytes words.now) r result.replies.items).requests
         ≡ length result.replies.items + 1)

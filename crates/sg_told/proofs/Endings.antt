@@ -1,8 +1,8 @@
 -- How a part of a run ends
 use Rattle.std.proofs.Common.{◌≡◌, ◌≤◌, ℕ, ◌+◌, List, [], ◌∷◌, take, sum, length, Option, Some, inl, inr, refl, sym, ap, ◌∙◌, subst, arith, append-nil}
-use Rattle.sg_outside.specs.Count.{Rose, tallied}
+use Rattle.sg_outside.specs.Count.{Rose, answered_by, tallied}
 use Rattle.sg_outside.specs.Sink.{CutShort, appended}
-use Rattle.sg_outside.proofs.Tally.{tallied-zero}
+use Rattle.sg_outside.proofs.Tally.{answered_by-zero, tallied-zero}
 use Rattle.sg_replies.specs.declared.reply.Reply.{Reply}
 use Rattle.sg_replies.specs.Calls.{ShelfState, ServedOrOneMore}
 use Rattle.sg_replies.proofs.Laws.{none_or_one_more}
@@ -76,7 +76,7 @@ ends_done w = record {
   cut = λ is. absurd is;
   taken = refl;
   served = none_or_one_more [] w.shelf (omega arith);
-  calls = λ _. sym (tallied-zero w.shelf.calls);
+  calls = λ _. sym (answered_by-zero w.shelf.calls);
   sink_later = omega arith;
   sink_fault = λ is. cc;
 }
@@ -99,7 +99,7 @@ ends_text shelf old new n status ended bytes put = record {
   };
   taken = refl;
   served = none_or_one_more [] shelf (omega arith);
-  calls = λ _. sym (tallied-zero shelf.calls);
+  calls = λ _. sym (answered_by-zero shelf.calls);
   sink_later = put.later;
   sink_fault = put.rose;
 }
@@ -115,7 +115,7 @@ not_both ScriptFault c e = c
 
 -- the first block was not put as a whole
 pub ends_unput : (shelf shelf' : ShelfState) (old new : SinkState) (n m ev : ℕ) (t : Told) (got : List Reply) (status : Status) (block : List ℕ) (blocks : List (List ℕ)) (evs : List ℕ)
-    → t.blocks ≡ block ∷ blocks → t.evs ≡ ev ∷ evs → t.taken ≡ length got → ServedOrOneMore shelf t.requests got shelf' → shelf'.calls ≡ tallied (length got) shelf.calls
+    → t.blocks ≡ block ∷ blocks → t.evs ≡ ev ∷ evs → t.taken ≡ length got → ServedOrOneMore shelf t.requests got shelf' → shelf'.calls ≡ answered_by (length got) shelf.calls
     → IsCut status → (status ≡ Memory → WroteWhole 0 old new (block ∷ blocks)) → (status ≡ SinkFault → WroteFront 0 old new (block ∷ blocks)) → (status ≡ SinkFault → Rose old.faults new.faults)
     → old.faults ≤ new.faults → m ≡ n + ev
     → Ends (world shelf old n) t got status (world shelf' new m)

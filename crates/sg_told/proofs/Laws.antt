@@ -1,15 +1,16 @@
 -- One part of a run after another
-use Rattle.std.proofs.Common.{◌≡◌, ◌<◌, ℕ, ◌+◌, List, [], ◌∷◌, ◌++◌, length, take, get_or, sum, Option, Some, None, refl, sym, ap, ◌∙◌, subst, append_assoc, arith, length-append, add_assoc}
+use Rattle.std.proofs.Common.{◌≡◌, ◌<◌, ℕ, ◌+◌, List, [], ◌∷◌, ◌++◌, length, take, get_or, sum, Option, Some, None, inl, inr, refl, sym, ap, ◌∙◌, subst, append_assoc, arith, length-append, add_assoc}
 use Rattle.std.proofs.Math.Seq.{take-append-add}
 use Rattle.std.proofs.lemmas.List.{get_or-append-add}
 use Rattle.std.proofs.lemmas.Grind.{common_steps}
-use Rattle.sg_outside.specs.Count.{Rose, tallied}
+use Rattle.sg_outside.specs.Count.{Rose, answered_by, tallied}
 use Rattle.sg_outside.specs.Sink.{appended}
 use Rattle.sg_replies.specs.declared.reply.Reply.{Reply}
-use Rattle.sg_replies.proofs.Laws.{calls_then, calls_or_one_more_then, served_then, served_then_or_one_more}
+use Rattle.sg_outside.proofs.Tally.{tallied-tallied}
+use Rattle.sg_replies.proofs.Laws.{calls_then, served_then, served_then_or_one_more}
 use Rattle.sg_told.specs.declared.status.Status.{Status}
 use Rattle.sg_told.specs.Told.{Told, before, joined}
-use Rattle.sg_told.specs.World.{World, WroteWhole, WroteFront, WroteCounted}
+use Rattle.sg_told.specs.World.{World, PutsOrOneMore, WroteWhole, WroteFront, WroteCounted}
 use Rattle.sg_told.specs.Parts.{Goes, Ends}
 
 pub joined-append : (xs ys : List (List ℕ)) → joined (xs ++ ys) ≡ joined xs ++ joined ys
@@ -38,12 +39,23 @@ written_after : (old between new : Option (List ℕ)) (xs ys : List (List ℕ)) 
 written_after old between new xs ys e f =
     piece_after old between new xs (joined ys) e f ∙ ap (λ (v : List ℕ). appended old v) (sym (joined-append xs ys))
 
+-- so many puts, and then so many more
+puts_then : (m n : ℕ) (old between new : Option ℕ) → between ≡ tallied m old → new ≡ tallied n between → new ≡ tallied (m + n) old
+puts_then m n old between new e f = f ∙ ap (λ (c : Option ℕ). tallied n c) e ∙ tallied-tallied m n old
+
+-- so many puts, and then so many more or one more than that
+puts_or_one_more_then : (M M' : Type 0) (m n : ℕ) (old between new : Option ℕ) → (M → M') → between ≡ tallied m old → PutsOrOneMore M n between new
+    → PutsOrOneMore M' (m + n) old new
+puts_or_one_more_then M M' m n old between new more e (inl f) = inl (puts_then m n old between new e f)
+puts_or_one_more_then M M' m n old between new more e (inr f) =
+    inr (more f.0, puts_then m (n + 1) old between new e f.1 ∙ ap (λ (k : ℕ). tallied k old) (sym (add_assoc m n 1)))
+
 wrote_whole_after : (old between new : World) (xs ys : List (List ℕ)) (k : ℕ) → between.sink.written ≡ appended old.sink.written (joined xs)
     → between.sink.puts ≡ tallied (length xs) old.sink.puts → WroteWhole k between.sink new.sink ys → WroteWhole (length xs + k) old.sink new.sink (xs ++ ys)
 wrote_whole_after old between new xs ys k e p w = record {
   written = written_after old.sink.written between.sink.written new.sink.written xs (take k ys) e w.written
       ∙ ap (λ (bs : List (List ℕ)). appended old.sink.written (joined bs)) (sym (take-append-add xs ys k));
-  puts = calls_or_one_more_then (k < length ys) (length xs + k < length (xs ++ ys)) (length xs) k old.sink.puts between.sink.puts new.sink.puts
+  puts = puts_or_one_more_then (k < length ys) (length xs + k < length (xs ++ ys)) (length xs) k old.sink.puts between.sink.puts new.sink.puts
       (λ more. omega (arith, more, length-append xs ys)) p w.puts;
 }
 
@@ -57,7 +69,7 @@ wrote_front_after old between new xs ys k e p w = record {
       ∙ ap (λ (v : List ℕ). appended old.sink.written (v ++ take w.front (get_or ys k []))) (sym (joined-append xs (take k ys)))
       ∙ ap (λ (bs : List (List ℕ)). appended old.sink.written (joined bs ++ take w.front (get_or ys k []))) (sym (take-append-add xs ys k))
       ∙ ap (λ (b : List ℕ). appended old.sink.written (joined (take (length xs + k) (xs ++ ys)) ++ take w.front b)) (sym (get_or-append-add xs ys k []));
-  puts = calls_then (length xs) (k + 1) old.sink.puts between.sink.puts new.sink.puts p w.puts
+  puts = puts_then (length xs) (k + 1) old.sink.puts between.sink.puts new.sink.puts p w.puts
       ∙ ap (λ (n : ℕ). tallied n old.sink.puts) (sym (add_assoc (length xs) k 1));
 }
 
@@ -87,7 +99,7 @@ pub goes_and_ends : (old between new : World) (t u : Told) (got more : List Repl
     → Ends old (before t u) (got ++ more) status new
 goes_and_ends old between new t u got more status p q = record {
   output = λ is. written_after old.sink.written between.sink.written new.sink.written t.blocks u.blocks p.output (q.output is);
-  puts = λ is. calls_then (length t.blocks) (length u.blocks) old.sink.puts between.sink.puts new.sink.puts p.puts (q.puts is)
+  puts = λ is. puts_then (length t.blocks) (length u.blocks) old.sink.puts between.sink.puts new.sink.puts p.puts (q.puts is)
       ∙ ap (λ (n : ℕ). tallied n old.sink.puts) (sym (length-append t.blocks u.blocks));
   evaluated = λ is. let e = q.evaluated is in omega (arith, p.evaluated, e, sum-append t.evs u.evs);
   finished = q.finished;
@@ -95,7 +107,7 @@ goes_and_ends old between new t u got more status p q = record {
   taken = omega (arith, p.taken, q.taken, length-append got more);
   served = served_then_or_one_more old.shelf between.shelf new.shelf t.requests u.requests got more p.answered p.served q.served;
   calls = λ is. calls_then (length got) (length more) old.shelf.calls between.shelf.calls new.shelf.calls p.served.calls (q.calls is)
-      ∙ ap (λ (n : ℕ). tallied n old.shelf.calls) (sym (length-append got more));
+      ∙ ap (λ (n : ℕ). answered_by n old.shelf.calls) (sym (length-append got more));
   sink_later = omega (arith, p.sink_later, q.sink_later);
   sink_fault = λ is. let r : Rose between.sink.faults new.sink.faults = q.sink_fault is in omega (arith, p.sink_later, r);
 }
@@ -105,7 +117,7 @@ pub goes_on : (old between new : World) (t u : Told) (got more : List Reply) →
     → Goes old (before t u) (got ++ more) new
 goes_on old between new t u got more p q = record {
   output = written_after old.sink.written between.sink.written new.sink.written t.blocks u.blocks p.output q.output;
-  puts = calls_then (length t.blocks) (length u.blocks) old.sink.puts between.sink.puts new.sink.puts p.puts q.puts
+  puts = puts_then (length t.blocks) (length u.blocks) old.sink.puts between.sink.puts new.sink.puts p.puts q.puts
       ∙ ap (λ (n : ℕ). tallied n old.sink.puts) (sym (length-append t.blocks u.blocks));
   evaluated = omega (arith, p.evaluated, q.evaluated, sum-append t.evs u.evs);
   each = omega (arith, p.each, q.each, length-append t.blocks u.blocks, length-append t.evs u.evs);

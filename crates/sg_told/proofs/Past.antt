@@ -1,10 +1,13 @@
 -- That no reply came past the block at which a run was cut short
 use Rattle.std.proofs.Common.{◌≡◌, ◌≤◌, ◌⊎◌, ℕ, ◌+◌, List, [], ◌∷◌, ◌++◌, length, refl, sym, ap, ◌∙◌, subst, inl, inr, arith, length-append, append-nil, append_assoc}
+use Rattle.sg_outside.specs.Count.{answered_by}
 use Rattle.sg_replies.specs.declared.reply.Reply.{Reply}
 use Rattle.sg_told.specs.declared.status.Status.{Status}
 use Rattle.sg_told.specs.Told.{Told, before}
 use Rattle.sg_told.specs.World.{World, WroteCounted}
 use Rattle.sg_told.specs.Parts.{NonePast, Stopped}
+use Rattle.sg_replies.specs.Counts.{CallsOrOneMore}
+use Rattle.sg_replies.proofs.Laws.{calls_or_one_more_then}
 
 -- no reply, or one that is asked for before anything is told
 pub past_nothing : (k : ℕ) (f : List Reply → Told) → NonePast k f []
@@ -45,8 +48,18 @@ past_after f next t k got more p law q front last e = elim (last_of more) [
       omega (arith, h, n, length-append t.blocks (next m.0).blocks)
 ]
 
+-- a call that had no memory, where the run goes on over t
+pub calls_after : (old between new : World) (t u : Told) (k : ℕ) (got more : List Reply) → between.shelf.calls ≡ answered_by (length got) old.shelf.calls
+    → CallsOrOneMore (length u.blocks ≤ k) (length more) between.shelf.calls new.shelf.calls
+    → CallsOrOneMore (length (before t u).blocks ≤ length t.blocks + k) (length (got ++ more)) old.shelf.calls new.shelf.calls
+calls_after old between new t u k got more first calls =
+    subst (λ (n : ℕ). CallsOrOneMore (length (t.blocks ++ u.blocks) ≤ length t.blocks + k) n old.shelf.calls new.shelf.calls) (sym (length-append got more))
+    (calls_or_one_more_then (length u.blocks ≤ k) (length (t.blocks ++ u.blocks) ≤ length t.blocks + k) (length got) (length more) old.shelf.calls between.shelf.calls new.shelf.calls
+    (λ few. omega (arith, few, length-append t.blocks u.blocks)) first calls)
+
 -- what is told is what f tells
 pub stopped_as : (status : Status) (old new : World) (t : Told) (f : List Reply → Told) (got : List Reply) → f got ≡ t → (c : WroteCounted status old new t)
-    → NonePast c.k f got → Stopped status old new f got
+    → NonePast c.k f got → CallsOrOneMore (length t.blocks ≤ c.k) (length got) old.shelf.calls new.shelf.calls → Stopped status old new f got
 stopped_as status old new t f got e =
-    subst (λ (u : Told). (c : WroteCounted status old new u) → NonePast c.k f got → Stopped status old new f got) e (λ c past. record { counted = c; none_past = past })
+    subst (λ (u : Told). (c : WroteCounted status old new u) → NonePast c.k f got → CallsOrOneMore (length u.blocks ≤ c.k) (length got) old.shelf.calls new.shelf.calls → Stopped status old new f got) e
+    (λ c past calls. record { counted = c; none_past = past; calls = calls })

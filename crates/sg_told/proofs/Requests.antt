@@ -1,9 +1,11 @@
 -- One part of a run after another, and a request to the shelf within a run
-use Rattle.std.proofs.Common.{◌≡◌, ℕ, List, [], ◌∷◌, ◌++◌, length, Bool, refl, sym, ap, ◌∙◌, subst, arith, if◌then◌else◌, append-nil, append_assoc, length-append}
-use Rattle.sg_outside.proofs.Tally.{tallied-zero}
+use Rattle.std.proofs.Common.{◌≡◌, ℕ, List, [], ◌∷◌, ◌++◌, length, Bool, Option, ◌≤◌, inl, inr, refl, sym, ap, ◌∙◌, subst, arith, if◌then◌else◌, append-nil, append_assoc, length-append}
+use Rattle.sg_outside.specs.Count.{Calls, unanswered_once}
+use Rattle.sg_outside.proofs.Tally.{answered_by-zero, tallied-zero}
 use Rattle.sg_replies.specs.declared.reply.Reply.{Reply}
 use Rattle.sg_replies.specs.Requests.{Request}
 use Rattle.sg_replies.specs.Calls.{ShelfState, Replied, Unanswered}
+use Rattle.sg_replies.specs.Counts.{CallsOrOneMore}
 use Rattle.sg_replies.proofs.Laws.{served_one, none_or_one_more, unanswered_one_more}
 use Rattle.sg_told.specs.declared.status.Status.{Status}
 use Rattle.sg_told.specs.declared.status.Status.TheVariants.{Memory}
@@ -14,20 +16,27 @@ use Rattle.sg_told.specs.Opening.{IsFetched}
 use Rattle.sg_told.specs.World.{SinkState, World, world}
 use Rattle.sg_told.specs.Parts.{Ends, NonePast, Stopped, Passed, Played}
 use Rattle.sg_told.proofs.Laws.{appended-nil, goes_on, goes_and_ends, wrote_counted_after, before-before, before_nothing, nothing}
-use Rattle.sg_told.proofs.Past.{past_nothing, past_one, past_after, stopped_as}
+use Rattle.sg_told.proofs.Past.{past_nothing, past_one, past_after, calls_after, stopped_as}
 use Rattle.sg_told.proofs.Endings.{ends_memory}
 
 -- no reply
-pub played_nothing : (f : List Reply → Told) (rb ra : List Reply) (status : Status) (old new : World) → ra ≡ rb → Ends old (f []) [] status new → Played f rb ra status old new
-played_nothing f rb ra status old new none e = record {
+played_unanswered : (f : List Reply → Told) (rb ra : List Reply) (status : Status) (old new : World) → ra ≡ rb → Ends old (f []) [] status new
+    → ((k : ℕ) → CallsOrOneMore (length (f []).blocks ≤ k) 0 old.shelf.calls new.shelf.calls) → Played f rb ra status old new
+played_unanswered f rb ra status old new none e calls = record {
   got = [];
   replies = none ∙ sym (append-nil rb);
   ends = e;
-  stopped = λ is. record { counted = e.cut is; none_past = past_nothing (e.cut is).k f };
+  stopped = λ is. record { counted = e.cut is; none_past = past_nothing (e.cut is).k f; calls = calls (e.cut is).k };
 }
 
-pub played_at : (f : List Reply → Told) (rs : List Reply) (status : Status) (old new : World) → Ends old (f []) [] status new → Played f rs rs status old new
-played_at f rs status old new e = played_nothing f rs rs status old new refl e
+-- no reply, and no call
+pub played_nothing : (f : List Reply → Told) (rb ra : List Reply) (status : Status) (old new : World) → ra ≡ rb → Ends old (f []) [] status new → new.shelf ≡ old.shelf
+    → Played f rb ra status old new
+played_nothing f rb ra status old new none e same =
+    played_unanswered f rb ra status old new none e (λ k. inl (ap (λ (s : ShelfState). s.calls) same ∙ sym (answered_by-zero old.shelf.calls)))
+
+pub played_at : (f : List Reply → Told) (rs : List Reply) (status : Status) (old new : World) → Ends old (f []) [] status new → new.shelf ≡ old.shelf → Played f rs rs status old new
+played_at f rs status old new e same = played_nothing f rs rs status old new refl e same
 
 -- the run goes on as next, and ends there
 pub played_after : (f next : List Reply → Told) (rb rm ra : List Reply) (old between new : World) (status : Status)
@@ -41,7 +50,9 @@ played_after f next rb rm ra old between new status p q = record {
       let s = q.stopped is in
       let w = wrote_counted_after old between new p.so_far (next q.got) p.got status p.goes s.counted in
       stopped_as status old new (before p.so_far (next q.got)) f (p.got ++ q.got) (p.law q.got) w.0
-      (subst (λ (k : ℕ). NonePast k f (p.got ++ q.got)) (sym w.1) (past_after f next p.so_far s.counted.k p.got q.got p.none_past p.law s.none_past));
+      (subst (λ (k : ℕ). NonePast k f (p.got ++ q.got)) (sym w.1) (past_after f next p.so_far s.counted.k p.got q.got p.none_past p.law s.none_past))
+      (subst (λ (k : ℕ). CallsOrOneMore (length (before p.so_far (next q.got)).blocks ≤ k) (length (p.got ++ q.got)) old.shelf.calls new.shelf.calls) (sym w.1)
+      (calls_after old between new p.so_far (next q.got) s.counted.k p.got q.got p.goes.served.calls s.calls));
 }
 
 -- the run goes on as g, and then as h
@@ -70,7 +81,7 @@ passed_start f rs w = record {
     each = refl;
     taken = refl;
     answered = refl;
-    served = record { files = refl; faults = omega arith; later = omega arith; calls = sym (tallied-zero w.shelf.calls) };
+    served = record { files = refl; faults = omega arith; later = omega arith; calls = sym (answered_by-zero w.shelf.calls) };
     sink_later = omega arith;
   };
   law = λ more. sym (before_nothing (f more));
@@ -102,15 +113,16 @@ passed_reply q next reply rb ra shelf shelf' sink n r e = record {
 pub no_reply : (q : Request) (next : Reply → List Reply → Told) (rb ra : List Reply) (shelf shelf' : ShelfState) (sink : SinkState) (n : ℕ)
     → ra ≡ rb → Unanswered shelf shelf' → Played (asked q next) rb ra Memory (world shelf sink n) (world shelf' sink n)
 no_reply q next rb ra shelf shelf' sink n e u =
-    played_nothing (asked q next) rb ra Memory (world shelf sink n) (world shelf' sink n) e
+    played_unanswered (asked q next) rb ra Memory (world shelf sink n) (world shelf' sink n) e
     (ends_memory shelf shelf' sink n n (unfinished q) [] refl (unanswered_one_more q shelf shelf' u) (omega arith) (omega arith))
+    (λ k. inr (omega arith, u.calls ∙ ap (λ (c : Option Calls). unanswered_once c) (sym (answered_by-zero shelf.calls))))
 
 -- there was no memory to ask
 pub not_asked : (q : Request) (next : Reply → List Reply → Told) (rb ra : List Reply) (shelf : ShelfState) (sink : SinkState) (n : ℕ) → ra ≡ rb
     → Played (asked q next) rb ra Memory (world shelf sink n) (world shelf sink n)
 not_asked q next rb ra shelf sink n e =
     played_nothing (asked q next) rb ra Memory (world shelf sink n) (world shelf sink n) e
-    (ends_memory shelf shelf sink n n (unfinished q) [] refl (none_or_one_more (q ∷ []) shelf (omega arith)) (omega arith) (omega arith))
+    (ends_memory shelf shelf sink n n (unfinished q) [] refl (none_or_one_more (q ∷ []) shelf (omega arith)) (omega arith) (omega arith)) refl
 
 -- the one reply more to the fetch of a file, and what follows it
 pub passed_fetched : (name : List ℕ) (next : Reply → List Reply → Told) (rb ra : List Reply) (shelf shelf' : ShelfState) (sink sink' : SinkState) (n : ℕ) (f : IsFetched name rb ra shelf shelf')
@@ -125,7 +137,7 @@ pub played_fetched : (name : List ℕ) (next : Reply → List Reply → Told) (r
 played_fetched name next rb ra shelf shelf' old new n m status f ends =
     played_after (asked (whole_file name) next) (next f.reply) rb ra ra (world shelf old n) (world shelf' old n) (world shelf' new m) status
     (passed_fetched name next rb ra shelf shelf' old old n f refl)
-    (played_at (next f.reply) ra status (world shelf' old n) (world shelf' new m) ends)
+    (played_at (next f.reply) ra status (world shelf' old n) (world shelf' new m) ends refl)
 
 -- the same, with the status that it ended with; as what is told
 pub played_as : (f : List Reply → Told) (rb ra : List Reply) (status other : Status) (old new : World) → other ≡ status → Played f rb ra status old new → Played f rb ra other old new

@@ -5,6 +5,7 @@ use Rattle.sg_outside.specs.Sink.{CutShort, appended}
 use Rattle.sg_replies.specs.declared.reply.Reply.{Reply}
 use Rattle.sg_replies.specs.Requests.{Request}
 use Rattle.sg_replies.specs.Calls.{ShelfState, Served, ServedOrOneMore}
+use Rattle.sg_replies.specs.Counts.{CallsOrOneMore}
 use Rattle.sg_replies.proofs.Laws.{none_or_one_more, served_then_or_one_more}
 use Rattle.sg_script.specs.declared.command.Command.{Command}
 use Rattle.sg_editor.specs.Session as editor
@@ -156,7 +157,7 @@ command_unput d s c e said now rb ra shelf shelf' old new n m status stepped is_
       replies = stepped.replies;
       ends = subst (λ (t : Told). Ends (world shelf old n) t stepped.got status (world shelf' new m)) (sym law) ends;
       stopped = λ is. stopped_as status (world shelf old n) (world shelf' new m) told (turn d next (asks d s c)) stepped.got law (ends.cut is)
-          (comes_past d next (asks d s c) stepped.got out (ends.cut is).k stepped.comes);
+          (comes_past d next (asks d s c) stepped.got out (ends.cut is).k stepped.comes) (inl stepped.served.calls);
     }
 
 -- what is left to tell where a command was cut short
@@ -207,6 +208,20 @@ cut_past d next (Asks request answer) got now k (inl (none, nothing)) =
 cut_past d next (Asks request answer) got now k (inr (reply, is_reply, kind, some)) =
     subst (λ (g : List Reply). NonePast k (turn d next (Asks request answer)) g) (sym is_reply) (past_one k (turn d next (Asks request answer)) reply (omega arith))
 
+-- a call without a reply was made before anything was told
+cut_calls : (d : Desk) (next : editor.Session → List Reply → Told) (a : Ask) (got : List Reply) (now : List Instance) (k : ℕ) (shelf shelf' : ShelfState) → IsCutShort d.spec a got now
+    → ServedOrOneMore shelf (requests_of a) got shelf' → CallsOrOneMore (length (turn d next a got).blocks ≤ k) (length got) shelf.calls shelf'.calls
+cut_calls d next (Tells step) got now k shelf shelf' (none, some) served =
+    let long : length {A = Request} [] ≡ length got = ap length (sym none) in inl (served_exactly shelf shelf' [] got long served).calls
+cut_calls d next (Asks request answer) got now k shelf shelf' (inl (none, nothing)) served =
+    let P : List Reply → Type 0 = λ g. ServedOrOneMore shelf (request ∷ []) g shelf' → CallsOrOneMore (length (turn d next (Asks request answer) g).blocks ≤ k) (length g) shelf.calls shelf'.calls in
+    subst P (sym none) (λ h. elim h.calls [
+      | inl is ↦ inl is
+      | inr more ↦ inr (omega arith, more.1)
+    ]) served
+cut_calls d next (Asks request answer) got now k shelf shelf' (inr (reply, is_reply, kind, some)) served =
+    let long : length (request ∷ []) ≡ length got = ap length (sym is_reply) in inl (served_exactly shelf shelf' (request ∷ []) got long served).calls
+
 -- a command was cut short
 pub command_cut : (d : Desk) (s : editor.Session) (c : Command) (now : List Instance) (rb ra : List Reply) (shelf shelf' : ShelfState) (sink : SinkState) (n m : ℕ)
     → Interrupted d.spec (asks d s c) now rb ra shelf shelf' → m ≡ n + length now
@@ -222,7 +237,11 @@ command_cut d s c now rb ra shelf shelf' sink n m cut counts commands =
       got = cut.got;
       replies = cut.replies;
       ends = ends;
-      stopped = λ is. record { counted = ends.cut is; none_past = cut_past d next (asks d s c) cut.got now (ends.cut is).k cut.cut };
+      stopped = λ is. record {
+        counted = ends.cut is;
+        none_past = cut_past d next (asks d s c) cut.got now (ends.cut is).k cut.cut;
+        calls = cut_calls d next (asks d s c) cut.got now (ends.cut is).k shelf shelf' cut.cut cut.served;
+      };
     }
 
 -- the next command
@@ -244,7 +263,7 @@ pub session_over : (f : List Reply → Told) (d : Desk) (s : editor.Session) (co
     → Passed f (session d s (drop i commands)) rb ra old new → Played f rb ra Done old new
 session_over f d s commands i rb ra old new h p =
     played_after f (session d s []) rb ra ra old new new Done (subst (λ (cs : List Command). Passed f (session d s cs) rb ra old new) (none_left commands i h) p)
-    (played_at (session d s []) ra Done new new (ends_done new))
+    (played_at (session d s []) ra Done new new (ends_done new) refl)
 
 -- other words for the same
 pub session_from : (d e : Desk) (s t : editor.Session) (cs ds : List Command) (rb ra : List Reply) (status : Status) (old new : World) → d ≡ e → s ≡ t → cs ≡ ds

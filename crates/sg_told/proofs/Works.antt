@@ -5,7 +5,7 @@ use Rattle.sg_kinds.specs.declared.fault.SpecFault.{SpecFault as Fault}
 use Rattle.sg_load.specs.Only.{IsTheVerdict}
 use Rattle.sg_load.specs.Verdict.{Verdict, IsVerdict}
 use Rattle.sg_load.specs.Verdict.Verdict.{Refused, Accepted}
-use Rattle.sg_outside.proofs.Tally.{tallied-zero}
+use Rattle.sg_outside.proofs.Tally.{answered_by-zero}
 use Rattle.sg_replies.specs.Calls.{ShelfState}
 use Rattle.sg_replies.proofs.Laws.{none_or_one_more}
 use Rattle.sg_workload.specs.Lines.{lines_text}
@@ -46,7 +46,7 @@ ends_once shelf old new n m ev ended block put counts = record {
   };
   taken = refl;
   served = none_or_one_more [] shelf (omega arith);
-  calls = λ _. sym (tallied-zero shelf.calls);
+  calls = λ _. sym (answered_by-zero shelf.calls);
   sink_later = put.later;
   sink_fault = put.rose;
 }

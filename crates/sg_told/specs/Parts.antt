@@ -1,9 +1,10 @@
 -- The parts of a run
 use Rattle.std.specs.Prelude.{◌≡◌, ◌≢◌, ◌≤◌, ℕ, ◌+◌, List, [], ◌∷◌, ◌++◌, length, sum, Some}
-use Rattle.sg_outside.specs.Count.{Rose, tallied}
+use Rattle.sg_outside.specs.Count.{Rose, answered_by, tallied}
 use Rattle.sg_outside.specs.Sink.{CutShort, appended}
 use Rattle.sg_replies.specs.declared.reply.Reply.{Reply}
 use Rattle.sg_replies.specs.Calls.{Served, ServedOrOneMore}
+use Rattle.sg_replies.specs.Counts.{CallsOrOneMore}
 use Rattle.sg_told.specs.declared.status.Status.{Status}
 use Rattle.sg_told.specs.declared.status.Status.TheVariants.{Memory, SinkFault}
 use Rattle.sg_told.specs.Statuses.{IsEnd, IsCut}
@@ -14,10 +15,12 @@ use Rattle.sg_told.specs.World.{SinkState, World, WroteCounted}
 abbrev pub NonePast : ℕ → (List Reply → Told) → List Reply → Type 0
 NonePast k f got = (front : List Reply) (last : Reply) → got ≡ front ++ last ∷ [] → length (f front).blocks ≤ k
 
--- the run was cut short in what f tells by these replies, of which none came past the block at which that was
+-- the run was cut short in what f tells by these replies, of which none came past the block at which that was; nor did
+-- a call besides theirs, for which the shelf had no memory: by these replies f tells no more than the first k then
 pub record Stopped (status : Status) (old new : World) (f : List Reply → Told) (got : List Reply) : Type 0 where
   pub counted : WroteCounted status old new (f got)
   pub none_past : NonePast counted.k f got
+  pub calls : CallsOrOneMore (length (f got).blocks ≤ counted.k) (length got) old.shelf.calls new.shelf.calls
 
 -- the run went on over t, which took these replies
 pub record Goes (old : World) (t : Told) (got : List Reply) (new : World) : Type 0 where
@@ -39,7 +42,7 @@ pub record Ends (old : World) (t : Told) (got : List Reply) (status : Status) (n
   pub cut : IsCut status → WroteCounted status old new t
   pub taken : t.taken ≡ length got
   pub served : ServedOrOneMore old.shelf t.requests got new.shelf
-  pub calls : status ≢ Memory → new.shelf.calls ≡ tallied (length got) old.shelf.calls
+  pub calls : status ≢ Memory → new.shelf.calls ≡ answered_by (length got) old.shelf.calls
   pub sink_later : old.sink.faults ≤ new.sink.faults
   pub sink_fault : status ≡ SinkFault → Rose old.sink.faults new.sink.faults
 

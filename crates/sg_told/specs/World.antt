@@ -1,10 +1,9 @@
 -- What a run finds and leaves: the shelf, the sink and the journal
-use Rattle.std.specs.Prelude.{◌≡◌, ◌≤◌, ◌<◌, ℕ, ◌+◌, List, [], ◌++◌, length, take, get_or, sum, Option}
+use Rattle.std.specs.Prelude.{◌≡◌, ◌⊎◌, ◌≤◌, ◌<◌, ℕ, ◌+◌, List, [], ◌++◌, length, take, get_or, sum, Option}
 use Rattle.sg_outside.specs.Shelf.{Files}
-use Rattle.sg_outside.specs.Count.{tallied}
+use Rattle.sg_outside.specs.Count.{Calls, tallied}
 use Rattle.sg_outside.specs.Sink.{appended}
 use Rattle.sg_replies.specs.Calls.{ShelfState, shelf_state}
-use Rattle.sg_replies.specs.Counts.{CallsOrOneMore}
 use Rattle.sg_told.specs.declared.status.Status.{Status}
 use Rattle.sg_told.specs.declared.status.Status.TheVariants.{Memory, SinkFault}
 use Rattle.sg_told.specs.Told.{Told, joined}
@@ -28,16 +27,20 @@ abbrev pub world : ShelfState → SinkState → ℕ → World
 world shelf sink counted = record { shelf = shelf; sink = sink; counted = counted }
 
 -- the world of a shelf and of a sink, by what their types tell of them, and of a number of entries
-abbrev pub world_of : {S K : Type 0} → (S → Option Files) → (S → ℕ) → (S → Option ℕ) → S → (K → Option (List ℕ))
+abbrev pub world_of : {S K : Type 0} → (S → Option Files) → (S → ℕ) → (S → Option Calls) → S → (K → Option (List ℕ))
     → (K → ℕ) → (K → Option ℕ) → K → ℕ → World
 world_of files faults calls shelf written failed puts sink counted =
     world (shelf_state (files shelf) (faults shelf) (calls shelf))
     (sink_state (written sink) (failed sink) (puts sink)) counted
 
+-- there were so many puts, or, where More holds, one more
+abbrev pub PutsOrOneMore : Type 0 → ℕ → Option ℕ → Option ℕ → Type 0
+PutsOrOneMore More n old new = (new ≡ tallied n old) ⊎ (More × (new ≡ tallied (n + 1) old))
+
 -- k whole blocks were written, each by one put; the next one may have been refused by one put more
 pub record WroteWhole (k : ℕ) (old new : SinkState) (blocks : List (List ℕ)) : Type 0 where
   pub written : new.written ≡ appended old.written (joined (take k blocks))
-  pub puts : CallsOrOneMore (k < length blocks) k old.puts new.puts
+  pub puts : PutsOrOneMore (k < length blocks) k old.puts new.puts
 
 -- k whole blocks were written, each by one put, and a front of the next by the last put, which failed
 pub record WroteFront (k : ℕ) (old new : SinkState) (blocks : List (List ℕ)) : Type 0 where

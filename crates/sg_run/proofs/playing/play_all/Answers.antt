@@ -15,7 +15,7 @@ use Rattle.sg_run.proofs.playing.play_all.Goals as goal
 pub returns-in_err-editor : goal.returns-in_err-editor
 returns-in_err-editor g c = λ r right.
     played_as _ _ _ Memory _ _ _ (ended_is Memory _ c.from_residual.ensures.1)
-    (played_at _ _ Memory _ _ (ends_early _ _ (counted c.args.journal.now) _ (session_quiet (desk c.args.loaded.spec c.args.width c.args.height r) c.args.commands.now start)))
+    (played_at _ _ Memory _ _ (ends_early _ _ (counted c.args.journal.now) _ (session_quiet (desk c.args.loaded.spec c.args.width c.args.height r) c.args.commands.now start)) refl)
 
 pub returns : goal.returns
 returns g c = λ r right.

@@ -20,7 +20,7 @@ returns g c =
     let spec = c.in_ok-open.field-0.spec in
     record {
       known = λ n. read_as _ _ _ _ _ _ c.end.ensures (read_opened c.args.name.now spec _ _ _ _ (λ readers. checked spec) _ _ _ _ o
-          (λ readers read. played_at (checked spec) _ _ _ _ (ends_text _ _ _ n Done _ ok_text c.finish.ensures)));
+          (λ readers read. played_at (checked spec) _ _ _ _ (ends_text _ _ _ n Done _ ok_text c.finish.ensures) refl));
       played = λ r right n. played_as _ _ _ _ _ _ _ c.end.ensures (played_opened c.args.name.now spec _ _ _ _ _ _ _ (λ readers. checked) _ _ o c.in_ok-open.ensures.quiet
-          (λ readers read. played_at (checked spec) _ _ _ _ (ends_text _ _ _ n Done _ ok_text c.finish.ensures)) r right);
+          (λ readers read. played_at (checked spec) _ _ _ _ (ends_text _ _ _ n Done _ ok_text c.finish.ensures) refl) r right);
     }

@@ -17,7 +17,7 @@ pub returns-in-None : goal.returns-in-None
 returns-in-None g c = record {
   known = read_none _ _ _ _ _ blank_readers c.in-None.ensures.job c.requires.none;
   played = λ r right. told_by None r (map string_bytes c.args.words.now) _ _ _ _ _ c.in-None.ensures.job
-      (played_nothing (job_told None r) _ _ _ _ _ c.requires.none (ends_text _ _ _ (counted c.args.journal.now) Usage _ _ c.finish.ensures));
+      (played_nothing (job_told None r) _ _ _ _ _ c.requires.none (ends_text _ _ _ (counted c.args.journal.now) Usage _ _ c.finish.ensures) refl);
 }
 
 pub returns-in-Some-Show : goal.returns-in-Some-Show
@@ -42,7 +42,7 @@ returns-in-Some-Load g c =
     record {
       known = known_lines _ c.in-Some-Load.count _ _ _ _ _ _ _ is c.requires.none c.work.ensures.known;
       played = λ r right. told_by (Some (Load c.in-Some-Load.count)) r (map string_bytes c.args.words.now) _ _ _ _ _ is
-          (played_nothing (job_told (Some (Load c.in-Some-Load.count)) r) _ _ _ _ _ c.requires.none (c.work.ensures.ended r (right_by _ _ _ r is right) _));
+          (played_nothing (job_told (Some (Load c.in-Some-Load.count)) r) _ _ _ _ _ c.requires.none (c.work.ensures.ended r (right_by _ _ _ r is right) _) refl);
     }
 
 pub returns-in-Some-Run : goal.returns-in-Some-Run

@@ -26,9 +26,9 @@ returns-in_err-commands g c =
     let quiet = c.in_ok-loaded.ensures.quiet in
     record {
       known = read_as _ _ _ _ _ _ over (read_opened c.args.name.now spec _ _ _ _ (λ readers. shown readers spec) _ _ _ Memory o
-          (λ readers read. played_at (shown readers spec) _ Memory _ _ (ends_early _ _ (counted c.args.journal.now) _ (session_quiet (desk spec 80 24 readers) first_command start))));
+          (λ readers read. played_at (shown readers spec) _ Memory _ _ (ends_early _ _ (counted c.args.journal.now) _ (session_quiet (desk spec 80 24 readers) first_command start)) refl));
       played = λ r right. played_as _ _ _ _ _ _ _ over (played_opened c.args.name.now spec _ _ _ _ _ _ _ shown _ Memory o quiet
-          (λ readers read. played_at (shown readers spec) _ Memory _ _ (ends_early _ _ (counted c.args.journal.now) _ (session_quiet (desk spec 80 24 readers) first_command start))) r right);
+          (λ readers read. played_at (shown readers spec) _ Memory _ _ (ends_early _ _ (counted c.args.journal.now) _ (session_quiet (desk spec 80 24 readers) first_command start)) refl) r right);
     }
 
 pub returns : goal.returns

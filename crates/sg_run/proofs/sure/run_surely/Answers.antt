@@ -32,3 +32,9 @@ returns-clause-complete c = c.run.ensures.complete (λ rose. omega (arith, rose)
 
 pub returns-clause-output : goal.returns-clause-output
 returns-clause-output c = λ r right end. let is = c.run.ensures.output r right end in cc
+
+pub returns-clause-puts : goal.returns-clause-puts
+returns-clause-puts c = λ r right end. let is = c.run.ensures.puts r right end in cc
+
+pub returns-clause-calls : goal.returns-clause-calls
+returns-clause-calls c = λ other. let is = c.run.ensures.calls other in cc
