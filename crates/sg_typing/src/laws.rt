@@ -89,8 +89,8 @@ pub fn mismatches_are_untyped()
         → is_found spec p (type_of spec (outer ++ types) (expr.recorded t w vs e)) ≡ false }
 {}
 
-/// So with the body of each declaration whose uses are known: where it has a mismatch, its expression in each record with
-/// these names has no type that is accepted where it stands, or its pattern binds nothing.
+/// So it is with the bodies of declarations whose uses are known: where one has a mismatch, its expression in each record
+/// with these names has no type that is accepted where it stands, or its pattern binds nothing.
 pub fn mismatched_bodies_are_untyped()
     ensures equations { (t : Table) (spec : Spec) → HasTable t spec → HasShapes spec → (op : ℕ) (q : Equation)
         (types : List ℕ) → AreKnown t (equation_uses (InOperator op) (local_scope t op) q)
