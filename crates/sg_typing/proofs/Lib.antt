@@ -12,3 +12,4 @@ pub mod NamesMean
 pub mod BodyUntyped
 pub mod MismatchHead
 pub mod MismatchOrder
+pub mod WantedKnown

@@ -228,7 +228,7 @@ holds_front (OfEquation op args) xs ys e h = extends_both xs ys args e h
 holds_front (OfProduction left parts) xs ys e h = tt
 holds_front OfNothing xs ys e h = tt
 
-reference_known : (b there : Bool) (r : Reference) → reference_fault there b r ≡ None → b ≡ true
+pub reference_known : (b there : Bool) (r : Reference) → reference_fault there b r ≡ None → b ≡ true
 reference_known b true r h = known_is b r.attr h
 reference_known b false r h = cc
 
@@ -258,16 +258,20 @@ place_there vs n h =
     any [] = refl
     any (v ∷ vs) = ap (λ b. bytes_eq n v.name || b) (any vs)
 
-local_bound : (t : Table) (op : ℕ) (args before : List Occurrence) (n : Bytes) → is_visible (names_outside t (OfEquation op args)) n ≡ true → Extends (added before (local_of t op n)) args → is_some (local_at t (OfEquation op args) n) ≡ true
-local_bound t op args before n v h =
-    let x = some_there (local t op n) (some_place (λ (l : Local). bytes_eq n l.name) (locals_of t.ops op) ∙ any (locals_of t.ops op) ∙ v) in
-    let o : Occurrence = record { at = 0; slot = own_slots t op + x.0 } in
-    ap (λ k. is_some (option_and_then (argument t op args 0) (option_map (λ k. own_slots t op + k) k))) x.1
-    ∙ argument_there t op args before o (subst (λ k. Extends (added before (option_map (λ s. record { at = 0; slot = s }) (option_map (λ k. own_slots t op + k) k))) args) x.1 h)
+-- a local's name, and its place
+pub local_named : (t : Table) (op : ℕ) (n : Bytes) → is_visible (map (λ (l : Local). l.name) (locals_of t.ops op)) n ≡ true → (k : ℕ) × (local t op n ≡ Some k)
+local_named t op n v = some_there (local t op n) (some_place (λ (l : Local). bytes_eq n l.name) (locals_of t.ops op) ∙ any (locals_of t.ops op) ∙ v)
   where
     any : (ls : List Local) → list_any (λ (l : Local). bytes_eq n l.name) ls ≡ is_visible (map (λ (l : Local). l.name) ls) n
     any [] = refl
     any (l ∷ ls) = ap (λ b. bytes_eq n l.name || b) (any ls)
+
+local_bound : (t : Table) (op : ℕ) (args before : List Occurrence) (n : Bytes) → is_visible (names_outside t (OfEquation op args)) n ≡ true → Extends (added before (local_of t op n)) args → is_some (local_at t (OfEquation op args) n) ≡ true
+local_bound t op args before n v h =
+    let x = local_named t op n v in
+    let o : Occurrence = record { at = 0; slot = own_slots t op + x.0 } in
+    ap (λ k. is_some (option_and_then (argument t op args 0) (option_map (λ k. own_slots t op + k) k))) x.1
+    ∙ argument_there t op args before o (subst (λ k. Extends (added before (option_map (λ s. record { at = 0; slot = s }) (option_map (λ k. own_slots t op + k) k))) args) x.1 h)
 
 variable_found : (t : Table) (w : Owner) (vs : List vars.Variable) (n : Bytes) → is_visible (names_of vs) n ≡ true → is_some (variable_at t w vs n) ≡ true
 variable_found t w vs n h = by (local_at t w n) (found vs n) (place_there vs n h)

@@ -1,32 +1,32 @@
 //! Laws of what is kept of declarations, each as the contract of a function without code.
-ghost use Rattle.std.specs.List.{AllByRecursion};
 ghost use Rattle.std.specs.Prelude.{◌≡◌, ◌≤◌, ℕ, List, map, flat_map, slice_get, ◌++◌, Option, Some, None, is_some, true, false};
+ghost use Rattle.std.specs.List.{AllByRecursion};
+ghost use Rattle.sg_ast.specs.Declarations.{Decl, Equation, Right};
 ghost use Rattle.sg_ast.specs.Expressions.{Expr};
 ghost use Rattle.sg_ast.specs.Patterns.{Pattern};
-ghost use Rattle.sg_kinds.specs.Sound.{HasShapes};
-ghost use Rattle.sg_kinds.specs.Typing.{bound_types, is_found, type_of, types_at};
-ghost use Rattle.sg_kinds.specs.declared.spec.Occurrence.{Occurrence};
-ghost use Rattle.sg_kinds.specs.Values.{Bytes};
-ghost use Rattle.sg_kinds.specs.declared.fault.Position.{Position};
-ghost use Rattle.sg_kinds.specs.declared.spec.Spec.{Spec};
-ghost use Rattle.sg_names.specs.Uses.{InOperator, equation_uses, expr_uses, in_function, in_transform, local_scope};
-ghost use Rattle.sg_names.specs.Uses.{pattern_uses, right_uses, uses};
 ghost use Rattle.sg_ast.specs.Rising.{RiseFrom, places_of};
-ghost use Rattle.sg_typing.specs.Mismatches.{mismatches};
-ghost use Rattle.sg_names.specs.Lookups.{phylum_named};
-ghost use Rattle.sg_ast.specs.Declarations.{Decl, Equation, Right};
+ghost use Rattle.sg_ast.specs.Written.{HasValues, AreWritten};
 ghost use Rattle.sg_ast.specs.declared.name.Name.{Name};
 ghost use Rattle.sg_ast.specs.declared.name.Typed.{Typed};
-ghost use Rattle.sg_typing.specs.Bodies as body;
-ghost use Rattle.sg_names.specs.declared.table.Table.{Table};
-ghost use Rattle.sg_types.specs.declared.scope.Variable.{Variable};
-ghost use Rattle.sg_types.specs.Bindings.{Owner, OfEquation, OfProduction};
+ghost use Rattle.sg_kinds.specs.Sound.{HasShapes};
+ghost use Rattle.sg_kinds.specs.Typing.{bound_types, is_found, type_of, types_at};
+ghost use Rattle.sg_kinds.specs.Values.{Bytes};
+ghost use Rattle.sg_kinds.specs.declared.fault.Position.{Position};
+ghost use Rattle.sg_kinds.specs.declared.spec.Occurrence.{Occurrence};
+ghost use Rattle.sg_kinds.specs.declared.spec.Spec.{Spec};
 ghost use Rattle.sg_names.specs.Drafted.{HasTable, drafted};
-ghost use Rattle.sg_typing.specs.Arguments.{args_in};
+ghost use Rattle.sg_names.specs.Lookups.{phylum_named};
+ghost use Rattle.sg_names.specs.Uses.{InOperator, equation_uses, expr_uses, in_function, in_transform, local_scope};
+ghost use Rattle.sg_names.specs.Uses.{pattern_uses, right_uses, uses};
+ghost use Rattle.sg_names.specs.declared.table.Table.{Table};
+ghost use Rattle.sg_types.specs.Bindings.{Owner, OfEquation, OfProduction};
 ghost use Rattle.sg_types.specs.Expressions as expr;
 ghost use Rattle.sg_types.specs.Patterns.{mismatch_in, recorded, variables_of};
-ghost use Rattle.sg_ast.specs.Written.{HasValues, AreWritten};
+ghost use Rattle.sg_types.specs.declared.scope.Variable.{Variable};
+ghost use Rattle.sg_typing.specs.Arguments.{args_in};
+ghost use Rattle.sg_typing.specs.Bodies as body;
 ghost use Rattle.sg_typing.specs.Known.{AreKnown, HasArguments, SeesVariables, site_of};
+ghost use Rattle.sg_typing.specs.Mismatches.{mismatches};
 ghost use Rattle.sg_typing.specs.Written.{HasLists, AreOutside, known};
 
 /// A pattern without a mismatch binds its variables in the record too, each with its type.
@@ -89,8 +89,8 @@ pub fn mismatches_are_untyped()
         → is_found spec p (type_of spec (outer ++ types) (expr.recorded t w vs e)) ≡ false }
 {}
 
-/// So with the body of each declaration whose uses are known: where it has a mismatch, its expression in each record with
-/// these names has no type that is accepted where it stands, or its pattern binds nothing.
+/// So it is with the bodies of declarations whose uses are known: where one has a mismatch, its expression in each record
+/// with these names has no type that is accepted where it stands, or its pattern binds nothing.
 pub fn mismatched_bodies_are_untyped()
     ensures equations { (t : Table) (spec : Spec) → HasTable t spec → HasShapes spec → (op : ℕ) (q : Equation)
         (types : List ℕ) → AreKnown t (equation_uses (InOperator op) (local_scope t op) q)
@@ -111,6 +111,18 @@ pub fn mismatched_bodies_are_untyped()
         (types : List ℕ) → AreKnown t (right_uses n.text r) → AreOutside t (OfProduction n.text r.parts) types
         → (p : ℕ) (place : Position) → body.result_type t n ≡ Some p → body.right_mismatch t n r ≡ Some place
         → is_found spec p (type_of spec types (body.right_typed t n r).expr) ≡ false }
+{}
+
+/// Where uses are known, what an equation defines, a function gives and a transformation is on has a type, and so have
+/// parameters.
+pub fn wanted_types_are_known()
+    ensures equations { (t : Table) (op : ℕ) (q : Equation)
+        → AreKnown t (equation_uses (InOperator op) (local_scope t op) q)
+        → is_some (body.target_type t op q.target) ≡ true }
+    ensures functions { (t : Table) (of : Name) (params : List Typed) (e : Expr) → AreKnown t (in_function of params e)
+        → (is_some (phylum_named t of.text) ≡ true) × (is_some (known (map (body.parameter t) params)) ≡ true) }
+    ensures transforms { (t : Table) (n : Name) (q : Pattern) (e : Expr) → AreKnown t (in_transform n q e)
+        → is_some (phylum_named t n.text) ≡ true }
 {}
 
 /// Of all mismatches of declarations whose uses are known the walk answers the first, and where the places of the
