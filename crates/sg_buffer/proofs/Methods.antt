@@ -1,5 +1,5 @@
 -- What each call makes of a buffer.
-use Rattle.std.specs.Prelude.{◌≡◌, ◌≢◌, refl, ℕ, ◌+◌, ◌-◌, ◌<◌, ◌≤◌, true, min, List, [], ◌∷◌, length, Option, None, Some, option_map, unwrap_or, MatchOption, ⊤, Result, Ok, Err, IfOk, IfSome}
+use Rattle.std.specs.Prelude.{◌≡◌, ◌≢◌, refl, ℕ, ◌+◌, ◌-◌, ◌<◌, ◌≤◌, true, min, List, [], ◌∷◌, length, Option, None, Some, option_map, unwrap_or, MatchOption, ⊤, IfSome}
 use Rattle.std.proofs.Common.{sym, ap, ◌∙◌, subst}
 use Rattle.sg_kinds.specs.Terms.{Term}
 use Rattle.sg_kinds.specs.Places.{Place, place_of}
@@ -283,9 +283,8 @@ module _ (b v : Held) (view : b ≡ v) (count room : ℕ) (page : Option Sheet) 
     room_here h = more_there b.grove is.stands.grove b.root (state_of b) is.stands.whole.holds is.stands.small spine b.count r most leads_now elements_are wide is.stands.count h
 
   -- the path of the selected node
-  pub path_here : {E : Type 0} (r : Result (List ℕ) E) → IfOk r (λ path. path ≡ standing.way) → IfOk r (λ path. path ≡ (state_of v).spot.selection.path)
-  path_here (Ok path) same = subst (λ (z : Held). path ≡ (state_of z).spot.selection.path) view (same ∙ is.standing_is.0)
-  path_here (Err e) same = tt
+  pub path_here : standing.way ≡ (state_of v).spot.selection.path
+  path_here = subst (λ (z : Held). standing.way ≡ (state_of z).spot.selection.path) view is.standing_is.0
 
   -- the point
   pub pointed_here : (k : ℕ) (c : Captured) → b.capture ≡ Some c → IsBuffer (capturing b (Some (record c { point = k }))) count room page standing × (state_of (capturing b (Some (record c { point = k }))) ≡ states.pointed k (state_of v))

@@ -199,13 +199,6 @@ impl Buffer {
         self.top
     }
 
-    /// How many lines the window has.
-    pub fn height(&self) -> usize
-        ensures { result ≡ self.now.height }
-    {
-        self.height
-    }
-
     /// How many nodes the term has.
     pub fn nodes(&self) -> usize
         ensures { result ≡ nodes_of (state_of self.now).term }
@@ -284,10 +277,10 @@ impl Buffer {
     }
 
     /// The path of the selected node, of a run's first element.
-    pub fn path(&self) -> Result<Path, NoMemory>
-        ensures { IfOk result (λ path. path ≡ (state_of self.now).spot.selection.path) }
+    pub fn path(&self) -> &Path
+        ensures { result.now ≡ (state_of self.now).spot.selection.path }
     {
-        self.standing.way.copy(self.alloc)
+        &self.standing.way
     }
 
     // selects a resting place; without memory nothing changes
