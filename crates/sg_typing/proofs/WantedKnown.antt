@@ -1,5 +1,5 @@
 -- Where uses are known, what an expression stands for and the parameters around it have types.
-use Rattle.std.proofs.Common.{◌≡◌, refl, sym, ap, ◌∙◌, ℕ, ◌+◌, Bool, true, List, [], ◌∷◌, ◌++◌, map, Option, Some, None}
+use Rattle.std.proofs.Common.{◌≡◌, refl, ap, ◌∙◌, ℕ, ◌+◌, true, List, [], ◌∷◌, ◌++◌, map, Option, Some, None}
 use Rattle.std.specs.Prelude.{is_some, option_map, option_and_then, if◌then◌else◌}
 use Rattle.sg_kinds.proofs.Elementary.{some_there}
 use Rattle.sg_kinds.specs.Typing.{slot_type}
@@ -14,13 +14,13 @@ use Rattle.sg_ast.specs.declared.name.Name.{Name}
 use Rattle.sg_ast.specs.declared.name.Typed.{Typed}
 use Rattle.sg_ast.proofs.FirstLaws.{neither}
 use Rattle.sg_names.specs.Drafted.{drafted}
-use Rattle.sg_names.specs.Lookups.{is_whitespace, local, phylum_named, reference, usable_named}
+use Rattle.sg_names.specs.Lookups.{is_whitespace, phylum_named, reference, usable_named}
 use Rattle.sg_names.specs.UnknownName.{is_known, is_there, reference_fault, unknown_at, unless_known}
 use Rattle.sg_names.specs.Uses.{Binds, Elsewhere, InOperator, UsesPhylum, equation_uses, expr_uses, in_function, in_transform, is_visible, local_scope, params_scope, params_uses, pattern_scope, pattern_uses, target_uses, with_variable}
 use Rattle.sg_names.specs.declared.table.Table.{Table}
-use Rattle.sg_types.specs.Bindings.{OfEquation, own_slots}
+use Rattle.sg_types.specs.Bindings.{own_slots}
 use Rattle.sg_typing.specs.Bodies.{parameter, reference_type, target_type}
-use Rattle.sg_typing.specs.Known.{AreKnown, names_outside}
+use Rattle.sg_typing.specs.Known.{AreKnown}
 use Rattle.sg_typing.specs.Written.{known}
 use Rattle.sg_typing.proofs.ArgsTyped.{local_typed, reference_typed}
 use Rattle.sg_typing.proofs.BodyUntyped.{locals_among, none_among}
