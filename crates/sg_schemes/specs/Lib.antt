@@ -2,3 +2,4 @@ pub mod Strings
 pub mod Places
 pub mod Shown
 pub mod NoScheme
+pub mod Spots
