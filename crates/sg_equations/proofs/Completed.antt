@@ -92,7 +92,7 @@ none_missing t defs same h = by (first_lacking t defs) refl h
         let there : missing_at t op ≡ Some (fault.Missing y.0 x.0.name) = rw (y.1, x.1) refl in
         cc
 
-lacks_none : (b : Bool) (n : ℕ) → cond b (Some n) None ≡ None → b ≡ false
+pub lacks_none : (b : Bool) (n : ℕ) → cond b (Some n) None ≡ None → b ≡ false
 lacks_none true n h = cc
 lacks_none false n h = refl
 

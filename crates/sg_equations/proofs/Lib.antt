@@ -6,3 +6,5 @@ mod RuleKeys
 mod Completed
 mod RuleTypes
 pub mod RulesSound
+pub mod TextOrder
+pub mod FirstInText

@@ -4,3 +4,4 @@ pub mod Complete
 pub mod Keys
 pub mod RulesOf
 pub mod Literals
+pub mod DefinedPlaces

@@ -49,15 +49,15 @@ Among p [] = ⊥
 Among p (q ∷ qs) = (p ≡ q) ⊎ Among p qs
 
 -- what rises: the first places are at least the start, and those behind a place are later
-rest_rises : (k : ℕ) (ps qs : List Position) → RiseFrom k (ps ++ qs) → RiseFrom k qs
+pub rest_rises : (k : ℕ) (ps qs : List Position) → RiseFrom k (ps ++ qs) → RiseFrom k qs
 rest_rises k ps qs h = some_rise k (later ps (whole qs)) h
 
-front_rises : (k : ℕ) (p : Position) (ps qs : List Position) → RiseFrom k (ps ++ qs) → Among p ps → k ≤ p.token
+pub front_rises : (k : ℕ) (p : Position) (ps qs : List Position) → RiseFrom k (ps ++ qs) → Among p ps → k ≤ p.token
 front_rises k p [] qs h is = elim is [ ]
 front_rises k p (r ∷ ps) qs h (inl e) = subst (λ (x : Position). k ≤ x.token) (sym e) h.0
 front_rises k p (r ∷ ps) qs h (inr is) = let more = front_rises (r.token + 1) p ps qs h.1 is in omega (arith, h.0, more)
 
-behind_rises : (k : ℕ) (p : Position) (ps qs : List Position) → RiseFrom k (ps ++ qs) → Among p ps → RiseFrom (p.token + 1) qs
+pub behind_rises : (k : ℕ) (p : Position) (ps qs : List Position) → RiseFrom k (ps ++ qs) → Among p ps → RiseFrom (p.token + 1) qs
 behind_rises k p [] qs h is = elim is [ ]
 behind_rises k p (r ∷ ps) qs h (inl e) = subst (λ (x : Position). RiseFrom (x.token + 1) qs) (sym e) (rest_rises (r.token + 1) ps qs h.1)
 behind_rises k p (r ∷ ps) qs h (inr is) = behind_rises (r.token + 1) p ps qs h.1 is
