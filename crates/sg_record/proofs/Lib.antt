@@ -14,3 +14,4 @@ pub mod RecordEntries
 pub mod RecordNames
 pub mod RecordSound
 pub mod Assembled
+pub mod FirstEntry

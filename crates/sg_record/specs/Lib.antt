@@ -3,3 +3,4 @@ pub mod PiecesView
 pub mod Entries
 pub mod Premises
 pub mod RecordView
+pub mod EntryPlaces

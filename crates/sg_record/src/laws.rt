@@ -1,20 +1,25 @@
 //! Laws of the record, each as the contract of a function without code.
-ghost use Rattle.std.specs.Prelude.{◌≡◌, List, None, All};
+ghost use Rattle.std.specs.Prelude.{◌≡◌, List, None, Some, All, flat_map};
 ghost use Rattle.sg_ast.specs.Declarations.{Decl};
+ghost use Rattle.sg_ast.specs.FirstFault.{repeats};
+ghost use Rattle.sg_ast.specs.Rising.{places_of, RiseFrom, SomeOf};
 ghost use Rattle.sg_kinds.specs.Lexemes.{Lexeme};
 ghost use Rattle.sg_kinds.specs.Sound.{HasEntries, HasSchemes, HasShapes, IsNamed, IsNumbered, IsTyped};
+ghost use Rattle.sg_kinds.specs.declared.fault.Position.{Position};
 ghost use Rattle.sg_kinds.specs.declared.spec.Rule.{Rule};
 ghost use Rattle.sg_names.specs.Drafted.{HasTable};
 ghost use Rattle.sg_names.specs.Names.{names_of};
 ghost use Rattle.sg_names.specs.Shapes.{result_count};
 ghost use Rattle.sg_names.specs.UnknownName.{unknown_name};
 ghost use Rattle.sg_names.specs.declared.table.Table.{Table};
-ghost use Rattle.sg_record.specs.Entries.{entry_twice, entry_type};
+ghost use Rattle.sg_record.specs.Entries.{entered, entry_twice, entry_type, type_fault};
+ghost use Rattle.sg_record.specs.EntryPlaces.{entry_places, fault_place, is_same_phylum, IsFirstEntry};
 ghost use Rattle.sg_ast.specs.Written.{HaveWritten};
 ghost use Rattle.sg_record.specs.Premises.{AreApart, HasNoSchemes};
 ghost use Rattle.sg_record.specs.Record.{record_of};
 ghost use Rattle.sg_schemes.specs.NoScheme.{IsNoScheme};
 ghost use Rattle.sg_schemes.specs.Places.{scheme_kids};
+ghost use Rattle.sg_schemes.specs.Spots.{IsFirst};
 ghost use Rattle.sg_typing.specs.Checked.{first_fault};
 
 /// The record has the names of its table, whose operators have no schemes.
@@ -54,4 +59,15 @@ pub fn records_have_nonterminals()
         (record_of (names_of ds) ds rules lexemes).productions }
     ensures numbered { (ds : List Decl) (rules : List Rule) (lexemes : List Lexeme) → HaveWritten ds →
         IsNumbered (record_of (names_of ds) ds rules lexemes).productions }
+{}
+
+/// The entries are met in the order of the text. So of declarations whose places rise, as those of a text do, the first
+/// second entry of a phylum stands before all others, and so does the first whose attribute has a type that is not
+/// accepted.
+pub fn entries_follow_the_text()
+    ensures entries { (ds : List Decl) → SomeOf (entry_places (entered ds)) (flat_map places_of ds) }
+    ensures entry_twice { (ds : List Decl) → RiseFrom 0 (flat_map places_of ds) → (t : Table) (p : Position)
+        → fault_place (entry_twice t ds) ≡ Some p → IsFirstEntry (repeats (is_same_phylum t) (entered ds)) p }
+    ensures entry_type { (ds : List Decl) → RiseFrom 0 (flat_map places_of ds) → (t : Table) (p : Position)
+        → fault_place (entry_type t ds) ≡ Some p → IsFirst (λ d. fault_place (type_fault t d)) ds p }
 {}
