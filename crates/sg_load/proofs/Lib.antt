@@ -15,3 +15,4 @@ pub mod RecordNamed
 pub mod SchemesFaults
 pub mod SoundSpec
 pub mod Judging
+pub mod FirstPattern

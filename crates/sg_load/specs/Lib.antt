@@ -8,3 +8,4 @@ pub mod Verdict
 pub mod Only
 pub mod Loaded
 pub mod PartsOf
+pub mod PatternPlaces

@@ -1,18 +1,23 @@
 //! Laws of the trees of a text and of the record of declarations, each as the contract of a function without code.
 ghost use Rattle.sg_ast.specs.Declarations.{Decl};
+ghost use Rattle.sg_ast.specs.Rising.{places_of, RiseFrom, SomeOf};
 ghost use Rattle.sg_counts.specs.Duplicates.{duplicate};
 ghost use Rattle.sg_counts.specs.Limits.{limit};
 ghost use Rattle.sg_kinds.specs.Lexemes.{Lexeme};
 ghost use Rattle.sg_kinds.specs.Sound.{AreCounted, HasNames};
 ghost use Rattle.sg_kinds.specs.Values.{Bytes};
+ghost use Rattle.sg_kinds.specs.declared.fault.Position.{Position};
+ghost use Rattle.sg_kinds.specs.declared.fault.SpecFault.TheVariants.{EmptyLexeme, PatternForm};
 ghost use Rattle.sg_kinds.specs.declared.spec.Rule.{Rule};
+ghost use Rattle.sg_load.specs.PatternPlaces.{pattern_places, IsFirstPattern};
+ghost use Rattle.sg_load.specs.Patterns.{HasNoForm, IsEmptyLexeme, IsPatternForm, MatchesEmpty};
 ghost use Rattle.sg_load.specs.Trees.{trees_in};
 ghost use Rattle.sg_names.specs.Names.{names_of};
 ghost use Rattle.sg_names.specs.Shapes.{result_count};
 ghost use Rattle.sg_ast.specs.Written.{HaveWritten};
 ghost use Rattle.sg_record.specs.Premises.{AreApart};
 ghost use Rattle.sg_record.specs.Record.{record_of};
-ghost use Rattle.std.specs.Prelude.{◌≡◌, List, None, Ok};
+ghost use Rattle.std.specs.Prelude.{◌≡◌, List, None, Ok, flat_map};
 
 /// The trees that are read of a text have values as their literals, and lists that may not be empty are not.
 #[tactic(auto, using(crate::proofs::WrittenLaws::read_written))]
@@ -38,4 +43,14 @@ pub fn records_have_names()
     ensures { (ds : List Decl) (rules : List Rule) (lexemes : List Lexeme) → HaveWritten ds → duplicate ds ≡ None
         → result_count (names_of ds) ≡ None →
         HasNames (record_of (names_of ds) ds rules lexemes) }
+{}
+
+/// The patterns of lexeme phyla are met in the order of the text. So of declarations whose places rise, as those of a
+/// text do, the first text that is no pattern stands before all others, and so does the first that matches the empty text.
+pub fn patterns_follow_the_text()
+    ensures patterns { (ds : List Decl) → SomeOf (pattern_places ds) (flat_map places_of ds) }
+    ensures pattern_form { (ds : List Decl) → RiseFrom 0 (flat_map places_of ds) → (p : Position) (n : Bytes)
+        → IsPatternForm ds (PatternForm p n) → IsFirstPattern HasNoForm ds p }
+    ensures empty_lexeme { (ds : List Decl) → RiseFrom 0 (flat_map places_of ds) → (p : Position) (n : Bytes)
+        → IsEmptyLexeme ds (EmptyLexeme p n) → IsFirstPattern MatchesEmpty ds p }
 {}
