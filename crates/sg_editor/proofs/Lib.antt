@@ -9,4 +9,6 @@ mod Printed
 mod Bound
 mod Telling
 mod Refusing
+mod Few
+mod Naming
 mod Current

@@ -4,3 +4,4 @@ pub mod Screen
 pub mod Editing
 pub mod Steps
 pub mod Refused
+pub mod Buffers

@@ -5,6 +5,7 @@ mod WrittenMarks
 mod WrittenTrees
 mod WrittenDecls
 pub mod WrittenLaws
+pub mod NamesRead
 pub mod FirstLaws
 pub mod LexemeFaults
 pub mod Phases

@@ -1,5 +1,5 @@
--- What a string stands for is a text.
-use Rattle.std.proofs.Common.{◌≡◌, ℕ, zero, suc, ◌+◌, ◌-◌, ◌<◌, Bool, true, false, cond, ◌&&◌, List, [], ◌∷◌, length, take, Option, Some, None, refl, arith}
+-- What a string stands for is a text, and a word is a name that is not reserved.
+use Rattle.std.proofs.Common.{◌≡◌, ℕ, zero, suc, ◌+◌, ◌-◌, ◌<◌, ◌≤◌, Bool, true, false, cond, ◌&&◌, List, [], ◌∷◌, length, take, Option, Some, None, refl, arith}
 use Rattle.std.specs.Prelude.{◌==◌, nat_le, ℤ, option_map, ⊤}
 use Rattle.std.specs.Option.{option_map_or}
 use Rattle.std.proofs.lemmas.Bool.{and_parts, and_from}
@@ -16,13 +16,15 @@ use Rattle.sg_text.specs.Strings.{escape_value, unescaped_after, unescaped}
 use Rattle.sg_text.specs.Symbols.{symbol_of}
 use Rattle.sg_text.specs.Words.{keyword_of}
 use Rattle.sg_text.specs.Lexemes.{Lexeme, Word, Reserved, String, meaning_of, token_bytes, lexeme_of}
-use Rattle.sg_text.specs.Placed.{IsTokenOf}
+use Rattle.sg_text.specs.Placed.{IsWithinLimits, IsTokenOf}
 use Rattle.sg_kinds.specs.Values.{is_text_byte, is_text}
+use Rattle.sg_load.specs.FreeNames.{IsFreeName}
 
--- a lexeme that is a text if it is a string
-abbrev pub HasText : Lexeme → Type 0
-HasText (String s) = is_text s ≡ true
-HasText l = ⊤
+-- a lexeme that is a text if it is a string, and a name that is not reserved if it is a word
+abbrev pub HasForm : Lexeme → Type 0
+HasForm (String s) = is_text s ≡ true
+HasForm (Word w) = IsFreeName w
+HasForm l = ⊤
 
 escape_text : (b : ℕ) → is_escape b ≡ true → is_text_byte (escape_value b) ≡ true
 escape_text b is = grind (arith, nat_tests)
@@ -74,17 +76,30 @@ string_form : (w : List ℕ) → kind_of w ≡ Some Text → is_string w ≡ tru
 unfolding kind_of
 string_form w form = is_text_form (is_name w) (is_number w) (is_string w) (is_quoted w) _ (symbol_of w) form
 
-word_text : (o : Option Keyword) (w : List ℕ) → HasText (option_map_or Reserved o (Word w))
-word_text None w = tt
-word_text (Some k) w = tt
+-- the form of names is that of no other text
+is_name_form : (n d s q : Bool) (v : ℤ) (o : Option symbols.Symbol) → cond n (Some Name) (cond d (Some (Number v)) (cond s (Some Text) (cond q (Some Quoted) (option_map Symbol o)))) ≡ Some Name → n ≡ true
+is_name_form true d s q v o e = refl
+is_name_form false true s q v o e = absurd (cc)
+is_name_form false false true q v o e = absurd (cc)
+is_name_form false false false true v o e = absurd (cc)
+is_name_form false false false false v None e = absurd (cc)
+is_name_form false false false false v (Some s) e = absurd (cc)
 
-meaning_text : (kind : Kind) (w : List ℕ) → kind_of w ≡ Some kind → HasText (meaning_of kind w)
-meaning_text Name w form = word_text (keyword_of w) w
-meaning_text (Number v) w form = tt
-meaning_text Text w form = string_text w (string_form w form)
-meaning_text Quoted w form = tt
-meaning_text (Symbol s) w form = tt
+name_form : (w : List ℕ) → kind_of w ≡ Some Name → is_name w ≡ true
+unfolding kind_of
+name_form w form = is_name_form (is_name w) (is_number w) (is_string w) (is_quoted w) _ (symbol_of w) form
 
--- a token of the text that is a string stands for a text
-pub token_text : (bytes : List ℕ) (t : Token) → IsTokenOf bytes t → HasText (lexeme_of bytes t)
-token_text bytes t is = meaning_text t.kind (token_bytes bytes t) is.form
+word_formed : (o : Option Keyword) (w : List ℕ) → keyword_of w ≡ o → is_name w ≡ true → length w ≤ 64 → HasForm (option_map_or Reserved o (Word w))
+word_formed None w free is short = record { named = is; short = short; free = free }
+word_formed (Some k) w free is short = tt
+
+meaning_formed : (kind : Kind) (w : List ℕ) → kind_of w ≡ Some kind → IsWithinLimits kind w → HasForm (meaning_of kind w)
+meaning_formed Name w form short = word_formed (keyword_of w) w refl (name_form w form) short
+meaning_formed (Number v) w form limits = tt
+meaning_formed Text w form limits = string_text w (string_form w form)
+meaning_formed Quoted w form limits = tt
+meaning_formed (Symbol s) w form limits = tt
+
+-- a token of the text that is a string stands for a text, and one that is a word for a name that is not reserved
+pub token_formed : (bytes : List ℕ) (t : Token) → IsTokenOf bytes t → HasForm (lexeme_of bytes t)
+token_formed bytes t is = meaning_formed t.kind (token_bytes bytes t) is.form is.limits

@@ -1,4 +1,4 @@
--- A tree whose spelling has texts as its strings has values as its literals.
+-- A tree whose spelling has lexemes of their forms has values as its literals.
 use Rattle.std.proofs.Common.{List, [], ◌∷◌, ◌++◌}
 use Rattle.sg_text.specs.declared.symbols.Symbol.TheVariants.{Colon, Question, LeftParenthesis, RightParenthesis}
 use Rattle.sg_text.specs.declared.words.Keyword.TheVariants as keyword
@@ -10,15 +10,15 @@ use Rattle.sg_ast.specs.Spelling.{Piece, sign, word, spell_pattern, spell_patter
 use Rattle.sg_ast.specs.Grouped.{HasNumbers, HaveNumbers, IsGrouped, AreGrouped, HasGrouped}
 use Rattle.sg_ast.specs.Written.{HasValues, HaveValues, AreWritten, AreWrittenAll, AreWrittenCases}
 use Rattle.sg_resolve.proofs.ShapeLists.{each_split}
-use Rattle.sg_load.proofs.WrittenText.{HasText}
-use Rattle.sg_load.proofs.WrittenMarks.{lexeme_in, AreTexts}
+use Rattle.sg_load.proofs.WrittenText.{HasForm}
+use Rattle.sg_load.proofs.WrittenMarks.{lexeme_in, AreFormed}
 
--- the strings of a spelling in two parts
-pub parts : (xs ys : List Piece) → AreTexts (xs ++ ys) → AreTexts xs × AreTexts ys
-parts xs ys h = each_split (λ (x : Piece). HasText (lexeme_in x)) xs ys h
+-- the lexemes of a spelling in two parts
+pub parts : (xs ys : List Piece) → AreFormed (xs ++ ys) → AreFormed xs × AreFormed ys
+parts xs ys h = each_split (λ (x : Piece). HasForm (lexeme_in x)) xs ys h
 
 mutual
-  pub pattern_written : (q : Pattern) → HasNumbers q → AreTexts (spell_pattern q) → HasValues q
+  pub pattern_written : (q : Pattern) → HasNumbers q → AreFormed (spell_pattern q) → HasValues q
   pattern_written (p.Amount negative n place) range h = range
   pattern_written (p.Chars s) range h = h.0
   pattern_written (p.Truth b place) range h = tt
@@ -28,20 +28,20 @@ mutual
   pattern_written (p.Applied n xs) range h =
       patterns_written xs range (parts (spell_patterns xs) (sign RightParenthesis ∷ []) h.1.1).0
 
-  patterns_written : (xs : Patterns) → HaveNumbers xs → AreTexts (spell_patterns xs) → HaveValues xs
+  patterns_written : (xs : Patterns) → HaveNumbers xs → AreFormed (spell_patterns xs) → HaveValues xs
   patterns_written NoPattern range h = tt
   patterns_written (AndPattern x xs) range h =
       let s = parts (spell_pattern x) (spell_more_patterns xs) h in
       (pattern_written x range.0 s.0, more_patterns_written xs range.1 s.1)
 
-  more_patterns_written : (xs : Patterns) → HaveNumbers xs → AreTexts (spell_more_patterns xs) → HaveValues xs
+  more_patterns_written : (xs : Patterns) → HaveNumbers xs → AreFormed (spell_more_patterns xs) → HaveValues xs
   more_patterns_written NoPattern range h = tt
   more_patterns_written (AndPattern x xs) range h =
       let s = parts (spell_pattern x) (spell_more_patterns xs) h.1 in
       (pattern_written x range.0 s.0, more_patterns_written xs range.1 s.1)
 
 mutual
-  pub expr_written : (e : Expr) → IsGrouped e → AreTexts (spell_expr e) → AreWritten e
+  pub expr_written : (e : Expr) → IsGrouped e → AreFormed (spell_expr e) → AreWritten e
   expr_written (Amount n place) g h = g
   expr_written (Chars s) g h = h.0
   expr_written (Truth b place) g h = tt
@@ -69,19 +69,19 @@ mutual
       let s4 = parts (spell_cases cs) (sign RightParenthesis ∷ []) s3.1 in
       (expr_written a g.0 s1.0, pattern_written q g.1.numbers s2.0, expr_written b g.2 s3.0, cases_written cs g.3 s4.0)
 
-  exprs_written : (es : Exprs) → AreGrouped es → AreTexts (spell_exprs es) → AreWrittenAll es
+  exprs_written : (es : Exprs) → AreGrouped es → AreFormed (spell_exprs es) → AreWrittenAll es
   exprs_written NoExpr g h = tt
   exprs_written (AndExpr e es) g h =
       let s = parts (spell_expr e) (spell_more_exprs es) h in
       (expr_written e g.0 s.0, more_exprs_written es g.1 s.1)
 
-  more_exprs_written : (es : Exprs) → AreGrouped es → AreTexts (spell_more_exprs es) → AreWrittenAll es
+  more_exprs_written : (es : Exprs) → AreGrouped es → AreFormed (spell_more_exprs es) → AreWrittenAll es
   more_exprs_written NoExpr g h = tt
   more_exprs_written (AndExpr e es) g h =
       let s = parts (spell_expr e) (spell_more_exprs es) h.1 in
       (expr_written e g.0 s.0, more_exprs_written es g.1 s.1)
 
-  cases_written : (cs : Cases) → HasGrouped cs → AreTexts (spell_cases cs) → AreWrittenCases cs
+  cases_written : (cs : Cases) → HasGrouped cs → AreFormed (spell_cases cs) → AreWrittenCases cs
   cases_written NoCase g h = tt
   cases_written (Default e) g h = expr_written e g h.1.1.1
   cases_written (Case q e cs) g h =

@@ -1,4 +1,5 @@
 pub mod Trees
+pub mod FreeNames
 pub mod Rows
 pub mod Patterns
 pub mod PatternsSoFar

@@ -11,18 +11,34 @@ ghost use Rattle.sg_kinds.specs.declared.fault.SpecFault.TheVariants.{EmptyLexem
 ghost use Rattle.sg_kinds.specs.declared.spec.Rule.{Rule};
 ghost use Rattle.sg_load.specs.PatternPlaces.{pattern_places, IsFirstPattern};
 ghost use Rattle.sg_load.specs.Patterns.{HasNoForm, IsEmptyLexeme, IsPatternForm, MatchesEmpty};
+ghost use Rattle.sg_kinds.specs.declared.spec.Operator.{Operator};
+ghost use Rattle.sg_kinds.specs.declared.spec.Spec.{Spec};
+ghost use Rattle.sg_load.specs.FreeNames.{IsFreeName, operator_names};
 ghost use Rattle.sg_load.specs.Trees.{trees_in};
+ghost use Rattle.sg_load.specs.Verdict.{Accepted, IsVerdict};
 ghost use Rattle.sg_names.specs.Names.{names_of};
 ghost use Rattle.sg_names.specs.Shapes.{result_count};
 ghost use Rattle.sg_ast.specs.Written.{HaveWritten};
 ghost use Rattle.sg_record.specs.Premises.{AreApart};
 ghost use Rattle.sg_record.specs.Record.{record_of};
-ghost use Rattle.std.specs.Prelude.{◌≡◌, List, None, Ok, flat_map};
+ghost use Rattle.std.specs.Prelude.{◌≡◌, All, List, None, Ok, flat_map};
 
 /// The trees that are read of a text have values as their literals, and lists that may not be empty are not.
 #[tactic(auto, using(crate::proofs::WrittenLaws::read_written))]
 pub fn read_trees_are_written()
     ensures { (bytes : Bytes) (ds : List Decl) → trees_in bytes ≡ Ok ds → HaveWritten ds }
+{}
+
+/// The operators that a text declares have names of at most 64 bytes that are not reserved.
+pub fn read_operators_have_names()
+    ensures { (bytes : Bytes) (ds : List Decl) → trees_in bytes ≡ Ok ds → All IsFreeName (flat_map operator_names ds) }
+{}
+
+/// So have those of an accepted specification, in which the names of each kind are distinct.
+pub fn accepted_names_are_right()
+    ensures operators { (bytes : Bytes) (spec : Spec) → IsVerdict bytes (Accepted spec)
+        → All (λ (o : Operator). IsFreeName o.name) spec.ops }
+    ensures distinct { (bytes : Bytes) (spec : Spec) → IsVerdict bytes (Accepted spec) → HasNames spec }
 {}
 
 /// The counts of the record are in their limits where none of the declarations is over its own and no definition is a

@@ -12,3 +12,4 @@ pub mod CauseLaws
 pub mod Exits
 pub mod Worked
 pub mod Works
+mod Sizes

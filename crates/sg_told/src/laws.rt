@@ -1,0 +1,11 @@
+//! Laws of the words of the command line, each as the contract of a function without code.
+ghost use Rattle.std.specs.Fmt.{decimal};
+ghost use Rattle.std.specs.Prelude.{◌≡◌, ◌≤◌, ◌↔◌, ℕ, List, Some};
+ghost use Rattle.sg_told.specs.Job.{Load, load_of, size_of};
+
+/// The sizes of a window are the numbers from 1 to 1,024, each as it is written in decimal; the workloads are those
+/// of 1 to 400 statements, each number written so.
+pub fn numbers_are_decimal()
+    ensures sizes { (w : List ℕ) (n : ℕ) → (size_of w ≡ Some n) ↔ ((w ≡ decimal n) × (1 ≤ n) × (n ≤ 1024)) }
+    ensures loads { (w : List ℕ) (n : ℕ) → (load_of w ≡ Some (Load n)) ↔ ((w ≡ decimal n) × (1 ≤ n) × (n ≤ 400)) }
+{}
