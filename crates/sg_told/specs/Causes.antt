@@ -82,16 +82,18 @@ IsNoScript bytes = (f : ScriptFault) × (script_of bytes ≡ Err f)
 abbrev pub IsScript : List ℕ → Type 0
 IsScript bytes = (commands : List Command) × (script_of bytes ≡ Ok commands)
 
--- what was fetched is a specification without a fault; and a script, where one is to be performed
+-- what was fetched second is a script, where one is to be performed
 abbrev pub AreScripts : Option Job → List Reply → Type 0
 AreScripts (Some (Run name script width height)) replies =
     (first : Reply) (bytes : List ℕ) (rest : List Reply) → replies ≡ first ∷ Fetched bytes ∷ rest → IsScript bytes
 AreScripts job replies = ⊤
 
+-- what was fetched first, or the built-in text of a workload, is a specification without a fault
 abbrev pub IsSpecAccepted : Option Job → List Reply → Type 0
 IsSpecAccepted (Some (Load n)) replies = HasNoFault lines_text
 IsSpecAccepted job replies = (bytes : List ℕ) (rest : List Reply) → replies ≡ Fetched bytes ∷ rest → HasNoFault bytes
 
+-- both
 pub record IsAccepted (job : Option Job) (replies : List Reply) : Type 0 where
   pub spec : IsSpecAccepted job replies
   pub script : AreScripts job replies

@@ -1,5 +1,5 @@
 use Rattle.sg_told.proofs.Sizes.{sizes, loads}
-use Rattle.sg_told.proofs.laws.numbers_are_decimal.Goals as goal
+use Rattle.sg_told.proofs.words.numbers_are_decimal.Goals as goal
 
 pub returns-clause-sizes : goal.returns-clause-sizes
 returns-clause-sizes c = sizes
