@@ -1,6 +1,5 @@
 -- A shelf in memory that never fails
-use Rattle.std.specs.Prelude.{ℕ, List, [], take, unwrap_or, refl}
-use Rattle.std.specs.FinMap.{get}
+use Rattle.std.specs.Prelude.{ℕ, refl}
 use Rattle.std.specs.Coded.{Coded, code_by, coded×, coded_ℕ}
 use Rattle.sg_outside.specs.Count.{Calls}
 use Rattle.sg_outside.specs.Shelf.{Files, files_code}
@@ -15,7 +14,3 @@ abbrev pub unfailing_shelf_code : Coded UnfailingShelf
 unfailing_shelf_code =
     code_by (Files × (ℕ × ℕ)) (coded× files_code (coded× coded_ℕ coded_ℕ)) (λ s. (s.files, (s.calls.answered, s.calls.unanswered)))
     (λ p. record { files = p.0; calls = record { answered = p.1.0; unanswered = p.1.1 } }) (λ _. refl)
-
--- the first `most` bytes of the file of that name, and where there is none those of the empty file
-abbrev pub front_or_empty : Files → List ℕ → ℕ → List ℕ
-front_or_empty files name most = take most (unwrap_or (get files name) [])

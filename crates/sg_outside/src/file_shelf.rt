@@ -2,6 +2,7 @@
 ghost use Rattle.std.specs.Prelude.{◌≡◌, ◌≤◌, None, IsErrOf, take, vec_len, IfOk, IfSome};
 ghost use Rattle.sg_outside.specs.Count.{Rose, raised};
 ghost use Rattle.sg_outside.specs.Shelf.{Fetches};
+ghost use Rattle.sg_outside.specs.Shelf.KnownFiles.{Unknown};
 
 use crate::{Shelf, ShelfError};
 use std::alloc::Global;
@@ -47,15 +48,11 @@ impl<'a, R: Files> FileShelf<'a, R> {
 }
 
 impl<R: Files> Shelf for FileShelf<'_, R> {
-    ghost files = { λ _. None };
-
-    ghost faults = { λ shelf. shelf.faults };
-
-    ghost calls = { λ _. None };
+    ghost state = { λ shelf. record { files = Unknown; faults = shelf.faults; calls = None } };
 
     fn fetch(&mut self, alloc: Global, name: &str, most: usize) -> Result<Vec<u8>, ShelfError>
         ensures bound { IfOk result (λ bytes. vec_len bytes ≤ most) }
-        ensures content { IfOk result (λ bytes. Fetches None name.now most bytes.items) }
+        ensures content { IfOk result (λ bytes. Fetches Unknown name.now most bytes.items) }
         ensures risen { IsErrOf result ShelfError.Failed → self.new.faults ≡ raised self.old.faults }
         ensures quiet { (IsErrOf result ShelfError.Failed → ⊥) → self.new.faults ≡ self.old.faults }
         ensures later { self.old.faults ≤ self.new.faults }

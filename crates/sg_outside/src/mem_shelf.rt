@@ -3,6 +3,7 @@ ghost use Rattle.std.specs.Prelude.{◌≡◌, ◌≤◌, ◌↔◌, Some, vec_l
 ghost use Rattle.std.specs.FinMap.{insert};
 ghost use Rattle.sg_outside.specs.Count.{Rose, raised, more_answered, one_unanswered};
 ghost use Rattle.sg_outside.specs.Shelf.{Fetches, files_from};
+ghost use Rattle.sg_outside.specs.Shelf.KnownFiles.{Exactly};
 ghost use Rattle.sg_outside.specs.MemShelf.{IsDue, FailsFetch};
 
 use crate::file_log::{FileLog, front};
@@ -99,15 +100,11 @@ impl MemShelf {
 }
 
 impl Shelf for MemShelf {
-    ghost files = { λ shelf. Some shelf.files };
-
-    ghost faults = { λ shelf. shelf.faults };
-
-    ghost calls = { λ shelf. Some shelf.calls };
+    ghost state = { λ shelf. record { files = Exactly shelf.files; faults = shelf.faults; calls = Some shelf.calls } };
 
     fn fetch(&mut self, alloc: Global, name: &str, most: usize) -> Result<Vec<u8>, ShelfError>
         ensures bound { IfOk result (λ bytes. vec_len bytes ≤ most) }
-        ensures content { IfOk result (λ bytes. Fetches (Some self.old.files) name.now most bytes.items) }
+        ensures content { IfOk result (λ bytes. Fetches (Exactly self.old.files) name.now most bytes.items) }
         ensures failed { IsErrOf result ShelfError.Failed ↔ FailsFetch self.old name.now }
         ensures same { self.new.files ≡ self.old.files }
         ensures fails { self.new.fails ≡ self.old.fails }

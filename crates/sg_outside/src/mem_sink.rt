@@ -62,11 +62,7 @@ fn cut(fails: &[(u64, usize)], number: u64) -> Option<usize>
 }
 
 impl Sink for MemSink {
-    ghost written = { λ sink. Some sink.written };
-
-    ghost faults = { λ sink. sink.faults };
-
-    ghost puts = { λ sink. Some sink.puts };
+    ghost state = { λ sink. record { written = Some sink.written; faults = sink.faults; puts = Some sink.puts } };
 
     // Where the put fails and there is no memory for the bytes before, the answer is `NoMemory`.
     fn put(&mut self, piece: &[u8]) -> Result<(), SinkError>

@@ -31,11 +31,7 @@ impl<'a, R: Print> OutSink<'a, R> {
 }
 
 impl<R: Print> Sink for OutSink<'_, R> {
-    ghost written = { λ _. None };
-
-    ghost faults = { λ sink. sink.faults };
-
-    ghost puts = { λ _. None };
+    ghost state = { λ sink. record { written = None; faults = sink.faults; puts = None } };
 
     // A write of no byte is an error too.
     fn put(&mut self, piece: &[u8]) -> Result<(), SinkError>

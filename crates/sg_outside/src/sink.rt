@@ -1,8 +1,8 @@
 // A sink of bytes.
-ghost use Rattle.std.specs.Prelude.{◌≡◌, ◌≤◌, ℕ, List, OnOk, IsErrOf, Option};
+ghost use Rattle.std.specs.Prelude.{◌≡◌, ◌≤◌, OnOk, IsErrOf};
 ghost use Rattle.sg_outside.specs.declared.sink.SinkError.TheVariants.{NoMemory as OutOfMemory};
 ghost use Rattle.sg_outside.specs.Count.{Rose, tallied};
-ghost use Rattle.sg_outside.specs.Sink.{CutShort, appended};
+ghost use Rattle.sg_outside.specs.Sink.{SinkState, CutShort, appended};
 
 use std::alloc::AllocError;
 
@@ -25,21 +25,17 @@ impl From<AllocError> for SinkError {
 
 /// A place where bytes are written in order, and whose puts may fail.
 pub trait Sink {
-    /// What was written, where the sink tells it.
-    ghost written: { Self → Option (List ℕ) };
-
-    /// How often a put failed; it stays at 2^64 - 1.
-    ghost faults: { Self → ℕ };
-
-    /// How many puts there were, where the sink tells it; it stays at 2^64 - 1.
-    ghost puts: { Self → Option ℕ };
+    /// What is known of the sink: its bytes and how many puts there were, where it tells them, and
+    /// how often a put failed. Each count stays at 2^64 - 1.
+    ghost state: { Self → SinkState };
 
     /// Writes the whole piece, or at `Failed` a front of it, and at `NoMemory` nothing.
     fn put(&mut self, piece: &[u8]) -> Result<(), SinkError>
-        ensures ok { OnOk result (written self.new ≡ appended (written self.old) piece.now) }
-        ensures failed { IsErrOf result SinkError.Failed → CutShort (written self.old) (written self.new) piece.now }
-        ensures memory { IsErrOf result SinkError.NoMemory → written self.new ≡ written self.old }
-        ensures later { faults self.old ≤ faults self.new }
-        ensures cause { IsErrOf result SinkError.Failed → Rose (faults self.old) (faults self.new) }
-        ensures counted { puts self.new ≡ tallied 1 (puts self.old) };
+        ensures ok { OnOk result ((state self.new).written ≡ appended (state self.old).written piece.now) }
+        ensures failed { IsErrOf result SinkError.Failed
+            → CutShort (state self.old).written (state self.new).written piece.now }
+        ensures memory { IsErrOf result SinkError.NoMemory → (state self.new).written ≡ (state self.old).written }
+        ensures later { (state self.old).faults ≤ (state self.new).faults }
+        ensures cause { IsErrOf result SinkError.Failed → Rose (state self.old).faults (state self.new).faults }
+        ensures counted { (state self.new).puts ≡ tallied 1 (state self.old).puts };
 }

@@ -1,17 +1,17 @@
 // A shelf in memory that never fails.
-ghost use Rattle.std.specs.Prelude.{◌≡◌, ◌≤◌, Some, None, vec_len, IfOk, OnOk, OnErr, IsErrOf};
+ghost use Rattle.std.specs.Prelude.{◌≡◌, ◌≤◌, Some, vec_len, IfOk, OnOk, OnErr, IsErrOf};
 ghost use Rattle.std.specs.FinMap.{insert};
 ghost use Rattle.sg_outside.specs.Count.{more_answered, one_unanswered};
-ghost use Rattle.sg_outside.specs.Shelf.{files_from};
-ghost use Rattle.sg_outside.specs.SureShelf.{front_or_empty};
+ghost use Rattle.sg_outside.specs.Shelf.{files_from, front_or_empty};
+ghost use Rattle.sg_outside.specs.Shelf.KnownFiles.{OrEmpty};
 
 use crate::file_log::{FileLog, front};
 use crate::{NoMemory, Shelf, ShelfError};
 use std::alloc::Global;
 use std::marker::Model;
 
-/// A shelf in memory that never fails, and tells its calls. A name that is not there reads as the
-/// empty file, so it does not tell its files.
+/// A shelf in memory that never fails, and tells its files and its calls. A name that is not there
+/// reads as the empty file.
 #[derive(Drop)]
 pub struct SureShelf {
     log: FileLog,
@@ -62,11 +62,7 @@ impl SureShelf {
 }
 
 impl Shelf for SureShelf {
-    ghost files = { λ _. None };
-
-    ghost faults = { λ _. 0 };
-
-    ghost calls = { λ shelf. Some shelf.calls };
+    ghost state = { λ shelf. record { files = OrEmpty shelf.files; faults = 0; calls = Some shelf.calls } };
 
     fn fetch(&mut self, alloc: Global, name: &str, most: usize) -> Result<Vec<u8>, ShelfError>
         ensures bound { IfOk result (λ bytes. vec_len bytes ≤ most) }

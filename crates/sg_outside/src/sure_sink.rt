@@ -42,11 +42,7 @@ impl SureSink {
 }
 
 impl Sink for SureSink {
-    ghost written = { λ sink. Some sink.written };
-
-    ghost faults = { λ _. 0 };
-
-    ghost puts = { λ sink. Some sink.puts };
+    ghost state = { λ sink. record { written = Some sink.written; faults = 0; puts = Some sink.puts } };
 
     fn put(&mut self, piece: &[u8]) -> Result<(), SinkError>
         ensures ok { OnOk result (self.new.written ≡ self.old.written ++ piece.now) }

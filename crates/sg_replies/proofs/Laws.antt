@@ -1,12 +1,12 @@
 -- Calls of a shelf one after another
 use Rattle.std.proofs.Common.{◌≡◌, ◌≤◌, inl, inr, ℕ, ◌+◌, zero, suc, List, [], ◌∷◌, ◌++◌, length, Option, refl, sym, ap, ◌∙◌, subst, arith, length-append, add-zero}
-use Rattle.sg_outside.specs.Shelf.{Files}
+use Rattle.sg_outside.specs.Shelf.{KnownFiles, ShelfState}
 use Rattle.sg_outside.specs.Count.{Calls, raised, raised_by, answered_by, unanswered_once, Rose}
 use Rattle.sg_outside.proofs.Tally.{raised_by-raised_by, answered_by-zero, answered_by-answered_by}
 use Rattle.sg_replies.specs.declared.reply.Reply.{Reply}
 use Rattle.sg_replies.specs.Requests.{Request, files_after, failure, failures, Serves}
 use Rattle.sg_replies.specs.Counts.{CallsOrOneMore}
-use Rattle.sg_replies.specs.Calls.{ShelfState, Replied, Unanswered, Served, ServedOrOneMore}
+use Rattle.sg_replies.specs.Calls.{Replied, Unanswered, Served, ServedOrOneMore}
 
 pub failures-append : (xs ys : List Reply) → failures (xs ++ ys) ≡ failures xs + failures ys
 failures-append [] ys = omega arith
@@ -44,15 +44,15 @@ calls_or_one_more_then M M' m n old between new more e (inr f) =
     inr (more f.0, f.1 ∙ ap (λ (c : Option Calls). unanswered_once c) (calls_then m n old between (answered_by n between) e refl))
 
 -- without a reply the files are as before, where one request at most is made
-pub Serves-nil : (requests : List Request) (old new : Option Files) → length requests ≤ 1 → new ≡ old → Serves old requests [] new
+pub Serves-nil : (requests : List Request) (old new : KnownFiles) → length requests ≤ 1 → new ≡ old → Serves old requests [] new
 Serves-nil [] old new most e = e
 Serves-nil (q ∷ []) old new most e = e
 Serves-nil (q ∷ r ∷ requests) old new most e = absurd (omega (arith, most))
 
 -- the replies to these requests, and then those to more requests
-pub Serves-append : (files : Option Files) (qs qs' : List Request) (rs rs' : List Reply) (between after : Option Files) → length qs ≡ length rs
+pub Serves-append : (files : KnownFiles) (qs qs' : List Request) (rs rs' : List Reply) (between after : KnownFiles) → length qs ≡ length rs
     → Serves files qs rs between → Serves between qs' rs' after → Serves files (qs ++ qs') (rs ++ rs') after
-Serves-append files [] qs' [] rs' between after e s t = subst (λ (f : Option Files). Serves f qs' rs' after) s t
+Serves-append files [] qs' [] rs' between after e s t = subst (λ (f : KnownFiles). Serves f qs' rs' after) s t
 Serves-append files [] qs' (r ∷ rs) rs' between after e s t = absurd s
 Serves-append files (q ∷ qs) qs' [] rs' between after e s t = absurd (omega (arith, e))
 Serves-append files (q ∷ qs) qs' (r ∷ rs) rs' between after e s t = (s.0, s.1, Serves-append (files_after files q r) qs qs' rs rs' between after (omega arith) s.2 t)

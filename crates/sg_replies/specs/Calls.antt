@@ -1,19 +1,10 @@
 -- One call of a shelf
-use Rattle.std.specs.Prelude.{◌≡◌, ◌≤◌, ◌+◌, ℕ, List, length, Option, IsTrue}
-use Rattle.sg_outside.specs.Shelf.{Files}
-use Rattle.sg_outside.specs.Count.{Calls, raised_by, answered_by, unanswered_once}
+use Rattle.std.specs.Prelude.{◌≡◌, ◌≤◌, ◌+◌, List, length, IsTrue}
+use Rattle.sg_outside.specs.Shelf.{ShelfState}
+use Rattle.sg_outside.specs.Count.{raised_by, answered_by, unanswered_once}
 use Rattle.sg_replies.specs.declared.reply.Reply.{Reply}
 use Rattle.sg_replies.specs.Requests.{Request, fits, Answers, files_after, failure, failures, Serves}
 use Rattle.sg_replies.specs.Counts.{CallsOrOneMore}
-
--- what is known of a shelf: its files, its count of failures, and how many of its calls were answered and how many not
-pub record ShelfState : Type 0 where
-  pub files : Option Files
-  pub faults : ℕ
-  pub calls : Option Calls
-
-abbrev pub shelf_state : Option Files → ℕ → Option Calls → ShelfState
-shelf_state files faults calls = record { files = files; faults = faults; calls = calls }
 
 -- the shelf was called once, by this request, and gave this reply
 pub record Replied (request : Request) (reply : Reply) (old new : ShelfState) : Type 0 where

@@ -1,6 +1,6 @@
 -- Requests to a shelf, and the replies to them
-use Rattle.std.specs.Prelude.{◌≡◌, ◌+◌, ℕ, List, [], ◌∷◌, Bool, true, false, Option, IsTrue}
-use Rattle.sg_outside.specs.Shelf.{Files, Fetches, kept}
+use Rattle.std.specs.Prelude.{◌≡◌, ◌+◌, ℕ, List, [], ◌∷◌, Bool, true, false, IsTrue}
+use Rattle.sg_outside.specs.Shelf.{KnownFiles, Fetches, kept}
 use Rattle.sg_replies.specs.declared.reply.Reply.{Reply}
 use Rattle.sg_replies.specs.declared.reply.Reply.TheVariants.{Fetched, FetchFailed, Kept, KeepFailed}
 
@@ -20,19 +20,19 @@ fits (Keep name bytes) KeepFailed = true
 fits (Keep name bytes) (Fetched other) = false
 fits (Keep name bytes) FetchFailed = false
 
--- what a shelf of these files may reply: fetched bytes are the front of that file, where the files are told
-abbrev pub Answers : Option Files → Request → Reply → Type 0
+-- what a shelf of these files may reply: fetched bytes are the front of that file, where the files are known
+abbrev pub Answers : KnownFiles → Request → Reply → Type 0
 Answers files (Fetch name most) (Fetched bytes) = Fetches files name most bytes
 Answers files request reply = Unit {0}
 
 -- the files after this reply: only bytes that were kept change them
-abbrev pub files_after : Option Files → Request → Reply → Option Files
+abbrev pub files_after : KnownFiles → Request → Reply → KnownFiles
 files_after files (Keep name bytes) Kept = kept files name bytes
 files_after files request reply = files
 
 -- these replies serve these requests in turn, each of its request's kind, and take the files from old to new; a last
 -- request may be without a reply
-abbrev pub Serves : Option Files → List Request → List Reply → Option Files → Type 0
+abbrev pub Serves : KnownFiles → List Request → List Reply → KnownFiles → Type 0
 Serves old [] [] new = new ≡ old
 Serves old (request ∷ []) [] new = new ≡ old
 Serves old (request ∷ next ∷ requests) [] new = ⊥

@@ -2,7 +2,7 @@
 ghost use Rattle.std.specs.Prelude.{◌≡◌, ◌≤◌, ◌<◌, ◌++◌, ◌∷◌, [], length, vec_len, vec_capacity, OnErr, IfOk};
 ghost use Rattle.sg_replies.specs.Requests.Request.{Fetch, Keep};
 ghost use Rattle.sg_replies.specs.Requests.{bytes_in};
-ghost use Rattle.sg_replies.specs.Calls.{shelf_state, Replied, Unanswered};
+ghost use Rattle.sg_replies.specs.Calls.{Replied, Unanswered};
 
 use sg_kinds::memory::NoMemory;
 use sg_kinds::text::Text;
@@ -30,11 +30,8 @@ pub fn fetched<S: Shelf>(
     name: &str,
     most: usize,
 ) -> Result<Reply, NoMemory>
-    ensures ok { IfOk result (λ reply. Replied (Fetch name.now most) reply
-        (shelf_state (S.files shelf.old) (S.faults shelf.old) (S.calls shelf.old))
-        (shelf_state (S.files shelf.new) (S.faults shelf.new) (S.calls shelf.new))) }
-    ensures err { OnErr result (Unanswered (shelf_state (S.files shelf.old) (S.faults shelf.old) (S.calls shelf.old))
-        (shelf_state (S.files shelf.new) (S.faults shelf.new) (S.calls shelf.new))) }
+    ensures ok { IfOk result (λ reply. Replied (Fetch name.now most) reply (S.state shelf.old) (S.state shelf.new)) }
+    ensures err { OnErr result (Unanswered (S.state shelf.old) (S.state shelf.new)) }
     ensures bound { IfOk result (λ reply. length (bytes_in reply) ≤ most) }
 {
     match shelf.fetch(alloc, name, most) {
@@ -46,11 +43,8 @@ pub fn fetched<S: Shelf>(
 
 /// Keeps these bytes under that name by one call of the shelf. An error says that the shelf had no memory.
 pub fn kept<S: Shelf>(shelf: &mut S, name: &str, bytes: &[u8]) -> Result<Reply, NoMemory>
-    ensures ok { IfOk result (λ reply. Replied (Keep name.now bytes.now) reply
-        (shelf_state (S.files shelf.old) (S.faults shelf.old) (S.calls shelf.old))
-        (shelf_state (S.files shelf.new) (S.faults shelf.new) (S.calls shelf.new))) }
-    ensures err { OnErr result (Unanswered (shelf_state (S.files shelf.old) (S.faults shelf.old) (S.calls shelf.old))
-        (shelf_state (S.files shelf.new) (S.faults shelf.new) (S.calls shelf.new))) }
+    ensures ok { IfOk result (λ reply. Replied (Keep name.now bytes.now) reply (S.state shelf.old) (S.state shelf.new)) }
+    ensures err { OnErr result (Unanswered (S.state shelf.old) (S.state shelf.new)) }
 {
     match shelf.keep(name, bytes) {
         Ok(()) => Ok(Reply::Kept),
