@@ -9,13 +9,14 @@ use Rattle.sg_forest.specs.declared.node_id.NodeId.{NodeId}
 use Rattle.sg_groves.specs.Grove.{Grove, nodes, IsGrove}
 use Rattle.sg_groves.specs.TermAt.{term_at}
 use Rattle.sg_changes.specs.Captured.{Captured}
-use Rattle.sg_changes.specs.Chain.{AllUndo, CanRedo, Passes}
+use Rattle.sg_changes.specs.Chain.{AllUndo, CanGo, Passes}
 use Rattle.sg_changes.specs.Changes.{Change, redone}
 use Rattle.sg_changes.specs.Told.{told_future, told_past, tops, tops_of}
+use Rattle.sg_changes.specs.declared.direction.Direction.TheVariants.{Back, Forth}
 use Rattle.sg_changes.specs.declared.spot.Spot.{Spot}
 use Rattle.sg_changes.specs.declared.step.Step.{Step}
-use Rattle.sg_changes.proofs.Chained.{redo_chains, undo_fewer}
-use Rattle.sg_changes.proofs.Telling.{past_agrees, told_fewer}
+use Rattle.sg_changes.proofs.Chained.{go_chains, go_fewer}
+use Rattle.sg_changes.proofs.Telling.{told_agrees, told_fewer}
 use Rattle.sg_undo.specs.Timeline.{Timeline}
 use Rattle.sg_unparse.specs.Sheet.{Sheet}
 use Rattle.sg_buffer.specs.declared.way.Standing.{Standing}
@@ -44,7 +45,7 @@ pub record Changed (b : Held) (mid : Grove) (now : Term) (c : Change) (step : St
   pub look : IsLook mid r.root now spot r.look
   pub seen : is_spot b.grove.spec b.height now spot ≡ true
   pub told : told_past (term_at mid) now (step ∷ b.past) ≡ c ∷ told_past (term_at b.grove) (state_of b).term b.past
-  pub can : CanRedo b.grove.spec (Passes (is_spot b.grove.spec b.height)) (state_of b).term c
+  pub can : CanGo b.grove.spec (Passes (is_spot b.grove.spec b.height)) Forth (state_of b).term c
   pub after : redone (state_of b).term c ≡ now
   pub roots : AreTheRoots mid (r.root ∷ tops (step ∷ b.past) b.future)
 
@@ -88,17 +89,17 @@ module _ (b : Held) (count room : ℕ) (page : Option Sheet) (standing : Standin
 
   past_told : told_past (term_at kept) now h.past ≡ take 256 (c ∷ st.past)
   past_told =
-      past_agrees (term_at mid) (term_at kept) now h.past
+      told_agrees (term_at mid) (term_at kept) Back now h.past
       (agree_left mid kept change.grove on r.root (tops (step ∷ b.past) b.future) (tops_of h.past) remembers.dropped.0 change.roots remembers.dropped.1 remembers.dropped.2)
       ∙ ap (told_past (term_at mid) now) past_is
-      ∙ told_fewer (term_at mid) 256 now (step ∷ b.past)
+      ∙ told_fewer (term_at mid) Back 256 now (step ∷ b.past)
       ∙ ap (take 256) (change.told ∙ ap (λ cs. c ∷ cs) is.stands.past)
 
   undoes : AllUndo b.grove.spec (Passes (is_spot b.grove.spec b.height)) now (take 256 (c ∷ st.past))
   undoes =
-      undo_fewer b.grove.spec (Passes (is_spot b.grove.spec b.height)) 256 now (c ∷ st.past)
+      go_fewer b.grove.spec (Passes (is_spot b.grove.spec b.height)) Back 256 now (c ∷ st.past)
       (subst (λ t. AllUndo b.grove.spec (Passes (is_spot b.grove.spec b.height)) t (c ∷ st.past)) change.after
-      (redo_chains b.grove.spec (Passes (is_spot b.grove.spec b.height)) st.term c st.past is.stands.small change.can is.stands.undoes))
+      (go_chains b.grove.spec (Passes (is_spot b.grove.spec b.height)) Forth st.term c st.past is.stands.small change.can is.stands.undoes))
 
   roots : AreTheRoots kept (r.root ∷ tops h.past h.future)
   roots =

@@ -14,9 +14,10 @@ use Rattle.sg_terms.specs.Occurrences.{AreTrees}
 use Rattle.sg_terms.proofs.Held.{KeepsKinds, kids_fit, node_after, IsGrove-after}
 use Rattle.sg_terms.proofs.Steps.{grove}
 use Rattle.sg_groves.specs.TermAt.{term_at}
+use Rattle.sg_changes.specs.declared.direction.Direction.TheVariants.{Back, Forth}
 use Rattle.sg_changes.specs.Chain.{AllRedo, AllUndo, Passes}
 use Rattle.sg_changes.specs.Told.{Agree, tops}
-use Rattle.sg_changes.proofs.Telling.{agree_future, agree_past, future_agrees, past_agrees}
+use Rattle.sg_changes.proofs.Telling.{agree_first, agree_second, told_agrees}
 use Rattle.sg_unparse.specs.Sheet.{Sheet}
 use Rattle.sg_buffer.specs.declared.way.Standing.{Standing}
 use Rattle.sg_states.specs.Selections.{place_in}
@@ -82,8 +83,8 @@ module _ (b : Held) (count room : ℕ) (page : Option Sheet) (standing : Standin
     count = is.stands.count;
     top = is.stands.top;
     spot = subst (λ (z : Spec). is_spot z b.height st.term st.spot ≡ true) (sym spec) is.stands.spot;
-    past = past_agrees (term_at b.grove) (term_at new) st.term b.past (agree_past (term_at b.grove) (term_at new) b.past b.future agree) ∙ is.stands.past;
-    future = future_agrees (term_at b.grove) (term_at new) st.term b.future (agree_future (term_at b.grove) (term_at new) b.past b.future agree) ∙ is.stands.future;
+    past = told_agrees (term_at b.grove) (term_at new) Back st.term b.past (agree_first (term_at b.grove) (term_at new) b.past b.future agree) ∙ is.stands.past;
+    future = told_agrees (term_at b.grove) (term_at new) Forth st.term b.future (agree_second (term_at b.grove) (term_at new) b.past b.future agree) ∙ is.stands.future;
     undoes = subst (λ (z : Spec). AllUndo z (Passes (is_spot z b.height)) st.term st.past) (sym spec) is.stands.undoes;
     redoes = subst (λ (z : Spec). AllRedo z (Passes (is_spot z b.height)) st.term st.future) (sym spec) is.stands.redoes;
     roots = record {

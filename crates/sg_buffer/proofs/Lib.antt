@@ -8,5 +8,4 @@ pub mod Kept
 pub mod Changing
 pub mod Toggling
 pub mod Replacing
-pub mod Undoing
-pub mod Redoing
+pub mod Along

@@ -105,14 +105,14 @@ module _ (b : Held) (count room : ℕ) (page : Option Sheet) (standing : Standin
       subst (λ o. Closes (capturing b (Some c)) (record now { capture = o }) count room None standing) (ap (λ z. Some z) (made ∙ ap (λ o. put_in (unwrap_or o (captured [] 0)) bytes) is.stands.capture))
       (captured_closes b count room page standing is (Some c) None one tt)
 
-  pub erased_closes : (c : Captured) → option_map taken_out b.capture ≡ Some c → MatchOption b.capture ⊤ (λ _. b.count ≡ 1) → Closes (capturing b (Some c)) (states.erased now) count room None standing
-  erased_closes c made one =
-      subst (λ o. Closes (capturing b (Some c)) (record now { capture = o }) count room None standing) (sym made ∙ ap (option_map taken_out) is.stands.capture)
-      (captured_closes b count room page standing is (Some c) None (alone b.capture made one) tt)
+  pub erased_closes : (o : Option Captured) → o ≡ option_map taken_out b.capture → Closes (capturing b o) (states.erased now) count room None standing
+  erased_closes o made =
+      subst (λ z. Closes (capturing b o) (record now { capture = z }) count room None standing) (made ∙ ap (option_map taken_out) is.stands.capture)
+      (captured_closes b count room page standing is o None (subst (λ (z : Option Captured). MatchOption z ⊤ (λ _. b.count ≡ 1)) (sym made) (alone b.capture is.stands.alone)) tt)
     where
-      alone : (o : Option Captured) → option_map taken_out o ≡ Some c → MatchOption o ⊤ (λ _. b.count ≡ 1) → b.count ≡ 1
-      alone None e h = absurd (let IsNone : Option Captured → Type 0 = λ o. elim o [ None ↦ Unit {0} | Some y ↦ ⊥ ] in subst IsNone e tt)
-      alone (Some x) e h = h
+      alone : (z : Option Captured) → MatchOption z ⊤ (λ _. b.count ≡ 1) → MatchOption (option_map taken_out z) ⊤ (λ _. b.count ≡ 1)
+      alone None h = h
+      alone (Some x) h = h
 
   pub ended_closes : Closes (capturing b None) (states.ended now) count room None standing
   ended_closes = captured_closes b count room page standing is None None tt tt
@@ -249,10 +249,17 @@ module _ (b v : Held) (view : b ≡ v) (count room : ℕ) (page : Option Sheet) 
       let d = typed_closes b count room page standing is bytes c (ap (λ (z : Held). z.count) view ∙ one) made in
       (d.is, subst (λ (z : Held). state_of (capturing b (Some c)) ≡ states.typed bytes (state_of z)) view d.told)
 
-  pub erased_here : (c : Captured) → option_map taken_out b.capture ≡ Some c → typing (Some c) × (state_of (capturing b (Some c)) ≡ states.erased (state_of v))
-  erased_here c made =
-      let d = erased_closes b count room page standing is c made is.stands.alone in
-      (d.is, subst (λ (z : Held). state_of (capturing b (Some c)) ≡ states.erased (state_of z)) view d.told)
+  pub erased_here : (o : Option Captured) → o ≡ option_map taken_out b.capture → typing o × (state_of (capturing b o) ≡ states.erased (state_of v))
+  erased_here o made =
+      let d = erased_closes b count room page standing is o made in
+      (d.is, subst (λ (z : Held). state_of (capturing b o) ≡ states.erased (state_of z)) view d.told)
+
+  -- the same capture, and the same page
+  pub unerased_here : (o : Option Captured) → o ≡ b.capture → IsBuffer (capturing b o) count room page standing × (capturing b o ≡ v)
+  unerased_here o same = (
+    subst (λ (z : Option Captured). IsBuffer (capturing b z) count room page standing) (sym same) is,
+    ap (capturing b) same ∙ view,
+  )
 
   pub ended_here : typing None × (state_of (capturing b None) ≡ states.ended (state_of v))
   ended_here =

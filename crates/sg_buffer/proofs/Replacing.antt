@@ -24,7 +24,7 @@ use Rattle.sg_changes.specs.declared.spot.Spot.{Spot}
 use Rattle.sg_changes.specs.declared.step.Step.{Step}
 use Rattle.sg_changes.specs.declared.step.Step.TheVariants.{Replaced}
 use Rattle.sg_changes.proofs.Marking.{part_is}
-use Rattle.sg_changes.proofs.Telling.{agree_past, put_pushed}
+use Rattle.sg_changes.proofs.Telling.{agree_first, put_pushed}
 use Rattle.sg_undo.specs.Timeline.{Timeline}
 use Rattle.sg_unparse.specs.Sheet.{Sheet}
 use Rattle.sg_buffer.specs.declared.way.Standing.{Standing}
@@ -131,14 +131,14 @@ module _ (b : Held) (count room : ℕ) (page : Option Sheet) (standing : Standin
         look = puts_now.look;
         seen = settled_seen b.grove.spec b.height now select st.spot.top is.stands.tall;
         told = put_pushed (term_at b.grove) (term_at mid) st.term s (part_of st.term u) path n st.spot spot b.past part (held_at mid on n (part_of st.term u) puts.out)
-            (agree_past (term_at b.grove) (term_at mid) b.past b.future
+            (agree_first (term_at b.grove) (term_at mid) b.past b.future
             (agree_then b.grove mid is.stands.grove on b.root [] (tops b.past b.future) is.stands.roots (λ m x top apart none holds. puts.hanging m x top apart holds)));
         can = record {
           stands = part;
           proper = (fit.1, stood, fit.4);
           small = small;
-          before = is.stands.spot;
-          after = settled_seen b.grove.spec b.height now select st.spot.top is.stands.tall;
+          here = is.stands.spot;
+          there = settled_seen b.grove.spec b.height now select st.spot.top is.stands.tall;
         };
         after = refl;
         roots = puts.roots (tops b.past b.future) is.stands.roots;

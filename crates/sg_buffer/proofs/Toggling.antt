@@ -21,7 +21,7 @@ use Rattle.sg_changes.specs.declared.step.Marks.{Marks}
 use Rattle.sg_changes.specs.declared.step.Step.{Step}
 use Rattle.sg_changes.specs.declared.step.Step.TheVariants.{Marked}
 use Rattle.sg_changes.proofs.Marking.{part_is}
-use Rattle.sg_changes.proofs.Telling.{agree_past, mark_pushed}
+use Rattle.sg_changes.proofs.Telling.{agree_first, mark_pushed}
 use Rattle.sg_undo.specs.Timeline.{Timeline}
 use Rattle.sg_unparse.specs.Sheet.{Sheet}
 use Rattle.sg_buffer.specs.declared.way.Standing.{Standing}
@@ -120,14 +120,14 @@ module _ (b : Held) (count room : ℕ) (page : Option Sheet) (standing : Standin
         look = turned.look;
         seen = settled_seen b.grove.spec b.height now (alone u) st.spot.top is.stands.tall;
         told = mark_pushed (term_at b.grove) (term_at mid) st.term st.spot.selection.path r.old r.new st.spot spot b.past there
-            (agree_past (term_at b.grove) (term_at mid) b.past b.future
+            (agree_first (term_at b.grove) (term_at mid) b.past b.future
             (agree_then b.grove mid is.stands.grove on b.root [] (tops b.past b.future) is.stands.roots (keeps_by b.grove mid b.root (Shown r.new) turned.turned.hanging)));
         can = record {
           stands = there;
           proper = turnable.low;
           small = small_marked st.term u x r.new part.2 is.stands.small;
-          before = is.stands.spot;
-          after = settled_seen b.grove.spec b.height now (alone u) st.spot.top is.stands.tall;
+          here = is.stands.spot;
+          there = settled_seen b.grove.spec b.height now (alone u) st.spot.top is.stands.tall;
         };
         after = refl;
         roots = turned.turned.roots (tops b.past b.future) is.stands.roots;

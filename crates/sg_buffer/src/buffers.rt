@@ -23,7 +23,7 @@ ghost use Rattle.sg_turns.specs.Known.{IsKnown};
 ghost use Rattle.sg_turns.specs.Noted.{Noted};
 
 use crate::fault::BufferFault;
-use crate::typing::{erased, typed};
+use crate::typing::{erase, typed};
 use crate::way::Standing;
 use sg_build::Counts;
 use sg_changes::{Capture, Step};
@@ -421,20 +421,18 @@ impl Buffer {
     }
 
     /// Takes away the byte before the point; false exactly where no text is being typed or no byte stands there, and
-    /// then nothing changes, nor without memory.
-    pub fn erase(&mut self) -> Result<bool, NoMemory>
-        ensures none { IfOk result (λ r. (r ≡ false) ↔ MatchOption self.old.capture ⊤ (λ c. c.point ≡ 0)) }
-        ensures done { IfOk result (λ r. r ≡ true → state_of self.new ≡ states.erased (state_of self.old)) }
+    /// then nothing changes. It takes no memory.
+    pub fn erase(&mut self) -> bool
+        ensures none { (result ≡ false) ↔ MatchOption self.old.capture ⊤ (λ c. c.point ≡ 0) }
+        ensures done { result ≡ true → state_of self.new ≡ states.erased (state_of self.old) }
         ensures kept { self.new ≡ record self.old { capture = self.new.capture } }
-        ensures refused { IfOk result (λ r. r ≡ false → self.new ≡ self.old) }
-        ensures err { OnErr result (self.new ≡ self.old) }
+        ensures refused { result ≡ false → self.new ≡ self.old }
     {
-        let Some(capture) = erased(self.alloc, &self.capture)? else {
-            return Ok(false);
-        };
-        self.capture = Some(capture);
+        if !erase(&mut self.capture) {
+            return false;
+        }
         self.page = None;
-        Ok(true)
+        true
     }
 
     /// Moves the point. A text is being typed, and is at least so long.

@@ -1,5 +1,5 @@
 //! Changes of a buffer's term, and the ways back and forth.
-ghost use Rattle.std.specs.Prelude.{◌≡◌, ◌≢◌, ◌↔◌, ℕ, [], true, false, IfOk, IsErrOf, IsErrAnd, OnErr, MatchOption, None, Some};
+ghost use Rattle.std.specs.Prelude.{◌≡◌, ◌≢◌, ℕ, [], true, false, IfOk, IsErrOf, IsErrAnd, OnErr, MatchOption, None, Some};
 ghost use Rattle.sg_kinds.specs.Fits.{Fits};
 ghost use Rattle.sg_kinds.specs.Places.{place_of, put, sub};
 ghost use Rattle.sg_kinds.specs.Sound.{IsSmall};
@@ -12,18 +12,17 @@ ghost use Rattle.sg_groves.specs.Evaluated.{IsEvaluated};
 ghost use Rattle.sg_groves.specs.Grove.{nodes};
 ghost use Rattle.sg_terms.specs.Entries.{GainedAll};
 ghost use Rattle.sg_build.specs.Counted.{AreCounts};
-ghost use Rattle.sg_states.specs.States as states;
-ghost use Rattle.sg_states.specs.States.{marked, replaced};
+ghost use Rattle.sg_states.specs.States.{ahead, marked, replaced};
 ghost use Rattle.sg_turns.specs.Noted.{NotedPut};
 ghost use Rattle.sg_buffer.specs.AsBefore.{IsAsBefore};
-ghost use Rattle.sg_buffer.specs.Gains.{GainedBack, GainedForth, NotedBack, NotedForth, OfFirst};
+ghost use Rattle.sg_buffer.specs.Gains.{NotedAlong, OfFirst, Went};
 ghost use Rattle.sg_buffer.specs.Held.{state_of};
 
 use crate::buffers::Buffer;
 use crate::fault::BufferFault;
 use crate::way::Standing;
 use sg_build::{Counts, counts, counts_replaced};
-use sg_changes::{Selection, Step};
+use sg_changes::{Direction, Selection, Step};
 use sg_eval::{Evaluator, Journal};
 use sg_forest::NodeId;
 use sg_kinds::memory::NoMemory;
@@ -32,8 +31,7 @@ use sg_kinds::row::Path;
 use sg_kinds::term::Term;
 use sg_states::Mark;
 use sg_turns::{
-    node_at, put_back, put_forth, put_term, remarked, remember, spot_at, step_back, step_forth,
-    turned_marks,
+    next_along, node_at, put_over, put_term, remarked, remember, spot_at, step_along, turned_marks,
 };
 
 impl Buffer {
@@ -197,6 +195,57 @@ impl Buffer {
         Ok(())
     }
 
+    // goes along the nearest change that way
+    fn go_along(
+        &mut self,
+        direction: Direction,
+        plans: &Plans,
+        ev: &Evaluator,
+        journal: &mut Journal,
+    ) -> Result<bool, NoMemory>
+        requires none { self.old.capture ≡ None }
+        requires valid { AreValid (rules_of self.old.grove.spec) plans.now }
+        requires same { ev.now ≡ self.old.grove.spec }
+        ensures went { IfOk result (Went direction self.old self.new (now_of journal.old) (now_of journal.new)) }
+        ensures as_before { OnErr result (IsAsBefore self.old self.new) }
+        ensures noted { OnErr result (OfFirst (ahead direction (state_of self.old)) (NotedAlong direction
+            self.old.grove self.old.root (state_of self.old).term (now_of journal.old) (now_of journal.new))) }
+        ensures some { OnErr result (ahead direction (state_of self.old) ≢ []) }
+        ensures spec { self.new.grove.spec ≡ self.old.grove.spec }
+        ensures height { self.new.height ≡ self.old.height }
+        ensures total { total_of journal.new ≡ total_of journal.old }
+    {
+        let Some(step) = next_along(&self.history, direction) else {
+            return Ok(false);
+        };
+        let went = step_along(
+            self.alloc,
+            &mut self.terms,
+            self.root,
+            direction,
+            step,
+            self.nodes,
+            self.selected,
+            &self.standing.way,
+            plans,
+            ev,
+            journal,
+        )?;
+        self.terms.facts();
+        put_over(&mut self.history, direction, went.out);
+        self.nodes = went.nodes;
+        self.root = went.root;
+        self.selected = went.selected;
+        self.count = went.count;
+        self.top = went.top;
+        self.page = None;
+        self.standing = Standing {
+            way: went.way,
+            begins: None,
+        };
+        Ok(true)
+    }
+
     /// Undoes the newest change: the old subterm or marks, the selection and the window's first line are back. No text
     /// is being typed. False exactly where there is no change to undo, and nothing changes then. Without memory nothing
     /// changes but the pool, and some of the equations may be evaluated.
@@ -209,49 +258,16 @@ impl Buffer {
         requires none { self.old.capture ≡ None }
         requires valid { AreValid (rules_of self.old.grove.spec) plans.now }
         requires same { ev.now ≡ self.old.grove.spec }
-        ensures nothing { IfOk result (λ r. (r ≡ false) ↔ ((state_of self.old).past ≡ [])) }
-        ensures refused { IfOk result (λ r. r ≡ false → (self.new ≡ self.old)
-            × (now_of journal.new ≡ now_of journal.old)) }
-        ensures done { IfOk result (λ r. r ≡ true → state_of self.new ≡ states.undone (state_of self.old)) }
-        ensures evaluated { IfOk result (λ r. r ≡ true → OfFirst (state_of self.old).past
-            (GainedBack self.old.grove.spec (state_of self.old).term (now_of journal.old) (now_of journal.new)
-            self.new.grove self.new.root)) }
+        ensures went { IfOk result (Went Direction.Back self.old self.new (now_of journal.old) (now_of journal.new)) }
         ensures as_before { OnErr result (IsAsBefore self.old self.new) }
-        ensures noted { OnErr result (OfFirst (state_of self.old).past (NotedBack self.old.grove self.old.root
-            (state_of self.old).term (now_of journal.old) (now_of journal.new))) }
+        ensures noted { OnErr result (OfFirst (state_of self.old).past (NotedAlong Direction.Back self.old.grove
+            self.old.root (state_of self.old).term (now_of journal.old) (now_of journal.new))) }
         ensures some { OnErr result ((state_of self.old).past ≢ []) }
         ensures spec { self.new.grove.spec ≡ self.old.grove.spec }
         ensures height { self.new.height ≡ self.old.height }
         ensures total { total_of journal.new ≡ total_of journal.old }
     {
-        let Some(step) = self.history.peek_back() else {
-            return Ok(false);
-        };
-        let undone = step_back(
-            self.alloc,
-            &mut self.terms,
-            self.root,
-            step,
-            self.nodes,
-            self.selected,
-            &self.standing.way,
-            plans,
-            ev,
-            journal,
-        )?;
-        self.terms.facts();
-        put_forth(&mut self.history, undone.out);
-        self.nodes = undone.nodes;
-        self.root = undone.root;
-        self.selected = undone.selected;
-        self.count = undone.count;
-        self.top = undone.top;
-        self.page = None;
-        self.standing = Standing {
-            way: undone.way,
-            begins: None,
-        };
-        Ok(true)
+        self.go_along(Direction::Back, plans, ev, journal)
     }
 
     /// Does the next change of the future again: its new subterm or marks, the selection and the window's first line
@@ -266,48 +282,15 @@ impl Buffer {
         requires none { self.old.capture ≡ None }
         requires valid { AreValid (rules_of self.old.grove.spec) plans.now }
         requires same { ev.now ≡ self.old.grove.spec }
-        ensures nothing { IfOk result (λ r. (r ≡ false) ↔ ((state_of self.old).future ≡ [])) }
-        ensures refused { IfOk result (λ r. r ≡ false → (self.new ≡ self.old)
-            × (now_of journal.new ≡ now_of journal.old)) }
-        ensures done { IfOk result (λ r. r ≡ true → state_of self.new ≡ states.redone (state_of self.old)) }
-        ensures evaluated { IfOk result (λ r. r ≡ true → OfFirst (state_of self.old).future
-            (GainedForth self.old.grove.spec (state_of self.old).term (now_of journal.old) (now_of journal.new)
-            self.new.grove self.new.root)) }
+        ensures went { IfOk result (Went Direction.Forth self.old self.new (now_of journal.old) (now_of journal.new)) }
         ensures as_before { OnErr result (IsAsBefore self.old self.new) }
-        ensures noted { OnErr result (OfFirst (state_of self.old).future (NotedForth self.old.grove self.old.root
-            (state_of self.old).term (now_of journal.old) (now_of journal.new))) }
+        ensures noted { OnErr result (OfFirst (state_of self.old).future (NotedAlong Direction.Forth self.old.grove
+            self.old.root (state_of self.old).term (now_of journal.old) (now_of journal.new))) }
         ensures some { OnErr result ((state_of self.old).future ≢ []) }
         ensures spec { self.new.grove.spec ≡ self.old.grove.spec }
         ensures height { self.new.height ≡ self.old.height }
         ensures total { total_of journal.new ≡ total_of journal.old }
     {
-        let Some(step) = self.history.peek_forth() else {
-            return Ok(false);
-        };
-        let redone = step_forth(
-            self.alloc,
-            &mut self.terms,
-            self.root,
-            step,
-            self.nodes,
-            self.selected,
-            &self.standing.way,
-            plans,
-            ev,
-            journal,
-        )?;
-        self.terms.facts();
-        put_back(&mut self.history, redone.out);
-        self.nodes = redone.nodes;
-        self.root = redone.root;
-        self.selected = redone.selected;
-        self.count = redone.count;
-        self.top = redone.top;
-        self.page = None;
-        self.standing = Standing {
-            way: redone.way,
-            begins: None,
-        };
-        Ok(true)
+        self.go_along(Direction::Forth, plans, ev, journal)
     }
 }

@@ -1,13 +1,7 @@
-//! Captures that are changed by making others.
-ghost use Rattle.std.specs.Prelude.{◌≡◌, [], IfOk, IfSome, IsNone, IsTrue, ◌↔◌, MatchOption, ⊤, None, Option, option_map, unwrap_or};
+//! What is typed at the point, and taken away there, where a capture may be open.
+ghost use Rattle.std.specs.Prelude.{◌≡◌, ◌↔◌, [], true, false, IfOk, IsTrue, MatchOption, ⊤, option_map, unwrap_or};
 ghost use Rattle.sg_kinds.specs.Values.{is_text};
-ghost use Rattle.sg_kinds.specs.Places.{Place};
-ghost use Rattle.sg_kinds.specs.Terms.{Term};
-ghost use Rattle.sg_forest.specs.Trees.{Climbs, IsRoot};
-ghost use Rattle.sg_groves.specs.Grove.{nodes};
 ghost use Rattle.sg_changes.specs.Captured.{captured, put_in, taken_out};
-ghost use Rattle.sg_states.specs.Paged.{IsWhole, page_seen};
-ghost use Rattle.sg_states.specs.Seen.{typed_at};
 
 use sg_changes::Capture;
 use sg_kinds::memory::NoMemory;
@@ -24,13 +18,15 @@ pub fn typed(alloc: Global, open_one: &Option<Capture>, bytes: &[u8]) -> Result<
     }
 }
 
-/// The capture without the byte before the point; None exactly where there is none or no byte stands there.
-pub fn erased(alloc: Global, open_one: &Option<Capture>) -> Result<Option<Capture>, NoMemory>
-    ensures none { IfOk result (λ r. IsNone r ↔ MatchOption open_one.now ⊤ (λ c. c.point ≡ 0)) }
-    ensures some { IfOk result (λ r. IfSome r (λ c. option_map taken_out open_one.now ≡ Some c)) }
+/// Takes the byte before the point away; false exactly where there is no capture or no byte stands there, and nothing
+/// changes then.
+pub fn erase(open_one: &mut Option<Capture>) -> bool
+    ensures none { (result ≡ false) ↔ MatchOption open_one.old ⊤ (λ c. c.point ≡ 0) }
+    ensures done { result ≡ true → open_one.new ≡ option_map taken_out open_one.old }
+    ensures refused { result ≡ false → open_one.new ≡ open_one.old }
 {
     match open_one {
-        Some(capture) => capture.erased(alloc),
-        None => Ok(None),
+        Some(capture) => capture.erase(),
+        None => false,
     }
 }

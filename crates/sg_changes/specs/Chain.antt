@@ -1,12 +1,14 @@
--- Which changes can be undone, and done again, one after another.
+-- Along which changes a way goes, back or forth, one after another.
 use Rattle.std.specs.Prelude.{◌≡◌, ℕ, ◌<◌, Bool, IsTrue, List, [], ◌∷◌, Some, ⊤}
 use Rattle.sg_kinds.specs.Terms.{Term}
 use Rattle.sg_kinds.specs.Places.{sub}
 use Rattle.sg_kinds.specs.Fits.{Fits}
 use Rattle.sg_kinds.specs.Sound.{IsSmall}
 use Rattle.sg_kinds.specs.declared.spec.Spec.{Spec}
+use Rattle.sg_changes.specs.declared.direction.Direction.{Direction}
+use Rattle.sg_changes.specs.declared.direction.Direction.TheVariants.{Back, Forth}
 use Rattle.sg_changes.specs.declared.spot.Spot.{Spot}
-use Rattle.sg_changes.specs.Changes.{Change, Put, Mark, before_of, after_of, marks_at, undone, redone}
+use Rattle.sg_changes.specs.Changes.{Change, Put, Mark, marks_at, opposite, spot_along, term_along}
 
 -- what a change makes stands at its place
 abbrev pub HasNew : Term → Change → Type 0
@@ -27,30 +29,29 @@ IsProper spec (Mark u old new before after) = (old.scheme < 16) × (new.scheme <
 abbrev pub Passes : (Term → Spot → Bool) → Term → Spot → Type 0
 Passes test t spot = IsTrue (test t spot)
 
+-- what stands at its place where a way goes along a change
+abbrev pub Stands : Direction → Term → Change → Type 0
+Stands Back = HasNew
+Stands Forth = HasOld
+
 -- a specification, and what can be selected and shown of a term
 module _ (spec : Spec) (IsSpotOf : Term → Spot → Type 0) where
-  -- a change made the term, of another one in the limits
-  pub record CanUndo (t : Term) (c : Change) : Type 0 where
-    pub stands : HasNew t c
+  -- a way goes along a change of the term to another one in the limits
+  pub record CanGo (d : Direction) (t : Term) (c : Change) : Type 0 where
+    pub stands : Stands d t c
     pub proper : IsProper spec c
-    pub small : IsSmall (undone t c)
-    pub before : IsSpotOf (undone t c) (before_of c)
-    pub after : IsSpotOf t (after_of c)
+    pub small : IsSmall (term_along d t c)
+    pub here : IsSpotOf t (spot_along (opposite d) c)
+    pub there : IsSpotOf (term_along d t c) (spot_along d c)
 
-  -- a change makes another one in the limits of the term
-  pub record CanRedo (t : Term) (c : Change) : Type 0 where
-    pub stands : HasOld t c
-    pub proper : IsProper spec c
-    pub small : IsSmall (redone t c)
-    pub before : IsSpotOf t (before_of c)
-    pub after : IsSpotOf (redone t c) (after_of c)
+  -- changes, the nearest first, along which a way goes one after another
+  abbrev pub AllGo : Direction → Term → List Change → Type 0
+  AllGo d t [] = ⊤
+  AllGo d t (c ∷ cs) = CanGo d t c × AllGo d (term_along d t c) cs
 
-  -- changes, the newest first, can be undone one after another
+  -- changes, the newest first, can be undone, and others, the next one first, done again
   abbrev pub AllUndo : Term → List Change → Type 0
-  AllUndo t [] = ⊤
-  AllUndo t (c ∷ cs) = CanUndo t c × AllUndo (undone t c) cs
+  AllUndo = AllGo Back
 
-  -- changes, the next one first, can be done one after another
   abbrev pub AllRedo : Term → List Change → Type 0
-  AllRedo t [] = ⊤
-  AllRedo t (c ∷ cs) = CanRedo t c × AllRedo (redone t c) cs
+  AllRedo = AllGo Forth

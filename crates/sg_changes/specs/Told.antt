@@ -4,11 +4,13 @@ use Rattle.sg_kinds.specs.Terms.{Term}
 use Rattle.sg_kinds.specs.Places.{place_of}
 use Rattle.sg_kinds.specs.declared.spec.Spec.{Spec}
 use Rattle.sg_forest.specs.declared.node_id.NodeId.{NodeId}
+use Rattle.sg_changes.specs.declared.direction.Direction.{Direction}
+use Rattle.sg_changes.specs.declared.direction.Direction.TheVariants.{Back, Forth}
 use Rattle.sg_changes.specs.declared.spot.Spot.{Spot}
 use Rattle.sg_changes.specs.declared.step.Step.{Step}
 use Rattle.sg_changes.specs.declared.step.Step.TheVariants.{Replaced, Marked}
-use Rattle.sg_changes.specs.Changes.{Change, Put, Mark, part_of, undone, redone}
-use Rattle.sg_changes.specs.Chain.{AllUndo, AllRedo}
+use Rattle.sg_changes.specs.Changes.{Change, Put, Mark, part_of, term_along}
+use Rattle.sg_changes.specs.Chain.{AllGo}
 
 -- the top that a step keeps, in a list
 abbrev pub hanging : Step → List NodeId
@@ -42,22 +44,26 @@ module _ (tree : NodeId → Term) where
       Put (place_of path) (part_of t (place_of path)) (tree hangs) before after
   future_change t (Marked path old new before after) = Mark (place_of path) old new before after
 
-  -- the changes of past steps, the newest first
+  -- the change of the nearest step that way
+  abbrev pub change_along : Direction → Term → Step → Change
+  change_along Back = past_change
+  change_along Forth = future_change
+
+  -- the changes of the steps that way, the nearest first
+  abbrev pub told_along : Direction → Term → List Step → List Change
+  told_along d t [] = []
+  told_along d t (s ∷ ss) = change_along d t s ∷ told_along d (term_along d t (change_along d t s)) ss
+
+  -- those of past steps, the newest first, and of future steps, the next one first
   abbrev pub told_past : Term → List Step → List Change
-  told_past t [] = []
-  told_past t (s ∷ ss) = past_change t s ∷ told_past (undone t (past_change t s)) ss
+  told_past = told_along Back
 
-  -- the changes of future steps, the next one first
   abbrev pub told_future : Term → List Step → List Change
-  told_future t [] = []
-  told_future t (s ∷ ss) = future_change t s ∷ told_future (redone t (future_change t s)) ss
+  told_future = told_along Forth
 
--- the past steps can be undone, and the future ones done again, one after another
-abbrev pub Undoes : Spec → (Term → Spot → Type 0) → (NodeId → Term) → Term → List Step → Type 0
-Undoes spec IsSpotOf tree t past = AllUndo spec IsSpotOf t (told_past tree t past)
-
-abbrev pub Redoes : Spec → (Term → Spot → Type 0) → (NodeId → Term) → Term → List Step → Type 0
-Redoes spec IsSpotOf tree t future = AllRedo spec IsSpotOf t (told_future tree t future)
+-- the way goes along the steps one after another
+abbrev pub Goes : Direction → Spec → (Term → Spot → Type 0) → (NodeId → Term) → Term → List Step → Type 0
+Goes d spec IsSpotOf tree t steps = AllGo spec IsSpotOf d t (told_along tree d t steps)
 
 -- some roots hold the same as before
 abbrev pub Agree : (old new : NodeId → Term) → List NodeId → Type 0
@@ -68,8 +74,8 @@ abbrev pub HoldsPart : (new : NodeId → Term) → Term → Step → NodeId → 
 HoldsPart new t (Replaced path hangs before after) x = new x ≡ part_of t (place_of path)
 HoldsPart new t (Marked path old made before after) x = ⊤
 
--- after a step the subtree that stood at its place hangs; those of the other steps hang as before
+-- after a step the subtree that stood at its place hangs; those of the steps ahead and behind hang as before
 pub record Exchanged (old new : NodeId → Term) (t : Term) (s : Step) (x : NodeId)
-    (past future : List Step) : Type 0 where
+    (ahead behind : List Step) : Type 0 where
   pub top : HoldsPart new t s x
-  pub others : Agree old new (tops past future)
+  pub others : Agree old new (tops ahead behind)

@@ -1,5 +1,5 @@
 // Text that is being typed.
-ghost use Rattle.std.specs.Prelude.{◌≡◌, ◌≤◌, ◌↔◌, [], length, IfOk, IfSome, IsNone, IsTrue};
+ghost use Rattle.std.specs.Prelude.{◌≡◌, ◌≤◌, ◌↔◌, [], true, false, length, IfOk, IsTrue};
 ghost use Rattle.sg_kinds.specs.Values.{is_text};
 ghost use Rattle.sg_changes.specs.Captured.{captured, put_in, taken_out};
 
@@ -9,7 +9,7 @@ use std::marker::Model;
 
 /// A text that is being typed, of the bytes 10 and 32 to 126, and a point in it: how many bytes stand before the point.
 ///
-/// Another text is another capture, so that the old one stays until all that is made of the new one stands.
+/// A longer text is another capture, so that the old one stays until all that is made of the new one stands.
 #[derive(Drop)]
 pub struct Capture {
     text: Vec<u8>,
@@ -68,19 +68,19 @@ impl Capture {
         Ok(Capture { text, point })
     }
 
-    /// The capture without the byte before the point, or None exactly where no byte stands there.
-    pub fn erased(&self, alloc: Global) -> Result<Option<Capture>, NoMemory>
-        ensures none { IfOk result (λ r. IsNone r ↔ (self.now.point ≡ 0)) }
-        ensures some { IfOk result (λ r. IfSome r (λ c. c ≡ taken_out self.now)) }
+    /// Takes the byte before the point away; false exactly where no byte stands there, and nothing changes then. It takes
+    /// no memory.
+    pub fn erase(&mut self) -> bool
+        ensures none { (result ≡ false) ↔ (self.old.point ≡ 0) }
+        ensures done { result ≡ true → self.new ≡ taken_out self.old }
+        ensures refused { result ≡ false → self.new ≡ self.old }
     {
         if self.point == 0 {
-            return Ok(None);
+            return false;
         }
-        let point = self.point - 1;
-        let bytes = self.text.as_slice();
-        let mut text = Vec::from_slice(alloc, bytes.split_at(point).0)?;
-        text.extend_from_slice(bytes.split_at(self.point).1)?;
-        Ok(Some(Capture { text, point }))
+        self.point -= 1;
+        self.text.remove(self.point);
+        true
     }
 
     /// Moves the point to another one of the text, at most its length. It takes no memory.

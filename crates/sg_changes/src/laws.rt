@@ -5,56 +5,37 @@ ghost use Rattle.sg_kinds.specs.Sound.{IsSmall};
 ghost use Rattle.sg_kinds.specs.Terms.{Term};
 ghost use Rattle.sg_kinds.specs.declared.spec.Spec.{Spec};
 ghost use Rattle.sg_forest.specs.declared.node_id.NodeId.{NodeId};
-ghost use Rattle.sg_changes.specs.Chain.{AllUndo, CanRedo, HasNew, HasOld, Passes};
-ghost use Rattle.sg_changes.specs.Changes.{Change, Mark, Put, marked, marks_at, redone, undone};
-ghost use Rattle.sg_changes.specs.Told.{Agree, Exchanged, Redoes, Undoes, future_change, hung, past_change, told_future, told_past, tops_of};
+ghost use Rattle.sg_changes.specs.Chain.{AllUndo, CanGo, Passes, Stands};
+ghost use Rattle.sg_changes.specs.Changes.{Change, Mark, Put, marked, marks_at, opposite, redone, term_along};
+ghost use Rattle.sg_changes.specs.Told.{Agree, Exchanged, Goes, change_along, hung, told_along, told_future, told_past, tops_of};
 ghost use Rattle.sg_changes.specs.Top.{topped};
+ghost use Rattle.sg_changes.specs.declared.direction.Direction.{Direction};
+ghost use Rattle.sg_changes.specs.declared.direction.Direction.TheVariants as direction;
 ghost use Rattle.sg_changes.specs.declared.spot.Spot.{Spot};
 ghost use Rattle.sg_changes.specs.declared.step.Marks.{Marks};
 ghost use Rattle.sg_changes.specs.declared.step.Step.{Step};
 ghost use Rattle.sg_changes.specs.declared.step.Step.TheVariants.{Marked, Replaced};
 
-/// A past step that is undone, with the subtree that stood at its place hanging, is the same change as the next one
-/// of the future; the other changes stay, and what could be undone and done again in turn still can.
-pub fn steps_go_back()
-    ensures past { (old new : NodeId → Term) (t : Term) (s : Step) (x : NodeId) (past future : List Step) →
-        Exchanged old new t s x past future →
-        told_past new (undone t (past_change old t s)) past ≡ told_past old (undone t (past_change old t s)) past }
-    ensures future { (old new : NodeId → Term) (t : Term) (s : Step) (x : NodeId) (past future : List Step) →
-        HasNew t (past_change old t s) → Exchanged old new t s x past future →
-        told_future new (undone t (past_change old t s)) (hung s x ∷ future)
-        ≡ past_change old t s ∷ told_future old t future }
-    ensures undoes { (spec : Spec) (spot : Term → Spot → Bool) (old new : NodeId
-        → Term) (t : Term) (s : Step) (x : NodeId)
-        (past future : List Step) → Undoes spec (Passes spot) old t (s ∷ past) → Exchanged old new t s x past future →
-        Undoes spec (Passes spot) new (undone t (past_change old t s)) past }
-    ensures redoes { (spec : Spec) (spot : Term → Spot → Bool) (old new : NodeId
-        → Term) (t : Term) (s : Step) (x : NodeId)
-        (past future : List Step) → IsSmall t → Undoes spec (Passes spot) old t (s ∷ past) →
-        Redoes spec (Passes spot) old t future → Exchanged old new t s x past future →
-        Redoes spec (Passes spot) new (undone t (past_change old t s)) (hung s x ∷ future) }
-{}
-
-/// A future step that is done again, with the subtree that stood at its place hanging, is the same change as the
-/// newest one of the past; the other changes stay, and what could be undone and done again in turn still can.
-pub fn steps_go_forth()
-    ensures future { (old new : NodeId → Term) (t : Term) (s : Step) (x : NodeId) (past future : List Step) →
-        Exchanged old new t s x past future →
-        told_future new (redone t (future_change old t s)) future
-        ≡ told_future old (redone t (future_change old t s)) future }
-    ensures past { (old new : NodeId → Term) (t : Term) (s : Step) (x : NodeId) (past future : List Step) →
-        HasOld t (future_change old t s) → Exchanged old new t s x past future →
-        told_past new (redone t (future_change old t s)) (hung s x ∷ past)
-        ≡ future_change old t s ∷ told_past old t past }
-    ensures redoes { (spec : Spec) (spot : Term → Spot → Bool) (old new : NodeId
-        → Term) (t : Term) (s : Step) (x : NodeId)
-        (past future : List Step) → Redoes spec (Passes spot) old t (s ∷ future) → Exchanged old new t s x past future →
-        Redoes spec (Passes spot) new (redone t (future_change old t s)) future }
-    ensures undoes { (spec : Spec) (spot : Term → Spot → Bool) (old new : NodeId
-        → Term) (t : Term) (s : Step) (x : NodeId)
-        (past future : List Step) → IsSmall t → Redoes spec (Passes spot) old t (s ∷ future) →
-        Undoes spec (Passes spot) old t past → Exchanged old new t s x past future →
-        Undoes spec (Passes spot) new (redone t (future_change old t s)) (hung s x ∷ past) }
+/// A step along which a way goes, with the subtree that stood at its place hanging, is the same change as the nearest
+/// one behind; the other changes stay, and those along which a way went one after another, ahead and behind, still can be
+/// gone along.
+pub fn steps_go()
+    ensures ahead { (d : Direction) (old new : NodeId → Term) (t : Term) (s : Step) (x : NodeId)
+        (ahead behind : List Step) → Exchanged old new t s x ahead behind →
+        told_along new d (term_along d t (change_along old d t s)) ahead
+        ≡ told_along old d (term_along d t (change_along old d t s)) ahead }
+    ensures behind { (d : Direction) (old new : NodeId → Term) (t : Term) (s : Step) (x : NodeId)
+        (ahead behind : List Step) → Stands d t (change_along old d t s) → Exchanged old new t s x ahead behind →
+        told_along new (opposite d) (term_along d t (change_along old d t s)) (hung s x ∷ behind)
+        ≡ change_along old d t s ∷ told_along old (opposite d) t behind }
+    ensures on { (d : Direction) (spec : Spec) (spot : Term → Spot → Bool) (old new : NodeId → Term) (t : Term)
+        (s : Step) (x : NodeId) (ahead behind : List Step) → Goes d spec (Passes spot) old t (s ∷ ahead) →
+        Exchanged old new t s x ahead behind →
+        Goes d spec (Passes spot) new (term_along d t (change_along old d t s)) ahead }
+    ensures back { (d : Direction) (spec : Spec) (spot : Term → Spot → Bool) (old new : NodeId → Term) (t : Term)
+        (s : Step) (x : NodeId) (ahead behind : List Step) → IsSmall t → Goes d spec (Passes spot) old t (s ∷ ahead) →
+        Goes (opposite d) spec (Passes spot) old t behind → Exchanged old new t s x ahead behind →
+        Goes (opposite d) spec (Passes spot) new (term_along d t (change_along old d t s)) (hung s x ∷ behind) }
 {}
 
 /// A new step is the newest change of the past, before those that were there, which can be undone in turn with it; an
@@ -71,35 +52,29 @@ pub fn steps_are_pushed()
         told_past new (marked t (place_of path) made) (Marked path was made before after ∷ past) ≡
         Mark (place_of path) was made before after ∷ told_past old t past }
     ensures undoes { (spec : Spec) (spot : Term → Spot → Bool) (t : Term) (c : Change) (cs : List Change) → IsSmall t →
-        CanRedo spec (Passes spot) t c → AllUndo spec (Passes spot) t cs
+        CanGo spec (Passes spot) direction.Forth t c → AllUndo spec (Passes spot) t cs
         → AllUndo spec (Passes spot) (redone t c) (c ∷ cs) }
     ensures future { (tree : NodeId → Term) (t : Term) → told_future tree t [] ≡ [] }
 {}
 
 /// Without the oldest past steps the others are the same changes, which can be undone in turn.
-#[tactic(auto, using(crate::proofs::Telling::told_fewer, crate::proofs::Telling::undoes_fewer))]
+#[tactic(auto, using(crate::proofs::Telling::told_fewer, crate::proofs::Telling::goes_fewer))]
 pub fn oldest_steps_go()
     ensures told { (tree : NodeId → Term) (n : ℕ) (t : Term) (past : List Step) →
         told_past tree t (take n past) ≡ take n (told_past tree t past) }
-    ensures undoes { (spec : Spec) (spot : Term → Spot → Bool) (tree : NodeId
-        → Term) (n : ℕ) (t : Term) (past : List Step) →
-        Undoes spec (Passes spot) tree t past → Undoes spec (Passes spot) tree t (take n past) }
+    ensures undoes { (spec : Spec) (spot : Term → Spot → Bool) (tree : NodeId → Term) (n : ℕ) (t : Term)
+        (past : List Step) → Goes direction.Back spec (Passes spot) tree t past
+        → Goes direction.Back spec (Passes spot) tree t (take n past) }
 {}
 
-/// Where the tops that steps keep hold the same, the steps are the same changes, which can be undone and done again
-/// in turn.
-#[tactic(auto, using(crate::proofs::Telling::past_agrees, crate::proofs::Telling::future_agrees, crate::proofs::Telling::undoes_agrees, crate::proofs::Telling::redoes_agrees))]
+/// Where the tops that steps keep hold the same, the steps are the same changes, and what goes along them still goes.
+#[tactic(auto, using(crate::proofs::Telling::told_agrees, crate::proofs::Telling::goes_agrees))]
 pub fn only_tops_are_asked()
-    ensures past { (old new : NodeId → Term) (t : Term) (steps : List Step) →
-        Agree old new (tops_of steps) → told_past new t steps ≡ told_past old t steps }
-    ensures future { (old new : NodeId → Term) (t : Term) (steps : List Step) →
-        Agree old new (tops_of steps) → told_future new t steps ≡ told_future old t steps }
-    ensures undoes { (spec : Spec) (spot : Term → Spot → Bool) (old new : NodeId
-        → Term) (t : Term) (steps : List Step) →
-        Agree old new (tops_of steps) → Undoes spec (Passes spot) old t steps → Undoes spec (Passes spot) new t steps }
-    ensures redoes { (spec : Spec) (spot : Term → Spot → Bool) (old new : NodeId
-        → Term) (t : Term) (steps : List Step) →
-        Agree old new (tops_of steps) → Redoes spec (Passes spot) old t steps → Redoes spec (Passes spot) new t steps }
+    ensures told { (d : Direction) (old new : NodeId → Term) (t : Term) (steps : List Step) →
+        Agree old new (tops_of steps) → told_along new d t steps ≡ told_along old d t steps }
+    ensures goes { (d : Direction) (spec : Spec) (spot : Term → Spot → Bool) (old new : NodeId → Term) (t : Term)
+        (steps : List Step) → Agree old new (tops_of steps) → Goes d spec (Passes spot) old t steps
+        → Goes d spec (Passes spot) new t steps }
 {}
 
 /// Marks that are put at a node stand there, and its old ones put back give the term back.

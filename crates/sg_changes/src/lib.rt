@@ -3,12 +3,14 @@
 #![tactic(auto)]
 
 mod capture;
+mod direction;
 pub mod laws;
 mod spot;
 mod step;
 mod top;
 
 pub use capture::Capture;
+pub use direction::Direction;
 pub use spot::{Selection, Spot};
 pub use step::{Marks, Step};
 pub use top::topped;

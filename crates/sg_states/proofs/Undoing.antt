@@ -10,13 +10,14 @@ use Rattle.sg_groves.proofs.Puts.{put_put}
 use Rattle.sg_changes.specs.Captured.{Captured}
 use Rattle.sg_changes.specs.Chain.{HasNew, HasOld}
 use Rattle.sg_changes.specs.Changes.{Change, Put, Mark as Marking, after_of, before_of, marks_of, marked as marked_term, part_of, redone as behind, undone as before, with_marks}
+use Rattle.sg_changes.specs.declared.direction.Direction.TheVariants.{Back, Forth}
 use Rattle.sg_changes.specs.declared.spot.Selection.{Selection}
 use Rattle.sg_changes.specs.declared.spot.Spot.{Spot}
 use Rattle.sg_changes.specs.declared.step.Marks.{Marks}
-use Rattle.sg_changes.proofs.Chained.{redone_undone, undone_redone}
+use Rattle.sg_changes.proofs.Chained.{there_and_back}
 use Rattle.sg_changes.proofs.Marking.{part_put}
 use Rattle.sg_states.specs.Selections.{alone}
-use Rattle.sg_states.specs.States.{State, changed, marked, redone, redone_by, remarked, replaced, selected_place, taken_back, undone, undone_by}
+use Rattle.sg_states.specs.States.{State, changed, gone_by, marked, redone, remarked, replaced, selected_place, taken_back, undone}
 use Rattle.sg_states.specs.Turned.{turned_in}
 use Rattle.sg_states.specs.declared.marks.Mark.{Mark}
 
@@ -120,12 +121,12 @@ module _ (spec : Spec) (height : ℕ) where
 -- the newest change undone and done again, and the next one done and undone
 pub redone_back : (st : State) (c : Change) (past : List Change) → st.past ≡ c ∷ past → HasNew st.term c → redone (undone st) ≡ state st.past st.future st.capture st.term (after_of c)
 redone_back st c past e new =
-    ap (λ p. redone (undone_by p st)) e
-    ∙ ap (λ t. state (c ∷ past) st.future st.capture t (after_of c)) (undone_redone st.term c new)
+    ap (λ p. redone (gone_by Back p st)) e
+    ∙ ap (λ t. state (c ∷ past) st.future st.capture t (after_of c)) (there_and_back Back st.term c new)
     ∙ ap (λ p. state p st.future st.capture st.term (after_of c)) (sym e)
 
 pub undone_back : (st : State) (c : Change) (future : List Change) → st.future ≡ c ∷ future → HasOld st.term c → undone (redone st) ≡ state st.past st.future st.capture st.term (before_of c)
 undone_back st c future e old =
-    ap (λ p. undone (redone_by p st)) e
-    ∙ ap (λ t. state st.past (c ∷ future) st.capture t (before_of c)) (redone_undone st.term c old)
+    ap (λ p. undone (gone_by Forth p st)) e
+    ∙ ap (λ t. state st.past (c ∷ future) st.capture t (before_of c)) (there_and_back Forth st.term c old)
     ∙ ap (λ p. state st.past p st.capture st.term (before_of c)) (sym e)

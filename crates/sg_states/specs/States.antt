@@ -6,7 +6,9 @@ use Rattle.sg_kinds.specs.Terms.{Term}
 use Rattle.sg_kinds.specs.Places.{Place, put}
 use Rattle.sg_kinds.specs.declared.spec.Spec.{Spec}
 use Rattle.sg_changes.specs.Captured.{Captured, captured, put_in, taken_out}
-use Rattle.sg_changes.specs.Changes.{Change, Put, Mark as Marking, part_of, marks_of, marked as marked_term, undone as before, redone as behind, before_of, after_of}
+use Rattle.sg_changes.specs.Changes.{Change, Put, Mark as Marking, chosen, part_of, marks_of, marked as marked_term, spot_along, term_along}
+use Rattle.sg_changes.specs.declared.direction.Direction.{Direction}
+use Rattle.sg_changes.specs.declared.direction.Direction.TheVariants.{Back, Forth}
 use Rattle.sg_changes.specs.declared.spot.Selection.{Selection}
 use Rattle.sg_changes.specs.declared.spot.Spot.{Spot}
 use Rattle.sg_changes.specs.declared.step.Marks.{Marks}
@@ -82,30 +84,30 @@ module _ (spec : Spec) (height : ℕ) where
   picked line column st = option_map (λ v. selected (settled spec st.term v) st)
       (owner_at (cells_of (marks_seen spec st.term nothing_typed)) line column)
 
--- the newest change undone, and the next one done again, each with what was selected and seen then
-abbrev pub undone_by : List Change → State → State
-undone_by [] st = st
-undone_by (c ∷ cs) st = record st {
-  term = before st.term c;
-  spot = before_of c;
-  past = cs;
-  future = c ∷ st.future;
+-- the changes that lie that way, the nearest first
+abbrev pub ahead : Direction → State → List Change
+ahead d st = chosen d st.past st.future
+
+-- the first of these changes gone along, with what was selected and seen there; it is the nearest one behind then
+abbrev pub gone_by : Direction → List Change → State → State
+gone_by d [] st = st
+gone_by d (c ∷ cs) st = record st {
+  term = term_along d st.term c;
+  spot = spot_along d c;
+  past = chosen d cs (c ∷ st.past);
+  future = chosen d (c ∷ st.future) cs;
 }
 
+-- one change along that way
+abbrev pub gone : Direction → State → State
+gone d st = gone_by d (ahead d st) st
+
+-- the newest change undone, and the next one done again
 abbrev pub undone : State → State
-undone st = undone_by st.past st
-
-abbrev pub redone_by : List Change → State → State
-redone_by [] st = st
-redone_by (c ∷ cs) st = record st {
-  term = behind st.term c;
-  spot = after_of c;
-  past = c ∷ st.past;
-  future = cs;
-}
+undone = gone Back
 
 abbrev pub redone : State → State
-redone st = redone_by st.future st
+redone = gone Forth
 
 -- a state as it was before a change that led to another one and was taken back: the newest 255 changes before it are
 -- kept, it comes next, and nothing is being typed

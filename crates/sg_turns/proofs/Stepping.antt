@@ -1,4 +1,4 @@
--- Steps that are undone or done again.
+-- Steps along which a way goes.
 use Rattle.std.specs.Prelude.{◌≡◌, ◌≢◌, refl, ℕ, ◌+◌, ◌-◌, ◌^◌, ◌<◌, ◌≤◌, min, List, [], ◌∷◌, Option, None, Some, IsSome, option_map, option_and_then, unwrap_or, false, true}
 use Rattle.std.proofs.Common.{sym, ap, ◌∙◌, subst, arith, inl}
 use Rattle.std.proofs.lemmas.Bool.{and_parts, false≢true}
@@ -27,8 +27,10 @@ use Rattle.sg_build.specs.declared.limits.Counts.{Counts}
 use Rattle.sg_build.proofs.Counted.{nodes_put}
 use Rattle.sg_build.proofs.Placed.{part_nodes}
 use Rattle.sg_build.proofs.Roots.{one_phylum}
-use Rattle.sg_changes.specs.Changes.{marked, marks_at, marks_of, part_of, redone, undone, before_of, after_of}
-use Rattle.sg_changes.specs.Told.{HoldsPart, future_change, hanging, hung, past_change}
+use Rattle.sg_changes.specs.Changes.{marked, marks_at, marks_of, part_of, spot_along, term_along}
+use Rattle.sg_changes.specs.Told.{HoldsPart, change_along, hanging, hung}
+use Rattle.sg_changes.specs.declared.direction.Direction.{Direction}
+use Rattle.sg_changes.specs.declared.direction.Direction.TheVariants.{Back, Forth}
 use Rattle.sg_changes.specs.declared.spot.Spot.{Spot}
 use Rattle.sg_changes.specs.declared.step.Marks.{Marks}
 use Rattle.sg_changes.specs.declared.step.Step.{Step}
@@ -38,7 +40,7 @@ use Rattle.sg_select.specs.Paths.{there}
 use Rattle.sg_select.specs.RestingPlaces.{is_open, rests, rests_under, stands_resting}
 use Rattle.sg_states.specs.Paged.{IsWhole}
 use Rattle.sg_states.specs.Selections.{place_in}
-use Rattle.sg_turns.specs.Stepped.{MayStep, redoing, seen_after, seen_before, step_place, undoing}
+use Rattle.sg_turns.specs.Stepped.{MayStep, coming, seen_along, step_path, step_place}
 use Rattle.sg_turns.specs.Turns.{MayTurn, NotesSome, comes_out, ComesOut, goes_in, made}
 use Rattle.sg_turns.specs.declared.turns.What.{What}
 use Rattle.sg_turns.specs.declared.turns.What.TheVariants.{Tree, Shown}
@@ -179,44 +181,39 @@ module _ (g : Grove) (is : IsGrove g) (root : NodeId) (t : Term) (u : Place) (sp
         there = there;
       }
 
--- what a step is undone and done again by
+-- what comes where a way goes along a step, and what is seen there
 module _ (tree : NodeId → Term) (t : Term) where
-  pub made_before : (s : Step) → made tree t (step_place s) (undoing s) ≡ undone t (past_change tree t s)
-  made_before (Replaced path hangs before after) = refl
-  made_before (Marked path old new before after) = refl
+  pub made_along : (d : Direction) (s : Step) → made tree t (step_place s) (coming d s) ≡ term_along d t (change_along tree d t s)
+  made_along Back (Replaced path hangs before after) = refl
+  made_along Back (Marked path old new before after) = refl
+  made_along Forth (Replaced path hangs before after) = refl
+  made_along Forth (Marked path old new before after) = refl
 
-  pub made_after : (s : Step) → made tree t (step_place s) (redoing s) ≡ redone t (future_change tree t s)
-  made_after (Replaced path hangs before after) = refl
-  made_after (Marked path old new before after) = refl
+  pub spot_there : (d : Direction) (s : Step) → seen_along d s ≡ spot_along d (change_along tree d t s)
+  spot_there Back (Replaced path hangs before after) = refl
+  spot_there Back (Marked path old new before after) = refl
+  spot_there Forth (Replaced path hangs before after) = refl
+  spot_there Forth (Marked path old new before after) = refl
 
-  pub spot_before : (s : Step) → seen_before s ≡ before_of (past_change tree t s)
-  spot_before (Replaced path hangs before after) = refl
-  spot_before (Marked path old new before after) = refl
+pub in_along : (d : Direction) (s : Step) → goes_in (coming d s) ≡ hanging s
+in_along d (Replaced path hangs before after) = refl
+in_along d (Marked path old new before after) = refl
 
-  pub spot_after : (s : Step) → seen_after s ≡ after_of (future_change tree t s)
-  spot_after (Replaced path hangs before after) = refl
-  spot_after (Marked path old new before after) = refl
+pub out_along : (d : Direction) (s : Step) (n : NodeId) → comes_out (coming d s) n ≡ hanging (hung s n)
+out_along d (Replaced path hangs before after) n = refl
+out_along d (Marked path old new before after) n = refl
 
-pub in_before : (s : Step) → goes_in (undoing s) ≡ hanging s
-in_before (Replaced path hangs before after) = refl
-in_before (Marked path old new before after) = refl
+pub part_along : (g : Grove) → IsGrove g → (d : Direction) (t : Term) (s : Step) (n : NodeId) → ComesOut g n (coming d s) (part_of t (step_place s)) → HoldsPart (term_at g) t s n
+part_along g is d t (Replaced path hangs before after) n holds = held_at g is n (part_of t (place_of path)) holds
+part_along g is d t (Marked path old new before after) n holds = tt
 
-pub in_after : (s : Step) → goes_in (redoing s) ≡ hanging s
-in_after (Replaced path hangs before after) = refl
-in_after (Marked path old new before after) = refl
+-- where the path, what comes and the spot are those of a step
+pub of_step : (P : Place → What → Spot → Type 0) (s : Step) (d : Direction) (path : List ℕ) (what : What) (spot : Spot)
+    → path ≡ step_path s → what ≡ coming d s → spot ≡ seen_along d s → P (place_of path) what spot → P (step_place s) (coming d s) (seen_along d s)
+of_step P s d path what spot p w o h =
+    subst (P (step_place s) (coming d s)) o (subst (λ x. P (step_place s) x spot) w (subst (λ x. P (place_of x) what spot) p h))
 
-pub out_before : (s : Step) (n : NodeId) → comes_out (undoing s) n ≡ hanging (hung s n)
-out_before (Replaced path hangs before after) n = refl
-out_before (Marked path old new before after) n = refl
-
-pub out_after : (s : Step) (n : NodeId) → comes_out (redoing s) n ≡ hanging (hung s n)
-out_after (Replaced path hangs before after) n = refl
-out_after (Marked path old new before after) n = refl
-
-pub part_before : (g : Grove) → IsGrove g → (t : Term) (s : Step) (n : NodeId) → ComesOut g n (undoing s) (part_of t (step_place s)) → HoldsPart (term_at g) t s n
-part_before g is t (Replaced path hangs before after) n holds = held_at g is n (part_of t (place_of path)) holds
-part_before g is t (Marked path old new before after) n holds = tt
-
-pub part_after : (g : Grove) → IsGrove g → (t : Term) (s : Step) (n : NodeId) → ComesOut g n (redoing s) (part_of t (step_place s)) → HoldsPart (term_at g) t s n
-part_after g is t (Replaced path hangs before after) n holds = held_at g is n (part_of t (place_of path)) holds
-part_after g is t (Marked path old new before after) n holds = tt
+pub by_step : (P : Place → What → Spot → Type 0) (s : Step) (d : Direction) (path : List ℕ) (what : What) (spot : Spot)
+    → path ≡ step_path s → what ≡ coming d s → spot ≡ seen_along d s → P (step_place s) (coming d s) (seen_along d s) → P (place_of path) what spot
+by_step P s d path what spot p w o h =
+    subst (λ x. P (place_of x) what spot) (sym p) (subst (λ x. P (step_place s) x spot) (sym w) (subst (P (step_place s) (coming d s)) (sym o) h))

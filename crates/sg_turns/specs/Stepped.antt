@@ -1,5 +1,5 @@
--- What it is to undo a step, or to do it again.
-use Rattle.std.specs.Prelude.{◌≡◌, ℕ, Some}
+-- What it is to go along a step.
+use Rattle.std.specs.Prelude.{◌≡◌, ℕ, List, Some}
 use Rattle.sg_kinds.specs.Terms.{Term, nodes_of}
 use Rattle.sg_kinds.specs.Sound.{IsSmall}
 use Rattle.sg_kinds.specs.Places.{Place, place_of, sub}
@@ -7,6 +7,8 @@ use Rattle.sg_forest.specs.declared.node_id.NodeId.{NodeId}
 use Rattle.sg_forest.specs.Trees.{Climbs}
 use Rattle.sg_groves.specs.Grove.{Grove, nodes}
 use Rattle.sg_groves.specs.TermAt.{term_at}
+use Rattle.sg_changes.specs.Changes.{chosen}
+use Rattle.sg_changes.specs.declared.direction.Direction.{Direction}
 use Rattle.sg_changes.specs.declared.spot.Spot.{Spot}
 use Rattle.sg_changes.specs.declared.step.Step.{Step}
 use Rattle.sg_changes.specs.declared.step.Step.TheVariants.{Replaced, Marked}
@@ -16,28 +18,23 @@ use Rattle.sg_turns.specs.declared.turns.What.{What}
 use Rattle.sg_turns.specs.declared.turns.What.TheVariants.{Tree, Shown}
 use Rattle.sg_turns.specs.declared.stepped.Stepped.{Stepped}
 
--- the place of a step
+-- the path and the place of a step
+abbrev pub step_path : Step → List ℕ
+step_path (Replaced path hangs before after) = path
+step_path (Marked path old new before after) = path
+
 abbrev pub step_place : Step → Place
-step_place (Replaced path hangs before after) = place_of path
-step_place (Marked path old new before after) = place_of path
+step_place s = place_of (step_path s)
 
--- what comes there where it is undone, and where it is done again
-abbrev pub undoing : Step → What
-undoing (Replaced path hangs before after) = Tree hangs
-undoing (Marked path old new before after) = Shown old
+-- what comes there where a way goes along it
+abbrev pub coming : Direction → Step → What
+coming d (Replaced path hangs before after) = Tree hangs
+coming d (Marked path old new before after) = Shown (chosen d old new)
 
-abbrev pub redoing : Step → What
-redoing (Replaced path hangs before after) = Tree hangs
-redoing (Marked path old new before after) = Shown new
-
--- what was selected and seen before it, and after it
-abbrev pub seen_before : Step → Spot
-seen_before (Replaced path hangs before after) = before
-seen_before (Marked path old new before after) = before
-
-abbrev pub seen_after : Step → Spot
-seen_after (Replaced path hangs before after) = after
-seen_after (Marked path old new before after) = after
+-- what was selected and seen where the way leads
+abbrev pub seen_along : Direction → Step → Spot
+seen_along d (Replaced path hangs before after) = chosen d before after
+seen_along d (Marked path old new before after) = chosen d before after
 
 -- it may come into that place of the edited term, whose nodes are counted, and the term then is in the limits; what is
 -- selected then has a place in it

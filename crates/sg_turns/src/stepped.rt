@@ -1,4 +1,4 @@
-//! Steps of the history that are undone or done again.
+//! Steps of the history along which a way goes, back or forth.
 ghost use Rattle.std.specs.Prelude.{◌≡◌, IfOk, OnErr};
 ghost use Rattle.sg_kinds.specs.Places.{Place, place_of};
 ghost use Rattle.sg_kinds.specs.Sound.{IsSmall};
@@ -10,13 +10,14 @@ ghost use Rattle.sg_eval.specs.Journal.{now_of, total_of};
 ghost use Rattle.sg_forest.specs.Trees.{Climbs};
 ghost use Rattle.sg_groves.specs.Grove.{nodes};
 ghost use Rattle.sg_groves.specs.TermAt.{term_at};
-ghost use Rattle.sg_turns.specs.Stepped.{IsStepped, MayStep, redoing, seen_after, seen_before, step_place, undoing};
+ghost use Rattle.sg_changes.specs.Changes.{chosen};
+ghost use Rattle.sg_turns.specs.Stepped.{IsStepped, MayStep, coming, seen_along, step_path, step_place};
 ghost use Rattle.sg_turns.specs.Turns.{MayTurn, Notes, NotesSome, made};
 
 use crate::puts::node_at;
 use crate::turns::{What, standing, turn};
 use sg_build::counts_below;
-use sg_changes::{Spot, Step};
+use sg_changes::{Direction, Spot, Step};
 use sg_eval::{Evaluator, Journal};
 use sg_forest::NodeId;
 use sg_kinds::memory::NoMemory;
@@ -25,7 +26,7 @@ use sg_kinds::row::Path;
 use sg_terms::Terms;
 use std::alloc::Global;
 
-/// What came of a step that was undone or done again.
+/// What came of a step that was gone along.
 #[derive(Drop)]
 pub struct Stepped {
     /// the node at the step's place, which hangs now where a tree came for it
@@ -111,76 +112,57 @@ fn turned_at(
     }
 }
 
-/// Undoes a step in the edited term; what was selected before the step is found again. The step's place is found from
-/// another node on, whose path is `way`. Where memory is wanting each node is as before, and only the pool and the
-/// journal may have grown.
-pub fn step_back(
-    alloc: Global,
-    terms: &mut Terms,
-    root: NodeId,
-    step: &Step,
-    known: usize,
-    near: NodeId,
-    way: &Path,
-    plans: &Plans,
-    ev: &Evaluator,
-    journal: &mut Journal,
-) -> Result<Stepped, NoMemory>
-    requires valid { AreValid (rules_of terms.old.spec) plans.now }
-    requires same { ev.now ≡ terms.old.spec }
-    requires may { (t : Term) × MayStep terms.old root t (step_place step.now) (undoing step.now)
-        (seen_before step.now) known }
-    requires near { Climbs (nodes terms.old) (place_of way.now) near root }
-    ensures stepped { (t : Term) → MayStep terms.old root t (step_place step.now) (undoing step.now)
-        (seen_before step.now) known
-        → IfOk result (IsStepped terms.old terms.new root t (step_place step.now) (undoing step.now)
-        (seen_before step.now)) }
-    ensures noted { (t : Term) → MayStep terms.old root t (step_place step.now) (undoing step.now)
-        (seen_before step.now) known
-        → IfOk result (λ r. Notes terms.old terms.new r.root t (step_place step.now) (undoing step.now)
-        (now_of journal.old) (now_of journal.new)) }
-    ensures some { (t : Term) → MayStep terms.old root t (step_place step.now) (undoing step.now)
-        (seen_before step.now) known
-        → OnErr result (NotesSome terms.old root t (step_place step.now) (undoing step.now)
-        (now_of journal.old) (now_of journal.new)) }
-    ensures as_before { OnErr result ((n : _) → nodes terms.new n ≡ nodes terms.old n) }
-    ensures spec { terms.new.spec ≡ terms.old.spec }
-    ensures grown { IsGrown terms.old.pool terms.new.pool }
-    ensures total { total_of journal.new ≡ total_of journal.old }
+// the path of a step
+fn path_of(step: &Step) -> &Path
+    ensures { result.now ≡ step_path step.now }
 {
     match step {
-        Step::Replaced {
-            path,
-            hangs,
-            before,
-            ..
-        } => {
-            let what = What::Tree(*hangs);
-            turned_at(
-                alloc, terms, root, path, what, before, known, near, way, plans, ev, journal,
-            )
-        }
-        Step::Marked {
-            path,
-            old,
-            before,
-            ..
-        } => {
-            let what = What::Shown(*old);
-            turned_at(
-                alloc, terms, root, path, what, before, known, near, way, plans, ev, journal,
-            )
-        }
+        Step::Replaced { path, .. } => path,
+        Step::Marked { path, .. } => path,
     }
 }
 
-/// Does a step again in the edited term; what was selected after the step is found again. The step's place is found from
-/// another node on, whose path is `way`. Where memory is wanting each node is as before, and only the pool and the
+// the first of two for the way back, the second for the way forth
+fn spot_of<'a>(direction: Direction, before: &'a Spot, after: &'a Spot) -> &'a Spot
+    ensures { result.now ≡ chosen direction before.now after.now }
+{
+    match direction {
+        Direction::Back => before,
+        Direction::Forth => after,
+    }
+}
+
+// what was selected and seen where the way along a step leads
+fn spot_along(step: &Step, direction: Direction) -> &Spot
+    ensures { result.now ≡ seen_along direction step.now }
+{
+    match step {
+        Step::Replaced { before, after, .. } => spot_of(direction, before, after),
+        Step::Marked { before, after, .. } => spot_of(direction, before, after),
+    }
+}
+
+// what comes into the place of a step where a way goes along it
+fn what_of(step: &Step, direction: Direction) -> What
+    ensures { result ≡ coming direction step.now }
+{
+    match step {
+        Step::Replaced { hangs, .. } => What::Tree(*hangs),
+        Step::Marked { old, new, .. } => match direction {
+            Direction::Back => What::Shown(*old),
+            Direction::Forth => What::Shown(*new),
+        },
+    }
+}
+
+/// Goes along a step in the edited term; what was selected where the way leads is found again. The step's place is found
+/// from another node on, whose path is `way`. Where memory is wanting each node is as before, and only the pool and the
 /// journal may have grown.
-pub fn step_forth(
+pub fn step_along(
     alloc: Global,
     terms: &mut Terms,
     root: NodeId,
+    direction: Direction,
     step: &Step,
     known: usize,
     near: NodeId,
@@ -191,48 +173,30 @@ pub fn step_forth(
 ) -> Result<Stepped, NoMemory>
     requires valid { AreValid (rules_of terms.old.spec) plans.now }
     requires same { ev.now ≡ terms.old.spec }
-    requires may { (t : Term) × MayStep terms.old root t (step_place step.now) (redoing step.now)
-        (seen_after step.now) known }
+    requires may { (t : Term) × MayStep terms.old root t (step_place step.now) (coming direction step.now)
+        (seen_along direction step.now) known }
     requires near { Climbs (nodes terms.old) (place_of way.now) near root }
-    ensures stepped { (t : Term) → MayStep terms.old root t (step_place step.now) (redoing step.now)
-        (seen_after step.now) known
-        → IfOk result (IsStepped terms.old terms.new root t (step_place step.now) (redoing step.now)
-        (seen_after step.now)) }
-    ensures noted { (t : Term) → MayStep terms.old root t (step_place step.now) (redoing step.now)
-        (seen_after step.now) known
-        → IfOk result (λ r. Notes terms.old terms.new r.root t (step_place step.now) (redoing step.now)
+    ensures stepped { (t : Term) → MayStep terms.old root t (step_place step.now) (coming direction step.now)
+        (seen_along direction step.now) known
+        → IfOk result (IsStepped terms.old terms.new root t (step_place step.now) (coming direction step.now)
+        (seen_along direction step.now)) }
+    ensures noted { (t : Term) → MayStep terms.old root t (step_place step.now) (coming direction step.now)
+        (seen_along direction step.now) known
+        → IfOk result (λ r. Notes terms.old terms.new r.root t (step_place step.now) (coming direction step.now)
         (now_of journal.old) (now_of journal.new)) }
-    ensures some { (t : Term) → MayStep terms.old root t (step_place step.now) (redoing step.now)
-        (seen_after step.now) known
-        → OnErr result (NotesSome terms.old root t (step_place step.now) (redoing step.now)
+    ensures some { (t : Term) → MayStep terms.old root t (step_place step.now) (coming direction step.now)
+        (seen_along direction step.now) known
+        → OnErr result (NotesSome terms.old root t (step_place step.now) (coming direction step.now)
         (now_of journal.old) (now_of journal.new)) }
     ensures as_before { OnErr result ((n : _) → nodes terms.new n ≡ nodes terms.old n) }
     ensures spec { terms.new.spec ≡ terms.old.spec }
     ensures grown { IsGrown terms.old.pool terms.new.pool }
     ensures total { total_of journal.new ≡ total_of journal.old }
 {
-    match step {
-        Step::Replaced {
-            path,
-            hangs,
-            after,
-            ..
-        } => {
-            let what = What::Tree(*hangs);
-            turned_at(
-                alloc, terms, root, path, what, after, known, near, way, plans, ev, journal,
-            )
-        }
-        Step::Marked {
-            path,
-            new,
-            after,
-            ..
-        } => {
-            let what = What::Shown(*new);
-            turned_at(
-                alloc, terms, root, path, what, after, known, near, way, plans, ev, journal,
-            )
-        }
-    }
+    let path = path_of(step);
+    let what = what_of(step, direction);
+    let spot = spot_along(step, direction);
+    turned_at(
+        alloc, terms, root, path, what, spot, known, near, way, plans, ev, journal,
+    )
 }

@@ -1,5 +1,6 @@
+use Rattle.sg_changes.specs.declared.direction.Direction.TheVariants.{Forth}
 use Rattle.sg_changes.specs.Chain.{Passes}
-use Rattle.sg_changes.proofs.Chained.{redo_chains}
+use Rattle.sg_changes.proofs.Chained.{go_chains}
 use Rattle.sg_changes.proofs.Telling.{put_pushed, mark_pushed}
 use Rattle.sg_changes.proofs.laws.steps_are_pushed.Goals as goal
 
@@ -10,4 +11,4 @@ pub returns-clause-mark : goal.returns-clause-mark
 returns-clause-mark c = λ old new t path was made before after past at agree. mark_pushed old new t path was made before after past at agree
 
 pub returns-clause-undoes : goal.returns-clause-undoes
-returns-clause-undoes c = λ spec spot t c cs small can all. redo_chains spec (Passes spot) t c cs small can all
+returns-clause-undoes c = λ spec spot t c cs small can all. go_chains spec (Passes spot) Forth t c cs small can all
