@@ -5,18 +5,21 @@ use Rattle.std.specs.Fmt.{digits}
 use Rattle.sg_kinds.specs.Values.{Bytes}
 use Rattle.sg_kinds.specs.declared.marks.FaultKind.TheVariants.{Overflow}
 use Rattle.sg_unparse.specs.Page.{is_newline, Region}
-use Rattle.sg_screen.specs.declared.message.Message.{Message}
-use Rattle.sg_screen.specs.declared.message.Message.TheVariants.{Fine, NoBuffer, ParseAt, Result}
-use Rattle.sg_screen.specs.Message.{message_text}
+use Rattle.sg_script.specs.declared.message.Message.{Message}
+use Rattle.sg_script.specs.declared.message.Message.TheVariants.{Fine, NoBuffer, ParseAt, Result}
+use Rattle.sg_script.specs.Message.{message_text}
 use Rattle.sg_screen.specs.Block.{Head, block, bare}
 
 -- short forms
 abbrev from_to : (line column last_line last_column : ℕ) → Region
 from_to a b c d = record { first = record { line = a; column = b }; last = record { line = c; column = d } }
 
+abbrev head_with : (name : Bytes) → Region → (phylum : Bytes) → (count top ev : ℕ) → Message → Head
+head_with name region phylum count top ev message =
+    record { name = name; region = region; phylum = phylum; count = count; top = top; ev = ev; message = message }
+
 abbrev head : (name : Bytes) → Region → (phylum : Bytes) → (top ev : ℕ) → Message → Head
-head name region phylum top ev message =
-    record { name = name; region = region; phylum = phylum; top = top; ev = ev; message = message }
+head name region phylum top ev message = head_with name region phylum 1 top ev message
 
 abbrev lines : Bytes → List Bytes
 lines page = slice_split is_newline page
@@ -47,6 +50,12 @@ last_newline : block (head (codes "a") (from_to 1 1 1 3) (codes "a") 1 0 Fine) (
     (codes "= a 1:1-1:3 a top 1 ev 0 ok" ∷ codes "|ab" ∷ codes "|" ∷ [])
 unfolding digits
 last_newline = refl
+
+-- two elements of a list
+run_block : block (head_with (codes "p") (from_to 1 1 2 13) (codes "stmt") 2 1 0 Fine) (lines (codes "let a = 5\nprint a  -- 5")) 80 24 ≡ printed
+    (codes "= p 1:1-2:13 stmt*2 top 1 ev 0 ok" ∷ codes "|let a = 5" ∷ codes "|print a  -- 5" ∷ [])
+unfolding digits
+run_block = refl
 
 -- a refusal with a number, and one with a reason
 refused_block : block (head (codes "a") (from_to 1 2 1 2) (codes "exp") 1 0 (ParseAt 2)) (lines (codes "(0 + <exp>)\nVALUE = 0")) 80 24 ≡ printed

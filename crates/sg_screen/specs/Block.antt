@@ -1,19 +1,20 @@
 -- What a command prints: a header, and the lines of a page that stand in the window.
-use Rattle.std.specs.Prelude.{ℕ, ◌-◌, ◌++◌, List, take, drop, flat_map, codes}
+use Rattle.std.specs.Prelude.{ℕ, ◌-◌, nat_eq, if◌then◌else◌, ◌++◌, List, take, drop, flat_map, codes}
 use Rattle.std.specs.Fmt.{decimal}
 use Rattle.sg_kinds.specs.Values.{Bytes}
 use Rattle.sg_unparse.specs.Page.{Position, Region}
 use Rattle.sg_unparse.specs.Sheet.{told}
-use Rattle.sg_screen.specs.declared.message.Message.{Message}
+use Rattle.sg_script.specs.declared.message.Message.{Message}
 use Rattle.sg_screen.specs.declared.blocks.Head.{Head as Given}
-use Rattle.sg_screen.specs.Message.{message_text}
+use Rattle.sg_script.specs.Message.{message_text}
 
--- what a header tells: the buffer's name, the region of what is selected and its phylum's name, the first line in the
--- window, how many equations were evaluated, and the message
+-- what a header tells: the buffer's name, the region of what is selected, its phylum's name and how many elements of a
+-- list are selected, or 1; the first line in the window, how many equations were evaluated, and the message
 pub record Head : Type 0 where
   pub name : Bytes
   pub region : Region
   pub phylum : Bytes
+  pub count : ℕ
   pub top : ℕ
   pub ev : ℕ
   pub message : Message
@@ -24,6 +25,7 @@ head_of h = record {
   name = h.name.now;
   region = told h.region;
   phylum = h.phylum.now;
+  count = h.count;
   top = h.top;
   ev = h.ev;
   message = h.message;
@@ -37,9 +39,14 @@ position_text p = decimal p.line ++ codes ":" ++ decimal p.column
 abbrev pub region_text : Region → Bytes
 region_text r = position_text r.first ++ codes "-" ++ position_text r.last
 
+-- `PHYLUM`, and where several elements are selected `PHYLUM*COUNT`
+abbrev pub phylum_text : (phylum : Bytes) → (count : ℕ) → Bytes
+phylum_text phylum count = if nat_eq count 1 then phylum else phylum ++ codes "*" ++ decimal count
+
 -- `= B L:C-L:C PHYLUM top T ev N MESSAGE`, in three parts
 abbrev pub selected_text : Head → Bytes
-selected_text h = codes "= " ++ h.name ++ codes " " ++ region_text h.region ++ codes " " ++ h.phylum
+selected_text h =
+    codes "= " ++ h.name ++ codes " " ++ region_text h.region ++ codes " " ++ phylum_text h.phylum h.count
 
 abbrev pub counts_text : (top ev : ℕ) → Bytes
 counts_text top ev = codes " top " ++ decimal top ++ codes " ev " ++ decimal ev

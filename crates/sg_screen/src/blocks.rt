@@ -2,20 +2,22 @@
 ghost use Rattle.std.specs.Prelude.{◌≡◌, ◌++◌, ◌-◌, length, take, drop, IfOk, OnOk};
 ghost use Rattle.sg_unparse.specs.Page.{lines_of};
 ghost use Rattle.sg_unparse.specs.Sheet.{told};
-ghost use Rattle.sg_screen.specs.Block.{head_of, position_text, region_text, selected_text, counts_text, ending, header, shown_line, shown_lines, block, bare};
+ghost use Rattle.sg_screen.specs.Block.{head_of, position_text, region_text, phylum_text, selected_text, counts_text, ending, header, shown_line, shown_lines, block, bare};
 
-use crate::message::{Message, write_message, write_number};
 use sg_kinds::memory::NoMemory;
+use sg_script::{Message, write_message, write_number};
 use sg_unparse::{Page, Region};
 use std::alloc::Global;
 
-/// What a header tells: the buffer's name, the region of what is selected and its phylum's name, the page's first line
-/// in the window, counted from 1, how many equations were evaluated, and the message.
+/// What a header tells: the buffer's name, the region of what is selected, the phylum's name of its first node and how
+/// many elements of a list it has, or 1; the page's first line in the window, counted from 1, how many equations were
+/// evaluated, and the message.
 #[derive(Clone, Copy)]
 pub struct Head<'a> {
     pub name: &'a [u8],
     pub region: Region,
     pub phylum: &'a [u8],
+    pub count: usize,
     pub top: usize,
     pub ev: u64,
     pub message: Message,
@@ -39,7 +41,24 @@ fn write_region(alloc: Global, out: &mut Vec<u8>, region: Region) -> Result<(), 
     write_position(alloc, out, region.end_line, region.end_col)
 }
 
-// writes the buffer's name, the region of what is selected and its phylum's name
+// writes the name of a phylum, and how many of it are selected, where these are several
+fn write_phylum(
+    alloc: Global,
+    out: &mut Vec<u8>,
+    phylum: &[u8],
+    count: usize,
+) -> Result<(), NoMemory>
+    ensures { OnOk result (out.new.items ≡ out.old.items ++ phylum_text phylum.now count) }
+{
+    out.extend_from_slice(phylum)?;
+    if count == 1 {
+        return Ok(());
+    }
+    out.push(b'*')?;
+    write_number(alloc, out, count as u64)
+}
+
+// writes the buffer's name, and the region and phylum of what is selected
 fn write_selected(alloc: Global, out: &mut Vec<u8>, head: &Head) -> Result<(), NoMemory>
     ensures { OnOk result (out.new.items ≡ out.old.items ++ selected_text (head_of head.now)) }
 {
@@ -48,8 +67,7 @@ fn write_selected(alloc: Global, out: &mut Vec<u8>, head: &Head) -> Result<(), N
     out.push(b' ')?;
     write_region(alloc, out, head.region)?;
     out.push(b' ')?;
-    out.extend_from_slice(head.phylum)?;
-    Ok(())
+    write_phylum(alloc, out, head.phylum, head.count)
 }
 
 // writes the window's top and how many equations were evaluated

@@ -12,7 +12,7 @@ use Rattle.sg_text.specs.Bytes.{newline, space}
 use Rattle.sg_text.specs.Strings.{unescaped}
 use Rattle.sg_kinds.proofs.Elementary.{and_true, eq_false, le_is, not_true}
 use Rattle.sg_script.specs.declared.command.Command.{Command}
-use Rattle.sg_script.specs.declared.command.Command.TheVariants.{New, Load, Switch, Show, Next, Prev, Up, First, Sibling, Goto, Do, Delete, Remove, InsertBefore, InsertAfter, Cut as CutOut, Copy, Paste, Text, TypeIn, Erase, Enter, Abandon, Alternate, Elide, Undo, Redo, Save, SaveText}
+use Rattle.sg_script.specs.declared.command.Command.TheVariants.{New, Load, Switch, Show, Next, Prev, Up, First, Sibling, Goto, Extend, Shrink, Find, Do, ReplaceAll, Delete, Remove, InsertBefore, InsertAfter, Cut as CutOut, Copy, Paste, Text, TypeIn, Erase, Enter, Abandon, Alternate, Elide, Undo, Redo, Save, SaveText}
 use Rattle.sg_script.specs.declared.lines.Said.TheVariants as said
 use Rattle.sg_script.specs.declared.fault.ScriptFault.TheVariants.{Long, Line, Many}
 use Rattle.sg_script.specs.Forms.{is_name, name_of, is_file_name, file_name_of, count_of}
@@ -58,7 +58,11 @@ spelled Up h = refl
 spelled First h = refl
 spelled Sibling h = refl
 spelled (Goto l c) h = let p = and_parts (is_position l) (is_position c) h in placed_is l c p.0 p.1
+spelled Extend h = refl
+spelled Shrink h = refl
+spelled (Find t) h = ap (option_map Find) (one_string_is t h)
 spelled (Do t) h = ap (option_map Do) (one_string_is t h)
+spelled (ReplaceAll t) h = ap (option_map ReplaceAll) (one_string_is t h)
 spelled Delete h = refl
 spelled Remove h = refl
 spelled InsertBefore h = refl
@@ -87,7 +91,9 @@ line_plain (Switch b) h = name_plain b h
 line_plain (Goto l c) h =
     let p = and_parts (is_position l) (is_position c) h in
     plain_append (decimal l) (space ∷ decimal c) (place_plain l p.0) (place_plain c p.1)
+line_plain (Find t) h = string_plain t h
 line_plain (Do t) h = string_plain t h
+line_plain (ReplaceAll t) h = string_plain t h
 line_plain (Text t) h = string_plain t h
 line_plain (TypeIn t) h = string_plain t h
 line_plain (Save f) h = file_plain f h
@@ -99,7 +105,9 @@ line_speaks (New b) = refl
 line_speaks (Load b f) = refl
 line_speaks (Switch b) = refl
 line_speaks (Goto l c) = refl
+line_speaks (Find t) = refl
 line_speaks (Do t) = refl
+line_speaks (ReplaceAll t) = refl
 line_speaks (Text t) = refl
 line_speaks (TypeIn t) = refl
 line_speaks (Save f) = refl

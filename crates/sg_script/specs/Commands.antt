@@ -4,7 +4,7 @@ use Rattle.sg_text.specs.Strings.{unescaped}
 use Rattle.sg_script.specs.declared.command.Command.{Command}
 use Rattle.sg_script.specs.declared.command.Command.TheVariants as command
 use Rattle.sg_script.specs.declared.verbs.Verb.{Verb}
-use Rattle.sg_script.specs.declared.verbs.Verb.TheVariants.{New, Load, Switch, Show, Next, Prev, Up, First, Sibling, Goto, Do, Delete, Remove, InsertBefore, InsertAfter, Cut as CutOut, Copy, Paste, Text, TypeIn, Erase, Enter, Abandon, Alternate, Elide, Undo, Redo, Save, SaveText}
+use Rattle.sg_script.specs.declared.verbs.Verb.TheVariants.{New, Load, Switch, Show, Next, Prev, Up, First, Sibling, Goto, Extend, Shrink, Find, Do, ReplaceAll, Delete, Remove, InsertBefore, InsertAfter, Cut as CutOut, Copy, Paste, Text, TypeIn, Erase, Enter, Abandon, Alternate, Elide, Undo, Redo, Save, SaveText}
 use Rattle.sg_script.specs.Words.{word_at, next_word, is_end, last_word, last_string}
 use Rattle.sg_script.specs.Forms.{name_of, file_name_of, count_of}
 
@@ -58,7 +58,11 @@ row_of Up = (codes "up", alone command.Up)
 row_of First = (codes "first", alone command.First)
 row_of Sibling = (codes "sibling", alone command.Sibling)
 row_of Goto = (codes "goto", placed)
+row_of Extend = (codes "extend", alone command.Extend)
+row_of Shrink = (codes "shrink", alone command.Shrink)
+row_of Find = (codes "find", quoted command.Find)
 row_of Do = (codes "do", quoted command.Do)
+row_of ReplaceAll = (codes "replace-all", quoted command.ReplaceAll)
 row_of Delete = (codes "delete", alone command.Delete)
 row_of Remove = (codes "remove", alone command.Remove)
 row_of InsertBefore = (codes "insert-before", alone command.InsertBefore)
@@ -81,9 +85,9 @@ row_of SaveText = (codes "save-text", filed command.SaveText)
 -- all of its rows
 abbrev pub verbs : List Verb
 verbs =
-    New ∷ Load ∷ Switch ∷ Show ∷ Next ∷ Prev ∷ Up ∷ First ∷ Sibling ∷ Goto ∷ Do ∷ Delete ∷ Remove ∷ InsertBefore
-    ∷ InsertAfter ∷ CutOut ∷ Copy ∷ Paste ∷ Text ∷ TypeIn ∷ Erase ∷ Enter ∷ Abandon ∷ Alternate ∷ Elide ∷ Undo ∷ Redo
-    ∷ Save ∷ SaveText ∷ []
+    New ∷ Load ∷ Switch ∷ Show ∷ Next ∷ Prev ∷ Up ∷ First ∷ Sibling ∷ Goto ∷ Extend ∷ Shrink ∷ Find ∷ Do ∷ ReplaceAll
+    ∷ Delete ∷ Remove ∷ InsertBefore ∷ InsertAfter ∷ CutOut ∷ Copy ∷ Paste ∷ Text ∷ TypeIn ∷ Erase ∷ Enter ∷ Abandon
+    ∷ Alternate ∷ Elide ∷ Undo ∷ Redo ∷ Save ∷ SaveText ∷ []
 
 -- the row of a word
 abbrev pub verb_of : List ℕ → Option Verb

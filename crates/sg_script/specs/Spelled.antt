@@ -4,7 +4,7 @@ use Rattle.std.specs.List.{list_all, join_with_byte}
 use Rattle.std.specs.Fmt.{decimal}
 use Rattle.sg_text.specs.Bytes.{newline, carriage_return, space, double_quote, backslash, letter_n}
 use Rattle.sg_script.specs.declared.command.Command.{Command}
-use Rattle.sg_script.specs.declared.command.Command.TheVariants.{New, Load, Switch, Show, Next, Prev, Up, First, Sibling, Goto, Do, Delete, Remove, InsertBefore, InsertAfter, Cut as CutOut, Copy, Paste, Text, TypeIn, Erase, Enter, Abandon, Alternate, Elide, Undo, Redo, Save, SaveText}
+use Rattle.sg_script.specs.declared.command.Command.TheVariants.{New, Load, Switch, Show, Next, Prev, Up, First, Sibling, Goto, Extend, Shrink, Find, Do, ReplaceAll, Delete, Remove, InsertBefore, InsertAfter, Cut as CutOut, Copy, Paste, Text, TypeIn, Erase, Enter, Abandon, Alternate, Elide, Undo, Redo, Save, SaveText}
 use Rattle.sg_script.specs.Forms.{is_name, is_file_name}
 
 -- a text between quotes, with the escapes
@@ -29,7 +29,11 @@ line_of Up = codes "up"
 line_of First = codes "first"
 line_of Sibling = codes "sibling"
 line_of (Goto line column) = codes "goto " ++ decimal line ++ space ∷ decimal column
+line_of Extend = codes "extend"
+line_of Shrink = codes "shrink"
+line_of (Find text) = codes "find " ++ string_of text
 line_of (Do text) = codes "do " ++ string_of text
+line_of (ReplaceAll text) = codes "replace-all " ++ string_of text
 line_of Delete = codes "delete"
 line_of Remove = codes "remove"
 line_of InsertBefore = codes "insert-before"
@@ -62,7 +66,9 @@ has_forms (New buffer) = is_name buffer
 has_forms (Load buffer file) = is_name buffer && is_file_name file
 has_forms (Switch buffer) = is_name buffer
 has_forms (Goto line column) = is_position line && is_position column
+has_forms (Find text) = is_text text
 has_forms (Do text) = is_text text
+has_forms (ReplaceAll text) = is_text text
 has_forms (Text text) = is_text text
 has_forms (TypeIn text) = is_text text
 has_forms (Save file) = is_file_name file

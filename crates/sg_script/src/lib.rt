@@ -1,4 +1,4 @@
-//! Scripts: the commands that the lines of a text spell.
+//! Scripts: the commands that the lines of a text spell, and the messages of commands.
 #![tactic(auto)]
 
 mod command;
@@ -6,6 +6,7 @@ mod fault;
 mod forms;
 pub mod laws;
 mod lines;
+mod message;
 mod rows;
 mod script;
 mod verbs;
@@ -13,4 +14,5 @@ mod words;
 
 pub use command::{Command, FileName};
 pub use fault::ScriptFault;
+pub use message::{Message, write_message, write_number};
 pub use script::read;

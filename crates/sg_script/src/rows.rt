@@ -79,11 +79,25 @@ fn switch_of(alloc: Global, rest: &[u8]) -> Result<Option<Command>, NoMemory>
     Ok(one_name(alloc, rest)?.map(|name| Command::Switch(name)))
 }
 
+// `find`
+fn find_of(alloc: Global, rest: &[u8]) -> Result<Option<Command>, NoMemory>
+    ensures { IfOk result (λ o. o ≡ quoted spec.Find rest.now) }
+{
+    Ok(one_string(alloc, rest)?.map(|text| Command::Find(text)))
+}
+
 // `do`
 fn do_of(alloc: Global, rest: &[u8]) -> Result<Option<Command>, NoMemory>
     ensures { IfOk result (λ o. o ≡ quoted spec.Do rest.now) }
 {
     Ok(one_string(alloc, rest)?.map(|text| Command::Do(text)))
+}
+
+// `replace-all`
+fn replace_all_of(alloc: Global, rest: &[u8]) -> Result<Option<Command>, NoMemory>
+    ensures { IfOk result (λ o. o ≡ quoted spec.ReplaceAll rest.now) }
+{
+    Ok(one_string(alloc, rest)?.map(|text| Command::ReplaceAll(text)))
 }
 
 // `text`
@@ -136,7 +150,11 @@ fn command_by(alloc: Global, verb: Verb, rest: &[u8]) -> Result<Option<Command>,
         Verb::First => Ok(alone(Command::First, rest)),
         Verb::Sibling => Ok(alone(Command::Sibling, rest)),
         Verb::Goto => Ok(placed(rest)),
+        Verb::Extend => Ok(alone(Command::Extend, rest)),
+        Verb::Shrink => Ok(alone(Command::Shrink, rest)),
+        Verb::Find => find_of(alloc, rest),
         Verb::Do => do_of(alloc, rest),
+        Verb::ReplaceAll => replace_all_of(alloc, rest),
         Verb::Delete => Ok(alone(Command::Delete, rest)),
         Verb::Remove => Ok(alone(Command::Remove, rest)),
         Verb::InsertBefore => Ok(alone(Command::InsertBefore, rest)),

@@ -4,8 +4,8 @@ use Rattle.std.specs.Fmt.{decimal}
 use Rattle.sg_kinds.specs.Values.{Bytes}
 use Rattle.sg_kinds.specs.declared.marks.FaultKind.{FaultKind}
 use Rattle.sg_kinds.specs.declared.marks.FaultKind.TheVariants as kind
-use Rattle.sg_screen.specs.declared.message.Message.{Message}
-use Rattle.sg_screen.specs.declared.message.Message.TheVariants as message
+use Rattle.sg_script.specs.declared.message.Message.{Message}
+use Rattle.sg_script.specs.declared.message.Message.TheVariants as message
 
 -- why a result has no value
 abbrev pub kind_text : FaultKind → Bytes
@@ -41,6 +41,7 @@ words message.NoAlternate = codes "no alternate"
 words message.NothingToUndo = codes "nothing to undo"
 words message.NothingToRedo = codes "nothing to redo"
 words message.InText = codes "in text"
+words message.InRun = codes "in run"
 words message.NotInText = codes "not in text"
 words message.WriteFault = codes "write fault"
 words message.ReadFault = codes "read fault"

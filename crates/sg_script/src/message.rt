@@ -1,7 +1,7 @@
 // Messages.
 ghost use Rattle.std.specs.Prelude.{◌≡◌, ◌++◌, OnOk};
 ghost use Rattle.std.specs.Fmt.{decimal};
-ghost use Rattle.sg_screen.specs.Message.{kind_text, words, message_text};
+ghost use Rattle.sg_script.specs.Message.{kind_text, words, message_text};
 
 use sg_kinds::marks::FaultKind;
 use sg_kinds::memory::NoMemory;
@@ -52,6 +52,8 @@ pub enum Message {
     NothingToRedo,
     /// a text is being typed
     InText,
+    /// several elements of a list are selected
+    InRun,
     /// no text is being typed
     NotInText,
     /// the file was not kept
@@ -108,6 +110,7 @@ fn words(message: Message) -> &'static [u8]
         Message::NothingToUndo => b"nothing to undo",
         Message::NothingToRedo => b"nothing to redo",
         Message::InText => b"in text",
+        Message::InRun => b"in run",
         Message::NotInText => b"not in text",
         Message::WriteFault => b"write fault",
         Message::ReadFault => b"read fault",
