@@ -1,0 +1,10 @@
+pub mod Behind
+pub mod Outermost
+pub mod Walked
+pub mod Given
+pub mod Everywhere
+pub mod Sought
+pub mod Gathers
+pub mod Rows
+pub mod Children
+pub mod Counting

@@ -1,0 +1,6 @@
+pub mod Found
+pub mod Gathered
+pub mod ReplacedAll
+pub mod Walked
+pub mod Made
+pub mod Why
