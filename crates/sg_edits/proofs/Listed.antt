@@ -1,10 +1,9 @@
 -- Elements of lists, and what is selected where one went.
-use Rattle.std.specs.Prelude.{◌≡◌, refl, ℕ, zero, suc, true, false, not, ◌&&◌, cond, ◌∷◌, Option, Some, None, slice_get, option_map, unwrap_or, is_some}
+use Rattle.std.specs.Prelude.{◌≡◌, refl, ℕ, zero, suc, Bool, true, false, not, ◌&&◌, cond, ◌∷◌, Option, Some, None, slice_get, option_map, unwrap_or, is_some}
 use Rattle.std.specs.Option.{option_map_or}
 use Rattle.std.proofs.Common.{sym, ap, ◌∙◌}
 use Rattle.std.proofs.lemmas.Option.{none-some, same_Some}
 use Rattle.sg_kinds.specs.Places.{Place, sub}
-use Rattle.sg_kinds.specs.Placeholder.{placeholder}
 use Rattle.sg_kinds.specs.Specification.{args_of}
 use Rattle.sg_kinds.specs.Terms.{Term, Leaf, Node, NoTerm, AndTerm}
 use Rattle.sg_kinds.specs.declared.spec.Spec.{Spec}
@@ -13,10 +12,9 @@ use Rattle.sg_forest.specs.Trees.{Climbs}
 use Rattle.sg_groves.specs.Grove.{Grove, nodes}
 use Rattle.sg_groves.specs.Holds.{IsPlaced}
 use Rattle.sg_terms.specs.Told as told
-use Rattle.sg_screen.specs.declared.message.Message.TheVariants as message
 use Rattle.sg_select.specs.Paths.{is_list_node}
-use Rattle.sg_edits.specs.Choice.{Refused, Put}
-use Rattle.sg_edits.specs.Edits.{is_list_operator, is_of_list, is_never_empty, is_only, left_at, longer, node_before, removed_at, rest_of}
+use Rattle.sg_edits.specs.Choice.{Put, one}
+use Rattle.sg_edits.specs.Edits.{elements_in, emptied, is_list_operator, is_of_list, is_never_empty, is_only, left_at, node_before, paired, rest_behind, without}
 
 module _ (spec : Spec) where
   pub of_list_is : (count : ℕ) (t : Term) (op : ℕ) → told.op_of t ≡ Some op → is_list_operator spec count op ≡ is_of_list spec count t
@@ -59,21 +57,30 @@ module _ (spec : Spec) where
   pub left_by : (t y : Term) (u : Place) (o : Option Place) → is_list_node spec y ≡ false → node_before spec t u ≡ o → option_map_or (λ q. 0 ∷ q) o u ≡ left_at spec t u y
   left_by t y u o is at = sym (ap (λ b. cond b (0 ∷ u) (option_map_or (λ q. 0 ∷ q) (node_before spec t u) u)) is ∙ ap (λ z. option_map_or (λ q. 0 ∷ q) z u) at)
 
-  -- the two answers of `remove` at a list's node
-  pub refused_last : (t x y : Term) (u : Place) → rest_of x ≡ y → (is_only spec t u y && is_never_empty spec x) ≡ true → Refused message.LastElement ≡ removed_at spec t u x
-  refused_last t x y u rest last = sym (ap (λ z. cond (is_only spec t u z && is_never_empty spec x) (Refused message.LastElement) (Put u z (left_at spec t u z))) rest ∙ ap (λ b. cond b (Refused message.LastElement) (Put u y (left_at spec t u y))) last)
+  -- the two answers of `remove` and `delete` at a list's node
+  pub gone_all : (t x : Term) (u : Place) (deletes : Bool) (n : ℕ) → (is_only spec t u (rest_behind n x) && is_never_empty spec x) ≡ true → emptied spec t deletes u x ≡ without spec t deletes n u x
+  gone_all t x u deletes n last = sym (ap (λ b. cond b (emptied spec t deletes u x) (Put u (rest_behind n x) (one (left_at spec t u (rest_behind n x))))) last)
 
-  pub put_rest : (t x y : Term) (u : Place) → rest_of x ≡ y → (is_only spec t u y && is_never_empty spec x) ≡ false → Put u y (left_at spec t u y) ≡ removed_at spec t u x
-  put_rest t x y u rest last = sym (ap (λ z. cond (is_only spec t u z && is_never_empty spec x) (Refused message.LastElement) (Put u z (left_at spec t u z))) rest ∙ ap (λ b. cond b (Refused message.LastElement) (Put u y (left_at spec t u y))) last)
+  pub put_rest : (t x : Term) (u : Place) (deletes : Bool) (n : ℕ) → (is_only spec t u (rest_behind n x) && is_never_empty spec x) ≡ false → Put u (rest_behind n x) (one (left_at spec t u (rest_behind n x))) ≡ without spec t deletes n u x
+  put_rest t x u deletes n last = sym (ap (λ b. cond b (emptied spec t deletes u x) (Put u (rest_behind n x) (one (left_at spec t u (rest_behind n x))))) last)
 
-  -- a longer list, by its operator
-  pub longer_node : (x r : Term) (op : ℕ) → told.op_of x ≡ Some op → longer spec x r ≡ Node op 0 false (AndTerm (placeholder spec (unwrap_or (slice_get (args_of spec.ops op) 0) 0)) (AndTerm r NoTerm))
-  longer_node (Leaf p v) r op at = absurd (none-some op at)
-  longer_node (Node o n elided ts) r op at = ap (λ k. Node k 0 false (AndTerm (placeholder spec (unwrap_or (slice_get (args_of spec.ops k) 0) 0)) (AndTerm r NoTerm))) (same_Some o op at)
+  -- the phylum of a list's elements, by its operator
+  pub elements_is : (x : Term) (op : ℕ) → told.op_of x ≡ Some op → unwrap_or (slice_get (args_of spec.ops op) 0) 0 ≡ elements_in spec x
+  elements_is (Leaf p v) op at = absurd (none-some op at)
+  elements_is (Node o n elided ts) op at = ap (λ k. unwrap_or (slice_get (args_of spec.ops k) 0) 0) (sym (same_Some o op at))
 
-  pub longer_leaf : (x r : Term) → told.op_of x ≡ None → r ≡ longer spec x r
-  longer_leaf (Leaf p v) r at = refl
-  longer_leaf (Node o n elided ts) r at = absurd (none-some o (sym at))
+  pub elements_not : (x : Term) → told.op_of x ≡ None → 0 ≡ elements_in spec x
+  elements_not (Leaf p v) at = refl
+  elements_not (Node o n elided ts) at = absurd (none-some o (sym at))
+
+-- a list's node over others, by its operator
+pub paired_node : (x a r : Term) (op : ℕ) → told.op_of x ≡ Some op → Node op 0 false (AndTerm a (AndTerm r NoTerm)) ≡ paired x a r
+paired_node (Leaf p v) a r op at = absurd (none-some op at)
+paired_node (Node o n elided ts) a r op at = ap (λ k. Node k 0 false (AndTerm a (AndTerm r NoTerm))) (sym (same_Some o op at))
+
+pub paired_leaf : (x a r : Term) → told.op_of x ≡ None → r ≡ paired x a r
+paired_leaf (Leaf p v) a r at = refl
+paired_leaf (Node o n elided ts) a r at = absurd (none-some o (sym at))
 
 -- another node of the same tree
 pub moved_to : (g : Grove) (root : NodeId) (t : Term) (u v : Place) (n m : NodeId) → IsPlaced g root t u n → Climbs (nodes g) v m root → IsPlaced g root t v m

@@ -1,38 +1,29 @@
 -- What stands at the place of a node.
-use Rattle.std.specs.Prelude.{◌≡◌, ◌<◌, refl, ℕ, zero, suc, Bool, true, false, cond, [], ◌∷◌, Option, Some, None, slice_get, option_map, unwrap_or, MatchOption}
+use Rattle.std.specs.Prelude.{◌≡◌, refl, ℕ, zero, suc, Bool, true, false, cond, [], ◌∷◌, Some, None, slice_get, option_map, unwrap_or}
 use Rattle.std.specs.Option.{option_map_or}
 use Rattle.std.proofs.Common.{sym, ap, ◌∙◌, subst}
 use Rattle.std.proofs.lemmas.Option.{none-some, same_Some}
-use Rattle.sg_kinds.specs.Fits.{Fits, AllFit}
+use Rattle.sg_kinds.specs.Fits.{Fits}
 use Rattle.sg_kinds.specs.Places.{Place, sub}
 use Rattle.sg_kinds.specs.Terms.{Term, Leaf, Node, NoTerm, AndTerm}
-use Rattle.sg_kinds.specs.declared.spec.Operator.{Operator}
 use Rattle.sg_kinds.specs.declared.spec.Spec.{Spec}
 use Rattle.sg_forest.specs.declared.node_id.NodeId.{NodeId}
 use Rattle.sg_forest.specs.Trees.{IsChild, IsLive}
 use Rattle.sg_groves.specs.Grove.{Grove, nodes, IsGrove}
 use Rattle.sg_groves.specs.Holds.{Holds, IsPlaced}
 use Rattle.sg_build.proofs.Told.{the_term}
-use Rattle.sg_screen.specs.declared.message.Message.TheVariants as message
+use Rattle.sg_script.specs.declared.message.Message.TheVariants as message
 use Rattle.sg_select.proofs.Leading.{held, kid_there, leads_some, sub_there}
 use Rattle.sg_select.specs.Around.{kids}
 use Rattle.sg_select.specs.Leads.{LeadsTo}
 use Rattle.sg_select.specs.Paths.{is_list_node, spine_from}
-use Rattle.sg_edits.specs.Choice.{Choice, Refused, Put, choice_of, FitsThere, IsFit}
-use Rattle.sg_edits.specs.Edits.{at_term, phylum_in, rest_of}
+pub use Rattle.sg_search.proofs.Given.{fits_phylum}
+use Rattle.sg_edits.specs.Choice.{Choice, Picked, Refused, Put, choice_of, FitsThere, IsFit}
+use Rattle.sg_edits.specs.Edits.{at_term, element_in, rest_of, term_at}
 use Rattle.sg_edits.specs.declared.choice.Choice as declared
 
--- the phylum that a term fits
-pub fits_phylum : (spec : Spec) (t : Term) (p : ℕ) → Fits spec t p → phylum_in spec t ≡ p
-fits_phylum spec (Leaf q v) p f = f.0
-fits_phylum spec (Node op n elided ts) p f = by (slice_get spec.ops op) f
-  where
-    by : (o : Option Operator) → MatchOption o ⊥ (λ (x : Operator). (x.phylum ≡ p) × (n < 16) × AllFit spec ts x.args) → unwrap_or (option_map (λ (x : Operator). x.phylum) o) 0 ≡ p
-    by None h = absurd h
-    by (Some x) h = h.0
-
 -- what is put fits where something of its phylum stood
-pub put_fits : (spec : Spec) (t : Term) (c : declared.Choice) (u v : Place) (s : Term) → choice_of c ≡ Put u s v → FitsThere spec t u s → IsFit spec t (choice_of c)
+pub put_fits : (spec : Spec) (t : Term) (c : declared.Choice) (u : Place) (v : Picked) (s : Term) → choice_of c ≡ Put u s v → FitsThere spec t u s → IsFit spec t (choice_of c)
 put_fits spec t c u v s e f = subst (IsFit spec t) (sym e) f
 
 module _ (g : Grove) (is : IsGrove g) where
@@ -48,6 +39,9 @@ module _ (g : Grove) (is : IsGrove g) where
     stood = stood;
     fits = fits;
   }
+
+  pub term_there : (root : NodeId) (t : Term) (u : Place) (n : NodeId) → IsPlaced g root t u n → IsLive (nodes g) n → term_at t u ≡ the_term g n
+  term_there root t u n placed live = ap (λ o. unwrap_or o t) (sub_there g is root t (the_term g n) u n placed (held g is n live))
 
   -- the tree in which a node stands
   pub record IsSomewhere (n : NodeId) : Type 0 where
@@ -84,12 +78,20 @@ spine_is_list g is n m live leads x holds =
     let there = sub_there g is at.root at.term x lead.0 m placed holds in
     sym (ap (λ o. unwrap_or (option_map (is_list_node g.spec) o) false) there) ∙ spine_some g.spec at.term at.place lead.0 lead.1
 
--- what follows the element of a list's node is its second child
+-- what follows the element of a list's node is its second child, and the element its first
 pub rest_is : (x y : Term) → slice_get (kids x) 1 ≡ Some y → rest_of x ≡ y
 rest_is (Leaf p v) y e = absurd (none-some y e)
 rest_is (Node op n elided NoTerm) y e = absurd (none-some y e)
 rest_is (Node op n elided (AndTerm a NoTerm)) y e = absurd (none-some y e)
 rest_is (Node op n elided (AndTerm a (AndTerm b ts))) y e = same_Some b y e
 
+pub element_is : (x y : Term) → slice_get (kids x) 0 ≡ Some y → element_in x ≡ y
+element_is (Leaf p v) y e = absurd (none-some y e)
+element_is (Node op n elided NoTerm) y e = absurd (none-some y e)
+element_is (Node op n elided (AndTerm a ts)) y e = same_Some a y e
+
 pub rest_held : (g : Grove) → IsGrove g → (n rest : NodeId) → IsLive (nodes g) n → IsLive (nodes g) rest → IsChild (nodes g) rest n 1 → rest_of (the_term g n) ≡ the_term g rest
 rest_held g is n rest live below child = rest_is (the_term g n) (the_term g rest) (kid_there g is n rest 1 (the_term g n) (the_term g rest) live child (held g is n live) (held g is rest below))
+
+pub element_held : (g : Grove) → IsGrove g → (n first : NodeId) → IsLive (nodes g) n → IsLive (nodes g) first → IsChild (nodes g) first n 0 → element_in (the_term g n) ≡ the_term g first
+element_held g is n first live below child = element_is (the_term g n) (the_term g first) (kid_there g is n first 0 (the_term g n) (the_term g first) live child (held g is n live) (held g is first below))

@@ -1,5 +1,5 @@
 -- What the operators of lists say of their terms, where shapes are sound.
-use Rattle.std.specs.Prelude.{◌≡◌, refl, ℕ, ◌<◌, Bool, true, false, ◌&&◌, nat_eq, IsTrue, not, bytes_eq, All, Contains, List, [], ◌∷◌, length, Option, Some, None, slice_get, option_map, unwrap_or, MatchOption}
+use Rattle.std.specs.Prelude.{◌≡◌, refl, ℕ, ◌<◌, Bool, true, false, ◌&&◌, nat_eq, IsTrue, not, bytes_eq, All, Contains, List, [], ◌∷◌, length, Option, Some, None, slice_get, option_map, option_and_then, unwrap_or, MatchOption, cond}
 use Rattle.std.proofs.Common.{sym, ap, ◌∙◌, subst, arith, inl, inr}
 use Rattle.std.proofs.lemmas.Bool.{false≢true}
 use Rattle.std.proofs.lemmas.Option.{slice_get_within}
@@ -17,10 +17,10 @@ use Rattle.sg_kinds.specs.declared.marks.Shape.TheVariants.{Truths, Numbers, Tex
 use Rattle.sg_kinds.specs.declared.spec.Operator.{Operator}
 use Rattle.sg_kinds.specs.declared.spec.Phylum.{Phylum}
 use Rattle.sg_kinds.specs.declared.spec.Spec.{Spec}
-use Rattle.sg_groves.proofs.Lists.{below_has, contains_either, contains_none, filter_to}
+use Rattle.sg_groves.proofs.Lists.{below_has, contains_either, contains_first, contains_none, filter_from, filter_to}
 use Rattle.sg_build.proofs.Roots.{is_operator}
 use Rattle.sg_select.specs.Paths.{is_list_node}
-use Rattle.sg_edits.specs.Edits.{longer, rest_of}
+use Rattle.sg_edits.specs.Edits.{element_in, elements_in, empty_of, joined, longer, paired, rest_of}
 
 -- a term fits a phylum that is there
 pub phylum_low : (spec : Spec) → HasShapes spec → (t : Term) (p : ℕ) → Fits spec t p → p < length spec.phyla
@@ -119,9 +119,11 @@ pub record IsListTerm (spec : Spec) (x : Term) (p : ℕ) : Type 0 where
   pub rest : Term
   pub element : ℕ
   pub is : x ≡ Node op scheme elided (AndTerm first (AndTerm rest NoTerm))
+  pub pair : is_pair spec op ≡ true
   pub of : phylum_of spec.ops op ≡ Some p
   pub args : args_of spec.ops op ≡ element ∷ p ∷ []
   pub low : element < length spec.phyla
+  pub first_fits : Fits spec first element
   pub rest_fits : Fits spec rest p
 
 operator_phylum : (spec : Spec) (op n p : ℕ) (elided : Bool) (ts : Terms) → Fits spec (Node op n elided ts) p → phylum_of spec.ops op ≡ Some p
@@ -149,9 +151,11 @@ list_term spec shapes (Node op n elided ts) p f is =
       rest = b;
       element = pair.element;
       is = refl;
+      pair = is;
       of = of;
       args = pair.args;
       low = pair.low;
+      first_fits = fit.0;
       rest_fits = fit.1.0;
     }
     by pair of (AndTerm a (AndTerm b (AndTerm d ds))) fit = absurd fit.1.1
@@ -159,12 +163,67 @@ list_term spec shapes (Node op n elided ts) p f is =
 pub rest_fits : (spec : Spec) → HasShapes spec → (x : Term) (p : ℕ) → Fits spec x p → is_list_node spec x ≡ true → Fits spec (rest_of x) p
 rest_fits spec shapes x p f is = let l = list_term spec shapes x p f is in subst (λ s. Fits spec (rest_of s) p) (sym l.is) l.rest_fits
 
--- a longer list is one
-pub longer_fits : (spec : Spec) → HasShapes spec → (x r : Term) (p : ℕ) → Fits spec x p → is_list_node spec x ≡ true → Fits spec r p → Fits spec (longer spec x r) p
-longer_fits spec shapes x r p f is fits =
+-- its element, and the phylum of that
+pub element_fits : (spec : Spec) → HasShapes spec → (x : Term) (p : ℕ) → Fits spec x p → is_list_node spec x ≡ true → Fits spec (element_in x) (elements_in spec x)
+element_fits spec shapes x p f is =
     let l = list_term spec shapes x p f is in
     let e : unwrap_or (slice_get (args_of spec.ops l.op) 0) 0 ≡ l.element = ap (λ a. unwrap_or (slice_get a 0) 0) l.args in
-    let ts : Terms = AndTerm (placeholder spec (unwrap_or (slice_get (args_of spec.ops l.op) 0) 0)) (AndTerm r NoTerm) in
-    let first = subst (λ q. Fits spec (placeholder spec q) l.element) (sym e) (placeholder_fits spec shapes l.element l.low) in
-    let all : AllFit spec ts (args_of spec.ops l.op) = subst (AllFit spec ts) (sym l.args) (first, (fits, tt)) in
-    subst (λ s. Fits spec (longer spec s r) p) (sym l.is) (node_fits spec l.op p ts l.of all)
+    subst (λ s. Fits spec (element_in s) (elements_in spec s)) (sym l.is) (subst (Fits spec l.first) (sym e) l.first_fits)
+
+pub element_low : (spec : Spec) → HasShapes spec → (x : Term) (p : ℕ) → Fits spec x p → is_list_node spec x ≡ true → elements_in spec x < length spec.phyla
+element_low spec shapes x p f is = phylum_low spec shapes (element_in x) (elements_in spec x) (element_fits spec shapes x p f is)
+
+-- an element of that phylum before a list
+pub paired_fits : (spec : Spec) → HasShapes spec → (x a r : Term) (p : ℕ) → Fits spec x p → is_list_node spec x ≡ true → Fits spec a (elements_in spec x) → Fits spec r p → Fits spec (paired x a r) p
+paired_fits spec shapes x a r p f is first rest =
+    let l = list_term spec shapes x p f is in
+    let e : unwrap_or (slice_get (args_of spec.ops l.op) 0) 0 ≡ l.element = ap (λ o. unwrap_or (slice_get o 0) 0) l.args in
+    let of : elements_in spec x ≡ l.element = ap (elements_in spec) l.is ∙ e in
+    let ts : Terms = AndTerm a (AndTerm r NoTerm) in
+    let all : AllFit spec ts (args_of spec.ops l.op) = subst (AllFit spec ts) (sym l.args) (subst (Fits spec a) of first, (rest, tt)) in
+    subst (λ s. Fits spec (paired s a r) p) (sym l.is) (node_fits spec l.op p ts l.of all)
+
+pub longer_fits : (spec : Spec) → HasShapes spec → (x r : Term) (p : ℕ) → Fits spec x p → is_list_node spec x ≡ true → Fits spec r p → Fits spec (longer spec x r) p
+longer_fits spec shapes x r p f is fits =
+    paired_fits spec shapes x (placeholder spec (elements_in spec x)) r p f is (placeholder_fits spec shapes (elements_in spec x) (element_low spec shapes x p f is)) fits
+
+-- a list without elements
+pub empty_fits : (spec : Spec) → HasShapes spec → (x : Term) (p : ℕ) → Fits spec x p → is_list_node spec x ≡ true → Fits spec (empty_of spec p) p
+empty_fits spec shapes x p f is =
+    let l = list_term spec shapes x p f is in
+    by (slice_get spec.phyla p) refl (both (has_shape spec.phyla is_list_shape p) (nat_eq (length (args_of spec.ops l.op)) 2) (ap (λ o. unwrap_or (option_map (λ q. has_shape spec.phyla is_list_shape q && nat_eq (length (args_of spec.ops l.op)) 2) o) false) (sym l.of) ∙ l.pair)).0
+  where
+    by_ops : (y : Phylum) → slice_get spec.phyla p ≡ Some y → (ops : List ℕ) → y.ops ≡ ops → IsList spec p ops → Fits spec (Node (unwrap_or (slice_get ops 0) 0) 0 false NoTerm) p
+    by_ops y at [] same is = absurd is
+    by_ops y at (nil ∷ []) same is = absurd is
+    by_ops y at (nil ∷ pair ∷ []) same is =
+        let has : Contains (operators_of spec p) nil = subst (λ l. Contains l nil) (sym same ∙ (shapes.phyla p y at).ops) (contains_first nil (pair ∷ [])) in
+        let test = (filter_from (is_operator_of spec p) (below (length spec.ops)) nil has).1 in
+        node_fits spec nil p NoTerm (of_phylum nil test) (subst (AllFit spec NoTerm) (sym is.0) tt)
+      where
+        of_phylum : (op : ℕ) → is_operator_of spec p op ≡ true → phylum_of spec.ops op ≡ Some p
+        of_phylum op test = by_phylum (phylum_of spec.ops op) test
+          where
+            by_phylum : (o : Option ℕ) → unwrap_or (option_map (nat_eq p) o) false ≡ true → o ≡ Some p
+            by_phylum None h = absurd (false≢true h)
+            by_phylum (Some q) h = ap Some (sym (eq_is p q h))
+    by_ops y at (nil ∷ pair ∷ o ∷ os) same is = absurd is
+
+    by : (o : Option Phylum) → slice_get spec.phyla p ≡ o → unwrap_or (option_map (λ (y : Phylum). is_list_shape y.shape) o) false ≡ true → Fits spec (empty_of spec p) p
+    by None at h = absurd (false≢true h)
+    by (Some y) at h =
+        subst (λ z. Fits spec (Node (unwrap_or (option_and_then (λ (w : Phylum). slice_get w.ops 0) z) 0) 0 false NoTerm) p) (sym at)
+        (by_ops y at y.ops refl (listed spec p y y.shape h (shapes.phyla p y at).shape))
+
+-- a list before another
+pub joined_fits : (spec : Spec) → HasShapes spec → (x r : Term) (p : ℕ) → Fits spec x p → Fits spec r p → Fits spec (joined spec x r) p
+joined_fits spec shapes (Leaf q v) r p f fits = fits
+joined_fits spec shapes (Node op n elided NoTerm) r p f fits = fits
+joined_fits spec shapes (Node op n elided (AndTerm a NoTerm)) r p f fits = fits
+joined_fits spec shapes (Node op n elided (AndTerm a (AndTerm b ts))) r p f fits = by (is_pair spec op) refl (λ below. joined_fits spec shapes b r p below fits)
+  where
+    by : (is : Bool) → is_pair spec op ≡ is → (Fits spec b p → Fits spec (joined spec b r) p) → Fits spec (cond is (Node op 0 false (AndTerm a (AndTerm (joined spec b r) NoTerm))) r) p
+    by true is again =
+        let x : Term = Node op n elided (AndTerm a (AndTerm b ts)) in
+        paired_fits spec shapes x a (joined spec b r) p f is (element_fits spec shapes x p f is) (again (rest_fits spec shapes x p f is))
+    by false is again = fits

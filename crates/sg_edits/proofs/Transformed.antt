@@ -13,7 +13,7 @@ use Rattle.sg_kinds.specs.declared.marks.Shape.TheVariants.{Truths, Numbers, Tex
 use Rattle.sg_kinds.specs.declared.spec.Phylum.{Phylum}
 use Rattle.sg_kinds.specs.declared.spec.Spec.{Spec}
 use Rattle.sg_matching.specs.Transformation.{Given, transformation}
-use Rattle.sg_edits.specs.Choice.{Put}
+use Rattle.sg_edits.specs.Choice.{Put, one}
 use Rattle.sg_edits.specs.Edits.{by_given, by_outcome, phylum_in}
 
 no_fault : (spec : Spec) (shape : Shape) (why : FaultKind) → MayHold spec shape (Fault why) → ⊥
@@ -27,7 +27,7 @@ no_fault spec Listed why h = h
 no_fault spec OptionalListed why h = h
 
 -- a term that fits has no fault as its value
-pub outcome_put : (spec : Spec) (t : Term) (u : Place) (p : ℕ) (s : Term) → Fits spec s p → by_outcome spec t u p (value_of s) ≡ Put u (plain spec (value_of s) p) u
+pub outcome_put : (spec : Spec) (t : Term) (u : Place) (p : ℕ) (s : Term) → Fits spec s p → by_outcome spec t u p (value_of s) ≡ Put u (plain spec (value_of s) p) (one u)
 outcome_put spec t u p (Leaf q (Truth b)) f = refl
 outcome_put spec t u p (Leaf q (Number z)) f = refl
 outcome_put spec t u p (Leaf q (Chars s)) f = refl

@@ -4,20 +4,29 @@ use Rattle.sg_kinds.specs.Fits.{Fits}
 use Rattle.sg_kinds.specs.Places.{Place, place_of, put, sub}
 use Rattle.sg_kinds.specs.Terms.{Term, nodes_of, height_of}
 use Rattle.sg_kinds.specs.declared.spec.Spec.{Spec}
-use Rattle.sg_screen.specs.declared.message.Message.{Message}
-use Rattle.sg_screen.specs.declared.message.Message.TheVariants as message
+use Rattle.sg_script.specs.declared.message.Message.{Message}
+use Rattle.sg_script.specs.declared.message.Message.TheVariants as message
 use Rattle.sg_edits.specs.declared.choice.Choice as declared
 use Rattle.sg_edits.specs.declared.choice.Choice.TheVariants as given
 
--- a refusal, or a term that is to stand in a place, and the place that is selected then
+-- what is selected: a place, and from it on so many elements of a list, or it alone
+pub record Picked : Type 0 where
+  pub place : Place
+  pub count : ℕ
+
+abbrev pub one : Place → Picked
+one u = record { place = u; count = 1 }
+
+-- a refusal, or a term that is to stand in a place, and what is selected then
 pub data Choice : Type 0 where
   Refused : Message → Choice
-  Put : (at : Place) → Term → (select : Place) → Choice
+  Put : (at : Place) → Term → (select : Picked) → Choice
 
 -- what a choice of the code says
 abbrev pub choice_of : declared.Choice → Choice
 choice_of (given.Refused m) = Refused m
-choice_of (given.Put at term select) = Put (place_of at) term (place_of select)
+choice_of (given.Put at term select count) =
+    Put (place_of at) term (record { place = place_of select; count = count })
 
 -- a term fits where another stands
 pub record FitsThere (spec : Spec) (t : Term) (u : Place) (s : Term) : Type 0 where

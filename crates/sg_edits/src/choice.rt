@@ -11,7 +11,7 @@ use sg_forest::NodeId;
 use sg_kinds::memory::NoMemory;
 use sg_kinds::row::{Path, Row};
 use sg_kinds::term::Term;
-use sg_screen::Message;
+use sg_script::Message;
 use sg_select::path_of;
 use sg_terms::Terms;
 use std::alloc::Global;
@@ -20,8 +20,14 @@ use std::alloc::Global;
 #[derive(Drop)]
 pub enum Choice {
     Refused(Message),
-    /// the path of the place, the term that is to stand there, and the path of the node that is selected then
-    Put { at: Path, term: Term, select: Path },
+    /// the path of the place, the term that is to stand there, and the path of the node that is selected then, with how
+    /// many elements of its list from there on, or 1
+    Put {
+        at: Path,
+        term: Term,
+        select: Path,
+        count: usize,
+    },
 }
 
 // a path, or that of the first child there
@@ -36,7 +42,7 @@ fn path_below(path: Path, first: bool) -> Result<Path, NoMemory>
     Ok(Row::new(way))
 }
 
-/// A term in the place of a node; selected is a node, or its first child.
+/// A term in the place of a node; selected is a node, or its first child, with a count.
 pub fn put(
     alloc: Global,
     terms: &Terms,
@@ -44,11 +50,13 @@ pub fn put(
     term: Term,
     select: NodeId,
     first: bool,
+    count: usize,
 ) -> Result<Choice, NoMemory>
     requires at { IsLive (nodes terms.now) at }
     requires select { IsLive (nodes terms.now) select }
     ensures { IfOk result (λ c. (root : _) (t : IsTerm) (u v : Place) → IsPlaced terms.now root t u at
-        → IsPlaced terms.now root t v select → choice_of c ≡ Put u term (if first then 0 ∷ v else v)) }
+        → IsPlaced terms.now root t v select → choice_of c
+        ≡ Put u term (record { place = if first then 0 ∷ v else v; count = count })) }
 {
     let place = path_of(alloc, terms, at)?;
     let path = if at == select {
@@ -61,5 +69,6 @@ pub fn put(
         at: place,
         term,
         select,
+        count,
     })
 }

@@ -1,110 +1,110 @@
 // The clip.
-ghost use Rattle.std.specs.Prelude.{◌≡◌, ◌==◌, IfOk, MatchOption, Some, None, ⊤};
+ghost use Rattle.std.specs.Prelude.{◌≡◌, ◌≤◌, true, IfOk};
 ghost use Rattle.sg_kinds.specs.Fits.{Fits};
+ghost use Rattle.sg_kinds.specs.Places.{Place};
 ghost use Rattle.sg_kinds.specs.Terms.{Term as IsTerm};
 ghost use Rattle.sg_forest.specs.Trees.{IsLive};
 ghost use Rattle.sg_groves.specs.Grove.{nodes};
-ghost use Rattle.sg_groves.specs.Holds.{Holds};
-ghost use Rattle.sg_edits.specs.Chosen.{IsChoice, PutsFit};
-ghost use Rattle.sg_edits.specs.Edits.{clip_of, pasted};
+ghost use Rattle.sg_groves.specs.Holds.{Holds, IsPlaced};
+ghost use Rattle.sg_select.specs.Paths.{elements, is_list_node};
+ghost use Rattle.sg_edits.specs.Chosen.{IsRun};
+ghost use Rattle.sg_edits.specs.Edits.{clip_of, empty_of, front, run_kept, term_kept};
 
-use crate::choice::{Choice, put};
+use crate::lists::paired;
 use sg_build::copy_out;
 use sg_forest::NodeId;
-use sg_kinds::ids::PhylumId;
+use sg_kinds::ids::{OpId, PhylumId};
 use sg_kinds::memory::NoMemory;
-use sg_kinds::term::{Term, TermNode, Terms0};
-use sg_screen::Message;
+use sg_kinds::spec::Spec;
+use sg_kinds::term::Term;
+use sg_select::spine_of;
 use sg_terms::Terms;
 use std::alloc::Global;
 
-/// What was cut or copied: a term with its schemes and marks, and its phylum.
+/// What was cut or copied, with its schemes and marks: a term and its phylum; or a run of elements, as a list of them
+/// alone, and the list's phylum.
 #[derive(Drop)]
 pub struct Clip {
     pub phylum: PhylumId,
     pub term: Term,
+    /// how many elements of a list; 1 for a term
+    pub count: usize,
 }
 
-// an equal term
-#[cycle(copy)]
-#[tactic(auto, using(sg_build::proofs::Counted::height_at))]
-fn copy_of(alloc: Global, t: &Term) -> Result<Term, NoMemory>
-    ensures { IfOk result (λ s. s ≡ t.now) }
+// a list without elements, by its phylum
+fn empty(alloc: Global, spec: &Spec, p: PhylumId) -> Term
+    ensures { result ≡ empty_of spec.now p }
 {
-    match &t.node {
-        TermNode::Leaf(p, v) => Ok(Term::leaf(*p, v.copy(alloc)?)),
-        TermNode::Node(op, scheme, elided, kids) => {
-            let kids = copies_of(alloc, kids)?;
-            Ok(Term {
-                node: TermNode::Node(*op, *scheme, *elided, kids),
-            })
-        }
-    }
+    let op = match spec.phyla.place(p.number) {
+        Some(phylum) => phylum
+            .ops
+            .as_slice()
+            .get(0)
+            .copied()
+            .unwrap_or(OpId { number: 0 }),
+        None => OpId { number: 0 },
+    };
+    Term::plain(op, Vec::new(alloc))
 }
 
-// equal terms in the same order
-#[cycle(copy)]
-#[tactic(auto, using(sg_build::proofs::Counted::height_at))]
-fn copies_of(alloc: Global, kids: &[Term]) -> Result<Terms0, NoMemory>
-    ensures { IfOk result (λ v. v.items ≡ kids.now) }
+// the first elements of a list from a node on, as a list of them alone
+fn front(alloc: Global, terms: &Terms, n: NodeId, count: usize) -> Result<Term, NoMemory>
+    requires live { IsLive (nodes terms.now) n }
+    requires long { (x : IsTerm) → Holds terms.now n x → count ≤ elements terms.now.spec x }
+    ensures { IfOk result (λ s. (x : IsTerm) → Holds terms.now n x → s ≡ front terms.now.spec count x) }
 {
-    let mut copies = Vec::with_capacity(alloc, kids.len())?;
-    for kid in kids {
-        copies.push(copy_of(alloc, kid)?)?;
+    terms.facts();
+    if count == 0 {
+        return Ok(empty(alloc, terms.spec(), terms.phylum(n)));
     }
-    Ok(copies)
+    let rest = front(alloc, terms, terms.kid(n, 1), count - 1)?;
+    let first = copy_out(alloc, terms, terms.kid(n, 0))?;
+    Ok(paired(alloc, terms, n, first, rest)?)
 }
 
-/// `copy`: the term under a node and its phylum, which it fits.
-pub fn copied(alloc: Global, terms: &Terms, at: NodeId) -> Result<Clip, NoMemory>
+// what is kept of a term
+fn term_kept(alloc: Global, terms: &Terms, at: NodeId) -> Result<Clip, NoMemory>
     requires { IsLive (nodes terms.now) at }
-    ensures clip { IfOk result (λ c. (t : IsTerm) → Holds terms.now at t → c ≡ clip_of terms.now.spec t) }
+    ensures clip { IfOk result (λ c. (x : IsTerm) → Holds terms.now at x → c ≡ term_kept terms.now.spec x) }
+    ensures fits { IfOk result (λ c. Fits terms.now.spec c.term c.phylum) }
+{
+    Ok(Clip {
+        phylum: terms.phylum(at),
+        term: copy_out(alloc, terms, at)?,
+        count: 1,
+    })
+}
+
+// what is kept of the first elements of a list from a node on
+fn run_kept(alloc: Global, terms: &Terms, n: NodeId, count: usize) -> Result<Clip, NoMemory>
+    requires live { IsLive (nodes terms.now) n }
+    requires list { (x : IsTerm) → Holds terms.now n x → is_list_node terms.now.spec x ≡ true }
+    requires long { (x : IsTerm) → Holds terms.now n x → count ≤ elements terms.now.spec x }
+    ensures clip { IfOk result (λ c. (x : IsTerm) → Holds terms.now n x → c ≡ run_kept terms.now.spec count x) }
     ensures fits { IfOk result (λ c. Fits terms.now.spec c.term c.phylum) }
 {
     terms.facts();
     Ok(Clip {
-        phylum: terms.phylum(at),
-        term: copy_out(alloc, terms, at)?,
+        phylum: terms.phylum(n),
+        term: front(alloc, terms, n, count)?,
+        count,
     })
 }
 
-// whether a clip is of a phylum
-fn is_of(clip: &Clip, p: PhylumId) -> bool
-    ensures { result ≡ (clip.now.phylum == p) }
-{
-    clip.phylum == p
-}
-
-// the clip's term in the place of a node of the clip's phylum
-fn put_clip(alloc: Global, terms: &Terms, at: NodeId, clip: &Clip) -> Result<Choice, NoMemory>
+/// `copy`: the term under a node, or a run of elements from there on, with what phylum it fits.
+pub fn copied(alloc: Global, terms: &Terms, at: NodeId, count: usize) -> Result<Clip, NoMemory>
     requires live { IsLive (nodes terms.now) at }
-    requires clip { Fits terms.now.spec clip.now.term clip.now.phylum }
-    ensures choice { IsChoice terms.now at result (λ t u. pasted terms.now.spec t u (Some clip.now)) }
-    ensures fits { PutsFit terms.now at result }
+    requires run { IsRun terms.now at count }
+    ensures clip { IfOk result (λ c. (root : _) (t : IsTerm) (u : Place) → IsPlaced terms.now root t u at
+        → c ≡ clip_of terms.now.spec t u count) }
+    ensures fits { IfOk result (λ c. Fits terms.now.spec c.term c.phylum) }
 {
     terms.facts();
-    if !is_of(clip, terms.phylum(at)) {
-        return Ok(Choice::Refused(Message::Phylum));
+    if count == 1 {
+        return Ok(term_kept(alloc, terms, at)?);
     }
-    let term = copy_of(alloc, &clip.term)?;
-    Ok(put(alloc, terms, at, term, at, false)?)
-}
-
-/// `paste`: the clip's term in the place of a node of the clip's phylum.
-pub fn pasted(
-    alloc: Global,
-    terms: &Terms,
-    at: NodeId,
-    clip: Option<&Clip>,
-) -> Result<Choice, NoMemory>
-    requires live { IsLive (nodes terms.now) at }
-    requires clip { MatchOption clip ⊤ (λ x. Fits terms.now.spec x.now.term x.now.phylum) }
-    ensures choice { MatchOption clip.entry (IsChoice terms.now at result (λ t u. pasted terms.now.spec t u None))
-        (λ x. IsChoice terms.now at result (λ t u. pasted terms.now.spec t u (Some x.now))) }
-    ensures fits { PutsFit terms.now at result }
-{
-    match clip {
-        Some(clip) => Ok(put_clip(alloc, terms, at, clip)?),
-        None => Ok(Choice::Refused(Message::ClipEmpty)),
+    match spine_of(terms, at) {
+        Some(n) => Ok(run_kept(alloc, terms, n, count)?),
+        None => Ok(term_kept(alloc, terms, at)?),
     }
 }

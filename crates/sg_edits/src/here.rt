@@ -12,7 +12,7 @@ ghost use Rattle.sg_matching.specs.Refusal.{IsRefused};
 ghost use Rattle.sg_matching.specs.Transformation.{Given};
 ghost use Rattle.sg_edits.specs.Choice.{choice_of, IsFit};
 ghost use Rattle.sg_edits.specs.Chosen.{IsChoice, PutsFit};
-ghost use Rattle.sg_edits.specs.Edits.{by_given, deleted, done, is_editable, typed};
+ghost use Rattle.sg_edits.specs.Edits.{by_given, done, is_editable, typed};
 
 use crate::choice::{Choice, put};
 use sg_eval::Evaluator;
@@ -20,7 +20,7 @@ use sg_forest::NodeId;
 use sg_kinds::memory::NoMemory;
 use sg_kinds::value::Value;
 use sg_matching::{TransformFault, transformed};
-use sg_screen::Message;
+use sg_script::Message;
 use sg_terms::Terms;
 use sg_unparse::current;
 use std::alloc::Global;
@@ -37,17 +37,6 @@ pub fn is_editable(terms: &Terms, n: NodeId) -> bool
     }
 }
 
-/// `delete`: the completing term of a node's phylum in its place.
-pub fn deleted(alloc: Global, terms: &Terms, at: NodeId) -> Result<Choice, NoMemory>
-    requires { IsLive (nodes terms.now) at }
-    ensures choice { IsChoice terms.now at result (deleted terms.now.spec) }
-    ensures fits { PutsFit terms.now at result }
-{
-    terms.facts();
-    let term = terms.spec().completing(alloc, terms.phylum(at))?;
-    Ok(put(alloc, terms, at, term, at, false)?)
-}
-
 /// `text` and `enter`: the plain term of a value in the place of a node, whose phylum it fits.
 pub fn typed(alloc: Global, terms: &Terms, at: NodeId, v: &Value) -> Result<Choice, NoMemory>
     requires live { IsLive (nodes terms.now) at }
@@ -58,7 +47,7 @@ pub fn typed(alloc: Global, terms: &Terms, at: NodeId, v: &Value) -> Result<Choi
 {
     terms.facts();
     let term = terms.spec().plain(alloc, v, terms.phylum(at))?;
-    Ok(put(alloc, terms, at, term, at, false)?)
+    Ok(put(alloc, terms, at, term, at, false, 1)?)
 }
 
 // what is said where the transformations of a name give no term
@@ -90,7 +79,7 @@ pub fn done(
 {
     terms.facts();
     match transformed(alloc, terms, ev, name, at) {
-        Ok(term) => Ok(put(alloc, terms, at, term, at, false)?),
+        Ok(term) => Ok(put(alloc, terms, at, term, at, false, 1)?),
         Err(fault) => Ok(refused(fault)?),
     }
 }

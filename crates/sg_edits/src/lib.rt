@@ -4,10 +4,17 @@
 mod choice;
 mod clip;
 mod here;
+mod inserting;
 pub mod laws;
 mod lists;
+mod pasting;
+mod removing;
+mod replacing;
 
 pub use choice::Choice;
-pub use clip::{Clip, copied, pasted};
-pub use here::{deleted, done, is_editable, typed};
-pub use lists::{inserted, removed};
+pub use clip::{Clip, copied};
+pub use here::{done, is_editable, typed};
+pub use inserting::inserted;
+pub use pasting::pasted;
+pub use removing::{deleted, removed};
+pub use replacing::everywhere;

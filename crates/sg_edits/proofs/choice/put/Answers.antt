@@ -2,6 +2,7 @@ use Rattle.std.proofs.Common.{◌≡◌, ◌∙◌, ap, sym}
 use Rattle.std.proofs.lemmas.Bool.{eqb-true}
 use Rattle.sg_forest.proofs.Paths.{same_id}
 use Rattle.sg_kinds.specs.Places.{place_of}
+use Rattle.sg_edits.specs.Choice.{Put}
 use Rattle.sg_edits.proofs.choice.put.Goals as goal
 use Rattle.sg_edits.proofs.choice.put.Goals.{then-eq+in_ok-path, else-eq+in_ok-path-2}
 
@@ -13,4 +14,5 @@ returns c = λ root t u v at select.
           ap place_of (w.path-is ∙ w.in_ok-path.ensures) ∙ c.in_ok-place.ensures root t v (rw same select)
       | else-eq+in_ok-path-2 w ↦ ap place_of w.path-is ∙ w.in_ok-path-2.ensures root t v select
     ] in
-    cc (c.in_ok-place.ensures root t u at, way, c.in_ok-select.ensures)
+    ap (λ p. Put p c.args.term (record { place = place_of c.in_ok-select.select; count = c.args.count })) (c.in_ok-place.ensures root t u at)
+    ∙ ap (λ p. Put u c.args.term (record { place = p; count = c.args.count })) (cc (way, c.in_ok-select.ensures))

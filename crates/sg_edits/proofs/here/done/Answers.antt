@@ -5,7 +5,7 @@ use Rattle.sg_build.proofs.Told.{the_term}
 use Rattle.sg_matching.specs.Transformation.{transformation}
 use Rattle.sg_matching.specs.Transformation as given
 use Rattle.sg_select.proofs.Leading.{held}
-use Rattle.sg_edits.specs.Choice.{Put}
+use Rattle.sg_edits.specs.Choice.{Put, one}
 use Rattle.sg_edits.specs.Edits.{by_given, phylum_in}
 use Rattle.sg_kinds.specs.Terms.{Term}
 use Rattle.sg_edits.proofs.Transformed.{given_is, outcome_put}
@@ -21,7 +21,7 @@ returns-in_ok-put-in-Ok-clause-choice c = λ root t u placed.
     let holds = held g c.facts.ensures c.args.at live in
     let fits = held_fits g c.facts.ensures c.args.at live.node x live.found holds in
     let s = c.in-Ok.term in
-    c.in_ok-put-in-Ok.ensures root t u u placed placed ∙ ap (λ y. Put u y u) (c.in-Ok.ensures.plain p x holds fits)
+    c.in_ok-put-in-Ok.ensures root t u u placed placed ∙ ap (λ y. Put u y (one u)) (c.in-Ok.ensures.plain p x holds fits)
     ∙ sym (outcome_put g.spec t u p s (c.in-Ok.ensures.fits p x holds fits))
     ∙ given_is g.spec t x u p c.args.name.now (given.Gives (value_of s)) (fits_phylum g.spec x p fits) (c.in-Ok.ensures.given p x holds fits)
     ∙ sym (at_is g c.facts.ensures root t u c.args.at (λ (y : Term). by_given g.spec t u (phylum_in g.spec y) (transformation g.spec (phylum_in g.spec y) c.args.name.now (value_of y))) placed live)
@@ -34,7 +34,7 @@ returns-in_ok-put-in-Ok-clause-fits c = λ root t u placed.
     let p = live.node.label.phylum in
     let holds = held g c.facts.ensures c.args.at live in
     let fits = held_fits g c.facts.ensures c.args.at live.node x live.found holds in
-    put_fits g.spec t _ u u c.in-Ok.term (c.in_ok-put-in-Ok.ensures root t u u placed placed)
+    put_fits g.spec t _ u (one u) c.in-Ok.term (c.in_ok-put-in-Ok.ensures root t u u placed placed)
     (fits_there g c.facts.ensures root t u c.args.at c.in-Ok.term p placed live fits (c.in-Ok.ensures.fits p x holds fits))
 
 pub returns-in_ok-refused-in-Err-clause-choice : goal.returns-in_ok-refused-in-Err-clause-choice

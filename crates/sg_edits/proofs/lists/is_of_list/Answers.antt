@@ -1,13 +1,7 @@
-use Rattle.std.proofs.Common.{◌<◌, sym, ap, ◌∙◌, subst, length}
-use Rattle.sg_build.proofs.Told.{opened}
-use Rattle.sg_kinds.specs.declared.spec.Spec.{Spec}
+use Rattle.std.proofs.Common.{sym, ap, ◌∙◌}
 use Rattle.sg_edits.specs.Edits.{is_list_operator}
 use Rattle.sg_edits.proofs.Listed.{of_list_is, of_list_not}
 use Rattle.sg_edits.proofs.lists.is_of_list.Goals as goal
-
-pub is_list_operator-requires : goal.is_list_operator-requires
-is_list_operator-requires c =
-    subst (λ (s : Spec). c.in-Some.op < length s.ops) (sym c.spec.ensures) (opened c.args.terms.now c.facts.ensures c.args.n c.in-Some.op (sym c.op.ensures.op ∙ c.in-Some.is)).within
 
 pub returns-in-Some : goal.returns-in-Some
 returns-in-Some c = λ t h.
