@@ -8,14 +8,17 @@ use Rattle.sg_kinds.specs.declared.spec.Spec.{Spec}
 use Rattle.sg_kinds.proofs.Elementary.{eq_is}
 use Rattle.sg_eval.specs.declared.journal.Instance.{Instance}
 use Rattle.sg_changes.specs.Captured.{Captured}
-use Rattle.sg_screen.specs.declared.message.Message.TheVariants as message
-use Rattle.sg_states.specs.States.{State, erased, typed}
+use Rattle.sg_script.specs.declared.message.Message.TheVariants as message
+use Rattle.sg_states.specs.States.{State, erased, shrunk, typed}
+use Rattle.sg_states.specs.declared.marks.Extended.{Extended}
+use Rattle.sg_states.specs.declared.marks.Extended.TheVariants.{Done, NotInList, NoPlace}
+use Rattle.sg_buffer.specs.Buffers.{StandsFor}
 use Rattle.sg_buffer.specs.Held.{Held, state_of}
 use Rattle.sg_edits.specs.declared.clip.Clip.{Clip}
 use Rattle.sg_input.specs.Entered.{bad_byte}
 use Rattle.sg_commands.specs.Did.{Did}
-use Rattle.sg_commands.specs.Turn.{Turn, becomes, found_or, says}
-use Rattle.sg_commands.specs.Turns.{enterable, entry_here, erases, is_editable_here, types, types_unless}
+use Rattle.sg_commands.specs.Turn.{Turn, becomes, found_or, refused_if, says}
+use Rattle.sg_commands.specs.Turns.{count_here, enterable, entry_here, erases, is_editable_here, shrinks, types, types_unless}
 use Rattle.sg_commands.proofs.Moved.{done_did, said_of}
 use Rattle.sg_commands.proofs.Putting.{refused_did}
 
@@ -32,6 +35,19 @@ opened (Some c) test = (c, refl)
 pub closed : (o : Option Captured) → is_some o ≡ false → o ≡ None
 closed None test = refl
 closed (Some c) test = absurd (false≢true (sym test))
+
+-- an extension that is not done
+pub no_list : (e : Extended) → e ≡ NotInList → e ≡ Done → ⊥
+no_list e is done = cc
+
+pub no_place : (e : Extended) → e ≡ NoPlace → e ≡ Done → ⊥
+no_place e is done = cc
+
+-- one node is selected where a text is being typed
+pub alone_here : (b : Held) → StandsFor b (state_of b) → is_some (state_of b).capture ≡ true → count_here (state_of b) ≡ 1
+alone_here b stands test =
+    let c = opened (state_of b).capture test in
+    sym stands.count ∙ subst (λ o. MatchOption o ⊤ (λ (x : Captured). b.count ≡ 1)) (stands.capture ∙ c.1) stands.alone
 
 -- where a text may be typed
 module _ (spec : Spec) (clip : Option Clip) (st : State) (enters : ℕ → Turn) where
@@ -53,6 +69,20 @@ module _ (spec : Spec) (clip : Option Clip) (st : State) (enters : ℕ → Turn)
   has_entry test e some = editable test ∙ ap (found_or clip st message.NoEntry enters) some
 
 module _ (old new : Held) (clip : Option Clip) (now : List Instance) where
+  -- one element less
+  pub shrunk_did : (r : Bool) → (r ≡ false) ↔ (count_here (state_of old) ≡ 1)
+      → (r ≡ false → new ≡ old) → (r ≡ true → state_of new ≡ shrunk (state_of old))
+      → Did (shrinks clip (state_of old)) (said_of r message.NoPlace) new clip now now
+  shrunk_did r one refused done = by r (nat_eq (count_here (state_of old)) 1) refl one.0 one.1 refused done
+    where
+      by : (r b : Bool) → nat_eq (count_here (state_of old)) 1 ≡ b → (r ≡ false → count_here (state_of old) ≡ 1)
+          → (count_here (state_of old) ≡ 1 → r ≡ false) → (r ≡ false → new ≡ old) → (r ≡ true → state_of new ≡ shrunk (state_of old))
+          → Did (refused_if clip (state_of old) b message.NoPlace (becomes clip (shrunk (state_of old)))) (said_of r message.NoPlace) new clip now now
+      by false true test from to refused done = refused_did old new clip now now message.NoPlace (refused refl) refl
+      by true true test from to refused done = absurd (false≢true (sym (to (eq_is (count_here (state_of old)) 1 test))))
+      by true false test from to refused done = done_did old new clip now message.Fine (shrunk (state_of old)) (done refl)
+      by false false test from to refused done = absurd (false≢true (sym test ∙ ap (λ n. nat_eq n 1) (from refl)))
+
   -- bytes typed
   module _ (bytes : Bytes) where
     pub bad_did : (k : ℕ) → Some k ≡ bad_byte bytes → new ≡ old

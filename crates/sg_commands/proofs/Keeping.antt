@@ -1,26 +1,28 @@
 -- Each turn keeps what is asked of a buffer and of what was copied, and evaluates nothing twice.
-use Rattle.std.specs.Prelude.{◌≡◌, ◌≢◌, refl, ℕ, ◌-◌, Bool, true, false, cond, not, nat_eq, bytes_eq, ◌&&◌, if◌then◌else◌, List, [], ◌∷◌, ◌++◌, take, drop, All, AllPairs, Option, None, Some, is_some, option_map, unwrap_or, MatchOption, IsTrue, ⊤}
+use Rattle.std.specs.Prelude.{◌≡◌, ◌≢◌, refl, ℕ, ◌-◌, Bool, true, false, not, nat_eq, nat_lt, ◌&&◌, if◌then◌else◌, List, [], ◌∷◌, ◌++◌, take, drop, AllPairs, Option, None, Some, is_some, option_map, unwrap_or, MatchOption, IsTrue, ⊤}
 use Rattle.std.specs.Option.{option_map_or}
-use Rattle.std.proofs.Common.{sym, ap, subst}
-use Rattle.std.proofs.lemmas.List.Elements.{All-nil, All-cons, All-tail, All-take, All-contains}
+use Rattle.std.proofs.Common.{sym, ap, subst, ◌∙◌}
 use Rattle.sg_kinds.specs.Values.{Bytes, is_text}
-use Rattle.sg_kinds.specs.Places.{Place, put}
+use Rattle.sg_kinds.specs.Places.{Place}
 use Rattle.sg_kinds.specs.Terms.{Term}
 use Rattle.sg_kinds.specs.declared.spec.Spec.{Spec}
 use Rattle.sg_groves.proofs.EvaluatedOnce.{evaluated_apart}
-use Rattle.sg_groves.proofs.Lists.{apart_none, contains_first}
+use Rattle.sg_groves.proofs.Lists.{apart_none}
 use Rattle.sg_changes.specs.Captured.{Captured, captured, put_in, taken_out}
-use Rattle.sg_changes.specs.Changes.{Change, Put as Putting, Mark as Marking, marked as marked_term, marks_of, part_of}
+use Rattle.sg_changes.specs.Changes.{Change, Put as Putting, Mark as Marking, chosen, marks_of, part_of}
+use Rattle.sg_changes.specs.declared.direction.Direction.{Direction}
+use Rattle.sg_changes.specs.declared.direction.Direction.TheVariants.{Back, Forth}
 use Rattle.sg_changes.specs.declared.spot.Selection.{Selection}
-use Rattle.sg_changes.specs.declared.spot.Spot.{Spot}
 use Rattle.sg_changes.proofs.Texts.{text_joined, text_put}
-use Rattle.sg_screen.specs.declared.message.Message.{Message}
-use Rattle.sg_screen.specs.declared.message.Message.TheVariants as message
+use Rattle.sg_script.specs.declared.message.Message.{Message}
+use Rattle.sg_script.specs.declared.message.Message.TheVariants as message
 use Rattle.sg_script.specs.declared.command.Command.{Command}
 use Rattle.sg_script.specs.declared.command.Command.TheVariants as command
-use Rattle.sg_states.specs.Selections.{alone, is_selection, place_in, settled_selection}
-use Rattle.sg_states.specs.States.{State, begun, capture_of, changed, ended, erased, pointed, redone_by, remarked, replaced, selected, selected_place, target, typed, undone_by}
-use Rattle.sg_states.specs.Seen.{marks_seen, nothing_typed, seen}
+use Rattle.sg_search.specs.Found.{found_behind, is_known}
+use Rattle.sg_states.specs.declared.marks.Extended.{Extended}
+use Rattle.sg_states.specs.declared.marks.Extended.TheVariants.{Done, NotInList, NoPlace}
+use Rattle.sg_states.specs.States.{State, ahead, begun, capture_of, ended, erased, extended, extension, gone_by, pointed, remarked, replaced, selected, selected_place, shrunk, target, typed}
+use Rattle.sg_states.specs.Seen.{marks_seen, nothing_typed}
 use Rattle.sg_unparse.specs.Page.{cells_of, owner_at}
 use Rattle.sg_states.specs.declared.marks.Mark.TheVariants.{Alternate, Elide}
 use Rattle.sg_states.specs.declared.marks.Move.TheVariants.{Next, Prev, Up, First, Sibling}
@@ -29,97 +31,49 @@ use Rattle.sg_select.specs.RestingPlaces.{settled}
 use Rattle.sg_states.specs.declared.marks.Mark.{Mark}
 use Rattle.sg_states.specs.declared.marks.Move.{Move}
 use Rattle.sg_edits.specs.Choice.{Choice, Refused, Put, limited}
-use Rattle.sg_edits.specs.Edits.{deleted, done, inserted, pasted, removed, typed as typed_in}
+use Rattle.sg_edits.specs.Edits.{deleted, done, everywhere, inserted, pasted, removed, typed as typed_in}
 use Rattle.sg_edits.specs.declared.clip.Clip.{Clip}
 use Rattle.sg_input.specs.Entered.{Entered, BadByte, NoToken, Stopped, Faulted, Typed, bad_byte}
 use Rattle.sg_input.proofs.Answering.{none-bad}
 use Rattle.sg_commands.specs.Tools.{IsClip}
-use Rattle.sg_commands.specs.Turn.{Reads, Turn, becomes, found_or, says}
-use Rattle.sg_commands.specs.Turns.{copied_of, enterable, enters, enters_typed, entry_here, evaluated_back, evaluated_forth, goes, is_editable_here, marks, plain_turn, puts, redoes, replaces, turn, types, types_unless, typing_turn, undoes}
-use Rattle.sg_commands.specs.Typing.{AreOnes, IsOne, IsTyping, MayEnter}
+use Rattle.sg_commands.specs.Turn.{Reads, Turn, becomes, found_or, refused_if, says}
+use Rattle.sg_commands.specs.Turns.{allowed_turn, copied_of, count_here, enterable, enters, enters_typed, entry_here, evaluated_along, extends, found_next, goes, is_editable_here, marks, plain_turn, puts, replaces, selection_of, travels, turn, types, types_unless, typing_turn, wants_one}
+use Rattle.sg_commands.specs.Typing.{IsTyping, MayEnter}
 
 pub record IsKept (spec : Spec) (t : Turn) : Type 0 where
   pub typing : IsTyping spec t.state
   pub clip : IsClip spec t.clip
   pub once : AllPairs ◌≢◌ t.set
 
-one_or : (b : Bool) (n : ℕ) → n ≡ 1 → cond b n 1 ≡ 1
-one_or true n one = one
-one_or false n one = refl
-
-evaluated_back_once : (spec : Spec) (t : Term) (c : Change) → AllPairs ◌≢◌ (evaluated_back spec t c)
-evaluated_back_once spec t (Putting u old new b a) = evaluated_apart spec t u old
-evaluated_back_once spec t (Marking u old new b a) = apart_none
-
-evaluated_forth_once : (spec : Spec) (t : Term) (c : Change) → AllPairs ◌≢◌ (evaluated_forth spec t c)
-evaluated_forth_once spec t (Putting u old new b a) = evaluated_apart spec t u new
-evaluated_forth_once spec t (Marking u old new b a) = apart_none
+evaluated_once : (d : Direction) (spec : Spec) (t : Term) (c : Change) → AllPairs ◌≢◌ (evaluated_along d spec t c)
+evaluated_once d spec t (Putting u old new b a) = evaluated_apart spec t u (chosen d old new)
+evaluated_once d spec t (Marking u old new b a) = apart_none
 
 -- states
 module _ (spec : Spec) (height : ℕ) (st : State) (is : IsTyping spec st) where
-  changed_typing : (t : Term) (change : Spot → Change) (select : Selection) → select.count ≡ 1
-      → ((s : Spot) → IsOne s → AreOnes (change s)) → IsTyping spec (changed spec height t change select st)
-  changed_typing t change select one ones =
-      let here = one_or (bytes_eq (settled spec t (place_in select)) (place_in select)
-      && is_selection spec t (settled spec t (place_in select)) select.count) select.count one in
-      let spot = seen spec height t (settled_selection spec t select) st.spot.top in
-      record {
-        one = here;
-        past = All-take AreOnes 256 (change spot ∷ st.past) (All-cons AreOnes (change spot) st.past (ones spot here) is.past);
-        future = All-nil AreOnes;
-        typed = tt;
-      }
+  replaced_typing : (u : Place) (s : Term) (select : Selection) → IsTyping spec (replaced spec height u s select st)
+  replaced_typing u s select = record { typed = tt }
 
-  replaced_typing : (u : Place) (s : Term) (v : Place) → IsTyping spec (replaced spec height u s (alone v) st)
-  replaced_typing u s v = changed_typing (put st.term u s) (Putting u (part_of st.term u) s st.spot) (alone v) refl (λ spot one. (is.one, one))
-
+  -- where nothing is being typed
   module _ (none : st.capture ≡ None) where
-    plain_typing : (spot : Spot) → IsOne spot → IsTyping spec (record st { spot = spot })
-    plain_typing spot one = record {
-      one = one;
-      past = is.past;
-      future = is.future;
-      typed = subst (λ o. MatchOption o ⊤ (MayEnter spec (record st { spot = spot }))) (sym none) tt;
-    }
+    plain_typing : (after : State) → after.capture ≡ st.capture → IsTyping spec after
+    plain_typing after same = record { typed = subst (λ o. MatchOption o ⊤ (MayEnter spec after)) (sym (same ∙ none)) tt }
 
     selected_typing : (u : Place) → IsTyping spec (selected spec height u st)
-    selected_typing u = plain_typing _ refl
+    selected_typing u = plain_typing (selected spec height u st) refl
 
-    undone_typing : (ps : List Change) → st.past ≡ ps → IsTyping spec (undone_by ps st)
-    undone_typing [] at = is
-    undone_typing (c ∷ cs) at =
-        let all = subst (All AreOnes) at is.past in
-        let first = All-contains AreOnes (c ∷ cs) c all (contains_first c cs) in
-        record {
-          one = first.0;
-          past = All-tail AreOnes c cs all;
-          future = All-cons AreOnes c st.future first is.future;
-          typed = subst (λ o. MatchOption o ⊤ (MayEnter spec (undone_by (c ∷ cs) st))) (sym none) tt;
-        }
-
-    redone_typing : (ps : List Change) → st.future ≡ ps → IsTyping spec (redone_by ps st)
-    redone_typing [] at = is
-    redone_typing (c ∷ cs) at =
-        let all = subst (All AreOnes) at is.future in
-        let first = All-contains AreOnes (c ∷ cs) c all (contains_first c cs) in
-        record {
-          one = first.1;
-          past = All-cons AreOnes c st.past first is.past;
-          future = All-tail AreOnes c cs all;
-          typed = subst (λ o. MatchOption o ⊤ (MayEnter spec (redone_by (c ∷ cs) st))) (sym none) tt;
-        }
+    gone_typing : (d : Direction) (ps : List Change) → IsTyping spec (gone_by d ps st)
+    gone_typing d [] = is
+    gone_typing d (c ∷ cs) = plain_typing (gone_by d (c ∷ cs) st) refl
 
   -- with another text in the capture
   captured_typing : (c : Captured) → MayEnter spec st c → IsTyping spec (record st { capture = Some c })
   captured_typing c may = record {
-    one = is.one;
-    past = is.past;
-    future = is.future;
     typed = record { text = may.text; editable = may.editable; entry = may.entry };
   }
 
   ended_typing : IsTyping spec (record st { capture = None })
-  ended_typing = record { one = is.one; past = is.past; future = is.future; typed = tt }
+  ended_typing = record { typed = tt }
 
   typed_text : (o : Option Captured) → MatchOption o ⊤ (MayEnter spec st) → IsTrue (is_text (unwrap_or o (captured [] 0)).text)
   typed_text None may = refl
@@ -163,7 +117,7 @@ module _ (spec : Spec) (height : ℕ) (clip : Option Clip) (st : State) (is : Is
       → IsKept spec (replaces spec height clip st copied x)
   replaces_kept copied may (Refused m) = refused_kept m
   replaces_kept copied may (Put u s v) = record {
-    typing = replaced_typing spec height st is u s v;
+    typing = replaced_typing spec height st is u s (selection_of v);
     clip = may;
     once = evaluated_apart spec st.term u s;
   }
@@ -175,9 +129,11 @@ module _ (spec : Spec) (height : ℕ) (clip : Option Clip) (st : State) (is : Is
   marks_kept mark =
       let x = part_of st.term (selected_place st) in
       found_kept message.NoAlternate (turned_in spec mark x) (λ new. remarked spec height (unwrap_or (marks_of x) new) new st)
-      (λ new. changed_typing spec height st is (marked_term st.term (selected_place st) new)
-      (Marking (selected_place st) (unwrap_or (marks_of x) new) new st.spot) (alone (selected_place st)) refl
-      (λ spot one. (is.one, one)))
+      (λ new. record { typed = tt })
+
+  guarded_kept : (b : Bool) (m : Message) (t : Turn) → IsKept spec t → IsKept spec (refused_if clip st b m t)
+  guarded_kept true m t kept = refused_kept m
+  guarded_kept false m t kept = kept
 
   enterable_kept : (f : ℕ → Turn)
       → ((e : ℕ) → is_editable_here spec st ≡ true → is_some (entry_here spec st) ≡ true → IsKept spec (f e))
@@ -212,56 +168,68 @@ module _ (spec : Spec) (height : ℕ) (clip : Option Clip) (st : State) (is : Is
       goes_kept to = found_kept message.NoPlace (target to spec st.term (selected_place st))
           (λ v. selected spec height v st) (selected_typing spec height st is none)
 
-      plain_kept : (c : Command) → IsKept spec (plain_turn spec height reads clip st c)
-      plain_kept command.Next = goes_kept Next
-      plain_kept command.Prev = goes_kept Prev
-      plain_kept command.Up = goes_kept Up
-      plain_kept command.First = goes_kept First
-      plain_kept command.Sibling = goes_kept Sibling
-      plain_kept (command.Goto line column) =
+      travels_kept : (d : Direction) (ps : List Change) → IsKept spec (travels spec clip st d ps)
+      travels_kept d [] = refused_kept (chosen d message.NothingToUndo message.NothingToRedo)
+      travels_kept d (c ∷ cs) = record {
+        typing = gone_typing spec height st is none d (ahead d st);
+        clip = fits;
+        once = evaluated_once d spec st.term c;
+      }
+
+      extends_kept : (e : Extended) → IsKept spec (extends clip st e)
+      extends_kept Done = says_kept message.Fine (extended st) (plain_typing spec height st is none (extended st) refl)
+      extends_kept NotInList = refused_kept message.NotInList
+      extends_kept NoPlace = refused_kept message.NoPlace
+
+      allowed_kept : (c : Command) → IsKept spec (allowed_turn spec height reads clip st c)
+      allowed_kept command.Next = goes_kept Next
+      allowed_kept command.Prev = goes_kept Prev
+      allowed_kept command.Up = goes_kept Up
+      allowed_kept command.First = goes_kept First
+      allowed_kept command.Sibling = goes_kept Sibling
+      allowed_kept (command.Goto line column) =
           found_kept message.NoPlace (owner_at (cells_of (marks_seen spec st.term nothing_typed)) line column)
           (λ v. selected spec height (settled spec st.term v) st)
           (λ v. selected_typing spec height st is none (settled spec st.term v))
-      plain_kept (command.Do name) = puts_kept (done spec st.term (selected_place st) name)
-      plain_kept command.Delete = puts_kept (deleted spec st.term (selected_place st))
-      plain_kept command.Remove = replaces_kept clip fits (removed spec st.term (selected_place st))
-      plain_kept command.InsertBefore = puts_kept (inserted spec st.term (selected_place st) false)
-      plain_kept command.InsertAfter = puts_kept (inserted spec st.term (selected_place st) true)
-      plain_kept command.Cut = replaces_kept (Some (copied_of spec st)) copied (limited st.term (deleted spec st.term (selected_place st)))
-      plain_kept command.Copy = record { typing = is; clip = copied; once = apart_none }
-      plain_kept command.Paste = puts_kept (pasted spec st.term (selected_place st) clip)
-      plain_kept (command.Text text) =
+      allowed_kept command.Extend = extends_kept (extension spec st)
+      allowed_kept command.Shrink =
+          guarded_kept (nat_eq (count_here st) 1) message.NoPlace (becomes clip (shrunk st))
+          (says_kept message.Fine (shrunk st) (plain_typing spec height st is none (shrunk st) refl))
+      allowed_kept (command.Find name) =
+          guarded_kept (not (is_known spec name)) message.Unknown
+          (found_or clip st message.NoMatch (becomes clip) (found_next spec height name st))
+          (found_kept message.NoMatch (found_behind spec name st.term (selected_place st)) (λ v. selected spec height v st)
+          (selected_typing spec height st is none))
+      allowed_kept (command.Do name) = puts_kept (done spec st.term (selected_place st) name)
+      allowed_kept (command.ReplaceAll name) = puts_kept (everywhere spec st.term (selected_place st) name)
+      allowed_kept command.Delete = puts_kept (deleted spec st.term (selected_place st) (count_here st))
+      allowed_kept command.Remove = replaces_kept clip fits (removed spec st.term (selected_place st) (count_here st))
+      allowed_kept command.InsertBefore = puts_kept (inserted spec st.term (selected_place st) (count_here st) false)
+      allowed_kept command.InsertAfter = puts_kept (inserted spec st.term (selected_place st) (count_here st) true)
+      allowed_kept command.Cut = replaces_kept (Some (copied_of spec st)) copied (limited st.term (deleted spec st.term (selected_place st) (count_here st)))
+      allowed_kept command.Copy = record { typing = is; clip = copied; once = apart_none }
+      allowed_kept command.Paste = puts_kept (pasted spec st.term (selected_place st) (count_here st) clip)
+      allowed_kept (command.Text text) =
           enterable_kept (λ e. enters spec height clip st (reads e text)) (λ e editable entry. enters_kept (reads e text))
-      plain_kept (command.TypeIn text) = enterable_kept (λ e. types clip st text) (λ e editable entry. types_kept text editable entry)
-      plain_kept command.Erase = refused_kept message.NotInText
-      plain_kept command.Enter = refused_kept message.NotInText
-      plain_kept command.Abandon = refused_kept message.NotInText
-      plain_kept command.Alternate = marks_kept Alternate
-      plain_kept command.Elide = marks_kept Elide
-      plain_kept command.Undo = undoes_kept st.past refl
-        where
-          undoes_kept : (ps : List Change) → st.past ≡ ps → IsKept spec (undoes spec clip st ps)
-          undoes_kept [] at = refused_kept message.NothingToUndo
-          undoes_kept (c ∷ cs) at = record {
-            typing = undone_typing spec height st is none st.past refl;
-            clip = fits;
-            once = evaluated_back_once spec st.term c;
-          }
-      plain_kept command.Redo = redoes_kept st.future refl
-        where
-          redoes_kept : (ps : List Change) → st.future ≡ ps → IsKept spec (redoes spec clip st ps)
-          redoes_kept [] at = refused_kept message.NothingToRedo
-          redoes_kept (c ∷ cs) at = record {
-            typing = redone_typing spec height st is none st.future refl;
-            clip = fits;
-            once = evaluated_forth_once spec st.term c;
-          }
-      plain_kept (command.New name) = says_kept message.Fine st is
-      plain_kept (command.Load name file) = says_kept message.Fine st is
-      plain_kept (command.Switch name) = says_kept message.Fine st is
-      plain_kept command.Show = says_kept message.Fine st is
-      plain_kept (command.Save file) = says_kept message.Fine st is
-      plain_kept (command.SaveText file) = says_kept message.Fine st is
+      allowed_kept (command.TypeIn text) = enterable_kept (λ e. types clip st text) (λ e editable entry. types_kept text editable entry)
+      allowed_kept command.Erase = refused_kept message.NotInText
+      allowed_kept command.Enter = refused_kept message.NotInText
+      allowed_kept command.Abandon = refused_kept message.NotInText
+      allowed_kept command.Alternate = marks_kept Alternate
+      allowed_kept command.Elide = marks_kept Elide
+      allowed_kept command.Undo = travels_kept Back st.past
+      allowed_kept command.Redo = travels_kept Forth st.future
+      allowed_kept (command.New name) = says_kept message.Fine st is
+      allowed_kept (command.Load name file) = says_kept message.Fine st is
+      allowed_kept (command.Switch name) = says_kept message.Fine st is
+      allowed_kept command.Show = says_kept message.Fine st is
+      allowed_kept (command.Save file) = says_kept message.Fine st is
+      allowed_kept (command.SaveText file) = says_kept message.Fine st is
+
+      plain_kept : (c : Command) → IsKept spec (plain_turn spec height reads clip st c)
+      plain_kept c =
+          guarded_kept (wants_one c && nat_lt 1 (count_here st)) message.InRun (allowed_turn spec height reads clip st c)
+          (allowed_kept c)
 
     -- while this text is
     module _ (c : Captured) (at : st.capture ≡ Some c) where
@@ -309,7 +277,11 @@ module _ (spec : Spec) (height : ℕ) (clip : Option Clip) (st : State) (is : Is
       typing_kept command.First = refused_kept message.InText
       typing_kept command.Sibling = refused_kept message.InText
       typing_kept (command.Goto line column) = refused_kept message.InText
+      typing_kept command.Extend = refused_kept message.InText
+      typing_kept command.Shrink = refused_kept message.InText
+      typing_kept (command.Find name) = refused_kept message.InText
       typing_kept (command.Do name) = refused_kept message.InText
+      typing_kept (command.ReplaceAll name) = refused_kept message.InText
       typing_kept command.Delete = refused_kept message.InText
       typing_kept command.Remove = refused_kept message.InText
       typing_kept command.InsertBefore = refused_kept message.InText
@@ -335,4 +307,4 @@ module _ (spec : Spec) (height : ℕ) (clip : Option Clip) (st : State) (is : Is
 
 -- a new buffer
 pub begun_typing : (spec : Spec) (t : Term) → IsTyping spec (begun t)
-begun_typing spec t = record { one = refl; past = All-nil AreOnes; future = All-nil AreOnes; typed = tt }
+begun_typing spec t = record { typed = tt }

@@ -11,3 +11,4 @@ pub mod Keeping
 pub mod Table
 pub mod Readers
 pub mod Alike
+pub mod Finding

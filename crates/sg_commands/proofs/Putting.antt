@@ -1,5 +1,5 @@
 -- A replacement in a buffer is the turn of its choice.
-use Rattle.std.specs.Prelude.{◌≡◌, ◌⊎◌, refl, ℕ, Bool, true, false, cond, ◌&&◌, nat_le, List, [], Contains, Option, Some, None, Result, Ok, Err, OnErr}
+use Rattle.std.specs.Prelude.{◌≡◌, ◌⊎◌, refl, ℕ, Bool, true, false, cond, ◌&&◌, nat_eq, nat_le, List, [], ◌∷◌, Contains, Option, Some, None, Result, Ok, Err, OnErr}
 use Rattle.std.proofs.Common.{sym, ap, ◌∙◌, subst, inl, inr, arith}
 use Rattle.std.proofs.lemmas.Bool.{and_parts, false≢true}
 use Rattle.std.proofs.lemmas.List.{append-nil}
@@ -17,26 +17,27 @@ use Rattle.sg_terms.specs.Entries.{Gained, GainedAll}
 use Rattle.sg_turns.specs.Noted.{NotedPut, NotedSomeAt}
 use Rattle.sg_changes.specs.Changes.{Put as Putting, part_of}
 use Rattle.sg_changes.specs.declared.spot.Selection.{Selection}
-use Rattle.sg_states.specs.Selections.{alone, place_in}
+use Rattle.sg_select.specs.Paths.{spine_from}
 use Rattle.sg_states.specs.States.{State, replaced}
 use Rattle.sg_states.proofs.Selecting.{path_back}
-use Rattle.sg_screen.specs.declared.message.Message.{Message}
-use Rattle.sg_screen.specs.declared.message.Message.TheVariants as message
+use Rattle.sg_script.specs.declared.message.Message.{Message}
+use Rattle.sg_script.specs.declared.message.Message.TheVariants as message
 use Rattle.sg_build.specs.declared.limits.Counts.{Counts}
 use Rattle.sg_buffer.specs.Held.{Held, state_of}
 use Rattle.sg_buffer.specs.declared.fault.BufferFault.{BufferFault}
 use Rattle.sg_buffer.specs.declared.fault.BufferFault.TheVariants as fault
-use Rattle.sg_edits.specs.Choice.{Choice, Refused, Put, limited}
+use Rattle.sg_edits.specs.Choice.{Choice, Refused, Put, Picked, limited, one}
 use Rattle.sg_edits.specs.declared.clip.Clip.{Clip}
 use Rattle.sg_commands.specs.Did.{Did, GaveUp, NotedOf}
 use Rattle.std.specs.Option.{option_map_or}
 use Rattle.sg_kinds.specs.Completing.{completing}
-use Rattle.sg_edits.specs.Edits.{deleted, phylum_in}
+use Rattle.sg_edits.specs.Edits.{at_term, completed, deleted, emptied, is_never_empty, is_only, left_at, phylum_in, rest_behind, taken, without}
 use Rattle.sg_commands.specs.Turn.{Turn, says}
-use Rattle.sg_commands.specs.Turns.{puts, replaces}
+use Rattle.sg_commands.specs.Replaced.{picked_of}
+use Rattle.sg_commands.specs.Turns.{puts, replaces, selection_of}
 
 -- the last guard
-module _ (t : Term) (u : Place) (s : Term) (v : Place) where
+module _ (t : Term) (u : Place) (s : Term) (v : Picked) where
   abbrev fits_limits : Bool
   fits_limits = nat_le (nodes_of (put t u s)) 65536 && nat_le (height_of (put t u s)) 1024
 
@@ -60,10 +61,9 @@ module _ (t : Term) (u : Place) (s : Term) (v : Place) where
       by true e = absurd (large (fits_small e))
       by false e = refl
 
-pub one_alone : (select : Selection) → select.count ≡ 1 → select ≡ alone (place_in select)
-one_alone select one =
-    ap (λ n. let r : Selection = record { path = select.path; count = n } in r) one
-    ∙ ap (λ p. let r : Selection = record { path = p; count = 1 } in r) (sym (path_back select.path))
+pub selected_back : (select : Selection) → select ≡ selection_of (picked_of select)
+selected_back select =
+    ap (λ p. let r : Selection = record { path = p; count = select.count } in r) (sym (path_back select.path))
 
 -- a replacement is told as a size or as want of memory
 pub no_size : (e : BufferFault) → e ≡ fault.NoMemory → (c : Counts) → e ≡ fault.Size c → ⊥
@@ -133,28 +133,28 @@ module _ (old new : Held) (clip : Option Clip) (was now : List Instance) where
 
   module _ (u : Place) (s : Term) (select : Selection) where
     abbrev choice : Choice
-    choice = Put u s (place_in select)
+    choice = Put u s (picked_of select)
 
     abbrev whole : Term
     whole = put (state_of old).term u s
 
     abbrev then : State
-    then = replaced old.grove.spec old.height u s (alone (place_in select)) (state_of old)
+    then = replaced old.grove.spec old.height u s (selection_of (picked_of select)) (state_of old)
 
     pub size_did : (IsSmall whole → ⊥) → new ≡ old → now ≡ was → Did (puts old.grove.spec old.height clip (state_of old) choice) message.Size new clip was now
     size_did large same none =
         subst (λ c. Did (replaces old.grove.spec old.height clip (state_of old) clip c) message.Size new clip was now)
-        (sym (is_over (state_of old).term u s (place_in select) large)) (refused_did message.Size same none)
+        (sym (is_over (state_of old).term u s (picked_of select) large)) (refused_did message.Size same none)
 
-    pub put_did : IsSound old.grove.spec → select.count ≡ 1 → ((IsSmall whole → ⊥) → ⊥) → state_of new ≡ replaced old.grove.spec old.height u s select (state_of old)
+    pub put_did : IsSound old.grove.spec → ((IsSmall whole → ⊥) → ⊥) → state_of new ≡ replaced old.grove.spec old.height u s select (state_of old)
         → GainedAll new.grove new.root whole (IsEvaluated old.grove.spec (state_of old).term u s) was now
         → Did (puts old.grove.spec old.height clip (state_of old) choice) message.Fine new clip was now
-    put_did sound one not_large state all =
+    put_did sound not_large state all =
         subst (λ c. Did (replaces old.grove.spec old.height clip (state_of old) clip c) message.Fine new clip was now)
-        (sym (stays (state_of old).term u s (place_in select) not_large))
+        (sym (stays (state_of old).term u s (picked_of select) not_large))
         (record {
           message = refl;
-          state = state ∙ ap (λ r. replaced old.grove.spec old.height u s r (state_of old)) (one_alone select one);
+          state = state ∙ ap (λ r. replaced old.grove.spec old.height u s r (state_of old)) (selected_back select);
           copied = refl;
           evaluated = all_listed old.grove.spec sound (state_of old).term u s was now new.grove new.root whole all;
         })
@@ -164,7 +164,7 @@ module _ (old new : Held) (clip : Option Clip) (was now : List Instance) where
         → GaveUp old.grove.spec (puts old.grove.spec old.height clip (state_of old) choice) old new clip clip was now
     put_gave_up sound not_large state noted =
         subst (λ c. GaveUp old.grove.spec (replaces old.grove.spec old.height clip (state_of old) clip c) old new clip clip was now)
-        (sym (stays (state_of old).term u s (place_in select) not_large))
+        (sym (stays (state_of old).term u s (picked_of select) not_large))
         (record { state = state; copied = refl; noted = put_noted noted })
       where
         put_noted : NotedPut old.grove old.root None (state_of old).term u s was now
@@ -196,16 +196,38 @@ module _ (old new : Held) (clip : Option Clip) (was now : List Instance) where
     clip_gave_up (Put u s v) gave_up = record { state = gave_up.state; copied = refl; noted = gave_up.noted }
 
 -- a deletion that is refused says why
-pub deletes : (spec : Spec) (t : Term) (u : Place) (r : Message) → limited t (deleted spec t u) ≡ Refused r → message.Fine ≡ r → ⊥
-deletes spec t u r = by (sub t u)
-  where
-    over : (b : Bool) (s : Term) → cond b (Put u s u) (Refused message.Size) ≡ Refused r → message.Fine ≡ r → ⊥
-    over true s e fine = cc
-    over false s e fine = cc
+module _ (spec : Spec) (t : Term) (r : Message) where
+  abbrev Told : Choice → Type 0
+  Told x = limited t x ≡ Refused r → message.Fine ≡ r → ⊥
 
-    by : (o : Option Term) → limited t (option_map_or (λ x. Put u (completing spec (phylum_in spec x)) u) o (Refused message.NoPlace)) ≡ Refused r → message.Fine ≡ r → ⊥
-    by None e fine = cc
-    by (Some x) e fine = over (fits_limits t u (completing spec (phylum_in spec x)) u) (completing spec (phylum_in spec x)) e fine
+  put_told : (u : Place) (s : Term) (v : Picked) → Told (Put u s v)
+  put_told u s v = by (fits_limits t u s v)
+    where
+      by : (b : Bool) → cond b (Put u s v) (Refused message.Size) ≡ Refused r → message.Fine ≡ r → ⊥
+      by true e fine = cc
+      by false e fine = cc
+
+  there_told : (make : Term → Choice) → ((x : Term) → Told (make x)) → (o : Option Term) → Told (option_map_or make o (Refused message.NoPlace))
+  there_told make each None = λ e fine. cc
+  there_told make each (Some x) = each x
+
+  without_told : (n : ℕ) (p : Place) (x : Term) → Told (without spec t true n p x)
+  without_told n p x = by (is_only spec t p (rest_behind n x) && is_never_empty spec x)
+    where
+      by : (b : Bool) → Told (cond b (emptied spec t true p x) (Put p (rest_behind n x) (one (left_at spec t p (rest_behind n x)))))
+      by true = put_told p (completing spec (phylum_in spec x)) (one (0 ∷ p))
+      by false = put_told p (rest_behind n x) (one (left_at spec t p (rest_behind n x)))
+
+  taken_told : (n : ℕ) (o : Option Place) → Told (option_map_or (λ p. at_term t p (without spec t true n p)) o (Refused message.NotInList))
+  taken_told n None = λ e fine. cc
+  taken_told n (Some p) = there_told (without spec t true n p) (without_told n p) (sub t p)
+
+pub deletes : (spec : Spec) (t : Term) (u : Place) (n : ℕ) (r : Message) → limited t (deleted spec t u n) ≡ Refused r → message.Fine ≡ r → ⊥
+deletes spec t u n r = by (nat_eq n 1)
+  where
+    by : (b : Bool) → Told spec t r (cond b (at_term t u (completed spec false u)) (taken spec t true u n))
+    by true = there_told spec t r (completed spec false u) (λ x. put_told spec t r u (completing spec (phylum_in spec x)) (one u)) (sub t u)
+    by false = taken_told spec t r n (spine_from spec t u)
 
 -- what is kept without memory gives more
 pub then_on_err : {A E : Type 0} (r : Result A E) (P Q : Type 0) → OnErr r P → (P → Q) → OnErr r Q

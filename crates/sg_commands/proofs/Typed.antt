@@ -5,7 +5,7 @@ use Rattle.std.proofs.lemmas.Option.{none-some, same_Some}
 use Rattle.sg_kinds.specs.Values.{Bytes, Value}
 use Rattle.sg_kinds.specs.declared.spec.Spec.{Spec}
 use Rattle.sg_changes.specs.Captured.{Captured}
-use Rattle.sg_screen.specs.declared.message.Message.TheVariants as message
+use Rattle.sg_script.specs.declared.message.Message.TheVariants as message
 use Rattle.sg_states.specs.States.{State, pointed}
 use Rattle.sg_buffer.specs.Held.{Held, state_of}
 use Rattle.sg_edits.specs.declared.clip.Clip.{Clip}

@@ -10,7 +10,7 @@ use Rattle.sg_changes.specs.Changes.{Change, Put, Mark}
 use Rattle.sg_states.specs.States.{State}
 use Rattle.sg_turns.specs.Noted.{NotedSomeAt}
 use Rattle.sg_buffer.specs.Held.{Held, state_of}
-use Rattle.sg_screen.specs.declared.message.Message.{Message}
+use Rattle.sg_script.specs.declared.message.Message.{Message}
 use Rattle.sg_script.specs.declared.command.Command.{Command}
 use Rattle.sg_edits.specs.declared.clip.Clip.{Clip}
 use Rattle.sg_commands.specs.Turn.{Turn, Reads}

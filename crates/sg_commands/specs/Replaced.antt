@@ -6,21 +6,31 @@ use Rattle.sg_kinds.specs.Places.{Place}
 use Rattle.sg_kinds.specs.Fits.{Fits}
 use Rattle.sg_kinds.specs.Plain.{plain}
 use Rattle.sg_kinds.specs.declared.spec.Spec.{Spec}
-use Rattle.sg_screen.specs.declared.message.Message.TheVariants as message
+use Rattle.sg_script.specs.declared.message.Message.TheVariants as message
 use Rattle.sg_states.specs.States.{selected_place}
 use Rattle.sg_buffer.specs.Held.{Held, state_of}
-use Rattle.sg_edits.specs.Choice.{Choice}
+use Rattle.sg_changes.specs.declared.spot.Selection.{Selection}
+use Rattle.sg_states.specs.Selections.{place_in}
+use Rattle.sg_edits.specs.Choice.{Choice, Picked}
 use Rattle.sg_edits.specs.Edits.{phylum_in}
 use Rattle.sg_edits.specs.declared.clip.Clip.{Clip}
 use Rattle.sg_input.specs.Entered.{Entered}
 use Rattle.sg_input.specs.declared.entering.EntryFault.{EntryFault}
 use Rattle.sg_input.specs.declared.entering.EntryFault.TheVariants as fault
 use Rattle.sg_commands.specs.Turn.{Turn, Reads, found_or}
-use Rattle.sg_commands.specs.Turns.{enterable, enters, enters_captured, enters_typed, puts, replaces, selected_term}
+use Rattle.sg_commands.specs.Turns.{count_here, enterable, enters, enters_captured, enters_typed, puts, replaces, selected_term}
 
 -- what is chosen of its term and its selected place
 abbrev pub chosen_in : Held → (Spec → Term → Place → Choice) → Choice
 chosen_in b choice = choice b.grove.spec (state_of b).term (selected_place (state_of b))
+
+-- and of how many are selected
+abbrev pub chosen_of : Held → (Spec → Term → Place → ℕ → Choice) → Choice
+chosen_of b choice = chosen_in b (λ spec t u. choice spec t u (count_here (state_of b)))
+
+-- a selection as a choice says it
+abbrev pub picked_of : Selection → Picked
+picked_of s = record { place = place_in s; count = s.count }
 
 -- the turn of a choice, within the limits, and of one that is in them
 abbrev pub puts_in : Held → Option Clip → Choice → Turn

@@ -4,8 +4,8 @@ use Rattle.sg_kinds.specs.Values.{Bytes}
 use Rattle.sg_kinds.specs.Places.{Place}
 use Rattle.sg_kinds.specs.Nets.{Reference}
 use Rattle.sg_kinds.specs.declared.spec.Spec.{Spec}
-use Rattle.sg_screen.specs.declared.message.Message.{Message}
-use Rattle.sg_screen.specs.declared.message.Message.TheVariants as message
+use Rattle.sg_script.specs.declared.message.Message.{Message}
+use Rattle.sg_script.specs.declared.message.Message.TheVariants as message
 use Rattle.sg_states.specs.States.{State}
 use Rattle.sg_edits.specs.declared.clip.Clip.{Clip}
 use Rattle.sg_input.specs.Entered.{Entered, IsEntered}

@@ -22,7 +22,7 @@ use sg_eval::Journal;
 use sg_input::{EntryFault, enter, entry_of};
 use sg_kinds::memory::NoMemory;
 use sg_kinds::value::Value;
-use sg_screen::Message;
+use sg_script::Message;
 use std::alloc::Global;
 
 /// Whether the selected node may be typed in.

@@ -17,7 +17,7 @@ pub fn texts_are_read()
         (v : View) → v.grammar ≡ grammar_of spec → IsTables v → Decided v → (reads : Reads) × AreReads spec reads }
 {}
 
-/// In a new buffer one node is selected, and nothing is being typed.
+/// In a new buffer nothing is being typed.
 #[tactic(auto, using(crate::proofs::Keeping::begun_typing))]
 pub fn buffers_begin()
     ensures { (spec : Spec) (t : Term) → IsTyping spec (begun t) }

@@ -1,19 +1,24 @@
 //! Commands that change nothing of the term but marks of the selected node, or only read it.
-ghost use Rattle.std.specs.Prelude.{◌≡◌, List, None, Option, Some, IfOk, OnErr, if◌then◌else◌};
+ghost use Rattle.std.specs.Prelude.{◌≡◌, List, None, Option, Some, false, true, MatchOption, IfOk, OnErr, if◌then◌else◌};
 ghost use Rattle.sg_eval.specs.declared.journal.Instance.{Instance};
 ghost use Rattle.sg_kinds.specs.Fits.{Fits};
+ghost use Rattle.sg_select.specs.Leads.{LeadsTo};
+ghost use Rattle.sg_search.specs.Found.{found_behind, is_known as known};
+ghost use Rattle.sg_states.specs.States.{extension, selected_place};
 ghost use Rattle.sg_buffer.specs.Held.{state_of};
 ghost use Rattle.sg_edits.specs.declared.clip.Clip.{Clip as IsClipped};
-ghost use Rattle.sg_screen.specs.declared.message.Message.TheVariants as messages;
+ghost use Rattle.sg_script.specs.declared.message.Message.TheVariants as messages;
 ghost use Rattle.sg_commands.specs.Did.{Did, GaveUp};
 ghost use Rattle.sg_commands.specs.Turn.{Turn};
-ghost use Rattle.sg_commands.specs.Turns.{copied_of, goes, marks, picks};
+ghost use Rattle.sg_commands.specs.Turns.{copied_of, extends, finds, found_next, goes, marks, picks, shrinks};
 
 use sg_buffer::Buffer;
 use sg_edits::{Clip, copied};
+use sg_forest::NodeId;
 use sg_kinds::memory::NoMemory;
-use sg_screen::Message;
-use sg_states::{Mark, Move};
+use sg_script::Message;
+use sg_search::{is_known, next_found};
+use sg_states::{Extended, Mark, Move};
 use std::alloc::Global;
 
 /// That something was done, or why it was not.
@@ -51,6 +56,85 @@ pub fn pick(buffer: &mut Buffer, line: u32, column: u32) -> Result<Message, NoMe
     Ok(said(done, Message::NoPlace))
 }
 
+/// `extend`: one more element of the list is selected. No text is being typed. It takes no memory.
+pub fn extend(buffer: &mut Buffer) -> Message
+    requires { buffer.old.capture ≡ None }
+    ensures did { (clip : Option IsClipped) (now : List Instance) → Did (extends clip (state_of buffer.old)
+        (extension buffer.old.grove.spec (state_of buffer.old))) result buffer.new clip now now }
+    ensures spec { buffer.new.grove.spec ≡ buffer.old.grove.spec }
+    ensures height { buffer.new.height ≡ buffer.old.height }
+{
+    match buffer.extend() {
+        Extended::Done => Message::Fine,
+        Extended::NotInList => Message::NotInList,
+        Extended::NoPlace => Message::NoPlace,
+    }
+}
+
+/// `shrink`: one element less of a run is selected. No text is being typed. It takes no memory.
+pub fn shrink(buffer: &mut Buffer) -> Message
+    requires { buffer.old.capture ≡ None }
+    ensures did { (clip : Option IsClipped) (now : List Instance) → Did (shrinks clip (state_of buffer.old))
+        result buffer.new clip now now }
+    ensures spec { buffer.new.grove.spec ≡ buffer.old.grove.spec }
+    ensures height { buffer.new.height ≡ buffer.old.height }
+{
+    said(buffer.shrink(), Message::NoPlace)
+}
+
+// whether some phylum has a transformation of a name
+fn is_known_here(buffer: &Buffer, name: &[u8]) -> bool
+    ensures { result ≡ known buffer.now.grove.spec name.now }
+{
+    is_known(buffer.terms().spec(), name)
+}
+
+// the next node behind the selected one that rests and at which a transformation of a name applies
+fn found_here(buffer: &Buffer, name: &[u8]) -> Option<NodeId>
+    ensures { LeadsTo buffer.now.grove buffer.now.root (found_behind buffer.now.grove.spec name.now
+        (state_of buffer.now).term (selected_place (state_of buffer.now))) result }
+{
+    buffer.facts();
+    next_found(buffer.terms(), buffer.root(), buffer.selected(), name)
+}
+
+// selects the next node behind the selected one at which a transformation of a name applies
+fn find_next(buffer: &mut Buffer, name: &[u8]) -> Result<bool, NoMemory>
+    requires { buffer.old.capture ≡ None }
+    ensures found { IfOk result (λ r. MatchOption (found_next buffer.old.grove.spec buffer.old.height name.now
+        (state_of buffer.old)) ((r ≡ false) × (buffer.new ≡ buffer.old))
+        (λ st. (r ≡ true) × (state_of buffer.new ≡ st))) }
+    ensures err { OnErr result (buffer.new ≡ buffer.old) }
+    ensures spec { buffer.new.grove.spec ≡ buffer.old.grove.spec }
+    ensures height { buffer.new.height ≡ buffer.old.height }
+{
+    match found_here(buffer, name) {
+        Some(n) => {
+            buffer.select(n)?;
+            Ok(true)
+        }
+        None => Ok(false),
+    }
+}
+
+/// `find`: the next place behind the selected one that rests and at which a transformation of a name applies. No text is
+/// being typed.
+pub fn find(buffer: &mut Buffer, name: &[u8]) -> Result<Message, NoMemory>
+    requires { buffer.old.capture ≡ None }
+    ensures did { (clip : Option IsClipped) (now : List Instance) → IfOk result (λ m. Did (finds
+        buffer.old.grove.spec buffer.old.height clip (state_of buffer.old) name.now) m buffer.new clip now now) }
+    ensures gave_up { (turn : Turn) (clip : Option IsClipped) (now : List Instance) → OnErr result (GaveUp
+        buffer.old.grove.spec turn buffer.old buffer.new clip clip now now) }
+    ensures spec { buffer.new.grove.spec ≡ buffer.old.grove.spec }
+    ensures height { buffer.new.height ≡ buffer.old.height }
+{
+    if !is_known_here(buffer, name) {
+        return Ok(Message::Unknown);
+    }
+    let done = find_next(buffer, name)?;
+    Ok(said(done, Message::NoMatch))
+}
+
 /// `alternate` and `elide`. One node is selected, and no text is being typed.
 pub fn toggle(buffer: &mut Buffer, mark: Mark) -> Result<Message, NoMemory>
     requires none { buffer.old.capture ≡ None }
@@ -67,11 +151,11 @@ pub fn toggle(buffer: &mut Buffer, mark: Mark) -> Result<Message, NoMemory>
     Ok(said(done, Message::NoAlternate))
 }
 
-/// `copy`: the selected term with its phylum, which it fits.
+/// `copy`: the selected term, or the selected elements as a list of them alone, with the phylum that it fits.
 pub fn copy(alloc: Global, buffer: &Buffer) -> Result<Clip, NoMemory>
     ensures clip { IfOk result (λ c. c ≡ copied_of buffer.now.grove.spec (state_of buffer.now)) }
     ensures fits { IfOk result (λ c. Fits buffer.now.grove.spec c.term c.phylum) }
 {
     buffer.facts();
-    Ok(copied(alloc, buffer.terms(), buffer.selected())?)
+    Ok(copied(alloc, buffer.terms(), buffer.selected(), buffer.count())?)
 }

@@ -3,25 +3,24 @@ ghost use Rattle.std.specs.Prelude.{◌≡◌, Option, IfOk, OnErr};
 ghost use Rattle.sg_kinds.specs.Fits.{Fits};
 ghost use Rattle.sg_kinds.specs.Places.{place_of};
 ghost use Rattle.sg_eval.specs.Journal.{now_of, total_of};
-ghost use Rattle.sg_states.specs.Selections.{place_in};
 ghost use Rattle.sg_buffer.specs.Held.{state_of};
 ghost use Rattle.sg_edits.specs.Choice.{choice_of, FitsThere, IsFit, Put};
 ghost use Rattle.sg_edits.specs.Edits as edits;
 ghost use Rattle.sg_edits.specs.declared.clip.Clip.{Clip as IsClipped};
 ghost use Rattle.sg_commands.specs.Did.{Did, GaveUp};
-ghost use Rattle.sg_commands.specs.Replaced.{chosen_in, puts_in, replaces_in};
+ghost use Rattle.sg_commands.specs.Replaced.{chosen_in, chosen_of, picked_of, puts_in, replaces_in};
 ghost use Rattle.sg_commands.specs.Turns.{cuts};
 ghost use Rattle.sg_commands.specs.Tools.{AreTools, IsClip};
 
 use crate::tools::Tools;
 use sg_buffer::{Buffer, BufferFault};
 use sg_changes::Selection;
-use sg_edits::{Choice, Clip, copied, deleted, done, inserted, pasted, removed};
+use sg_edits::{Choice, Clip, copied, deleted, done, everywhere, inserted, pasted, removed};
 use sg_eval::Journal;
 use sg_kinds::memory::NoMemory;
 use sg_kinds::row::Path;
 use sg_kinds::term::Term;
-use sg_screen::Message;
+use sg_script::Message;
 use std::alloc::Global;
 
 // puts a term in the place of a subterm whose phylum it fits, unless the whole term would be over a limit
@@ -34,13 +33,12 @@ fn put_in(
     journal: &mut Journal,
 ) -> Result<Message, NoMemory>
     requires tools { AreTools buffer.old.grove.spec tools.now }
-    requires one { select.now.count ≡ 1 }
     requires fits { FitsThere buffer.old.grove.spec (state_of buffer.old).term (place_of at.now) t.now }
     ensures did { (clip : Option IsClipped) → IfOk result (λ m. Did (puts_in buffer.old clip
-        (Put (place_of at.now) t.now (place_in select.now))) m buffer.new clip
+        (Put (place_of at.now) t.now (picked_of select.now))) m buffer.new clip
         (now_of journal.old) (now_of journal.new)) }
     ensures gave_up { (clip : Option IsClipped) → OnErr result (GaveUp buffer.old.grove.spec (puts_in buffer.old clip
-        (Put (place_of at.now) t.now (place_in select.now))) buffer.old buffer.new clip clip
+        (Put (place_of at.now) t.now (picked_of select.now))) buffer.old buffer.new clip clip
         (now_of journal.old) (now_of journal.new)) }
     ensures spec { buffer.new.grove.spec ≡ buffer.old.grove.spec }
     ensures height { buffer.new.height ≡ buffer.old.height }
@@ -73,10 +71,15 @@ pub fn put_choice(
 {
     match choice {
         Choice::Refused(why) => Ok(why),
-        Choice::Put { at, term, select } => {
+        Choice::Put {
+            at,
+            term,
+            select,
+            count,
+        } => {
             let select = Selection {
                 path: select,
-                count: 1,
+                count,
             };
             Ok(put_in(tools, buffer, &at, &term, &select, journal)?)
         }
@@ -113,7 +116,38 @@ pub fn transform(
     put_choice(tools, buffer, choice, journal)
 }
 
-/// `delete`: the completing term of the selected node's phylum in its place.
+/// `replace-all`: what the transformations of a name give in the outermost places at and below the selected node, as one
+/// change.
+pub fn replace_all(
+    alloc: Global,
+    tools: &Tools,
+    buffer: &mut Buffer,
+    name: &[u8],
+    journal: &mut Journal,
+) -> Result<Message, NoMemory>
+    requires tools { AreTools buffer.old.grove.spec tools.now }
+    ensures did { (clip : Option IsClipped) → IfOk result (λ m. Did (puts_in buffer.old clip
+        (chosen_in buffer.old (λ spec t u. edits.everywhere spec t u name.now))) m
+        buffer.new clip (now_of journal.old) (now_of journal.new)) }
+    ensures gave_up { (clip : Option IsClipped) → OnErr result (GaveUp buffer.old.grove.spec (puts_in buffer.old clip
+        (chosen_in buffer.old (λ spec t u. edits.everywhere spec t u name.now)))
+        buffer.old buffer.new clip clip (now_of journal.old) (now_of journal.new)) }
+    ensures spec { buffer.new.grove.spec ≡ buffer.old.grove.spec }
+    ensures height { buffer.new.height ≡ buffer.old.height }
+    ensures total { total_of journal.new ≡ total_of journal.old }
+{
+    buffer.facts();
+    let choice = everywhere(
+        alloc,
+        buffer.terms(),
+        tools.evaluator,
+        buffer.selected(),
+        name,
+    )?;
+    put_choice(tools, buffer, choice, journal)
+}
+
+/// `delete`: the completing term of the selected node's phylum in its place, or the list without the selected elements.
 pub fn delete(
     alloc: Global,
     tools: &Tools,
@@ -122,21 +156,21 @@ pub fn delete(
 ) -> Result<Message, NoMemory>
     requires tools { AreTools buffer.old.grove.spec tools.now }
     ensures did { (clip : Option IsClipped) → IfOk result (λ m. Did (puts_in buffer.old clip
-        (chosen_in buffer.old edits.deleted)) m
+        (chosen_of buffer.old edits.deleted)) m
         buffer.new clip (now_of journal.old) (now_of journal.new)) }
     ensures gave_up { (clip : Option IsClipped) → OnErr result (GaveUp buffer.old.grove.spec (puts_in buffer.old clip
-        (chosen_in buffer.old edits.deleted))
+        (chosen_of buffer.old edits.deleted))
         buffer.old buffer.new clip clip (now_of journal.old) (now_of journal.new)) }
     ensures spec { buffer.new.grove.spec ≡ buffer.old.grove.spec }
     ensures height { buffer.new.height ≡ buffer.old.height }
     ensures total { total_of journal.new ≡ total_of journal.old }
 {
     buffer.facts();
-    let choice = deleted(alloc, buffer.terms(), buffer.selected())?;
+    let choice = deleted(alloc, buffer.terms(), buffer.selected(), buffer.count())?;
     put_choice(tools, buffer, choice, journal)
 }
 
-/// `remove`: the list without the selected element. It never gets over a limit.
+/// `remove`: the list without the selected elements. It never gets over a limit.
 pub fn remove(
     alloc: Global,
     tools: &Tools,
@@ -145,21 +179,21 @@ pub fn remove(
 ) -> Result<Message, NoMemory>
     requires tools { AreTools buffer.old.grove.spec tools.now }
     ensures did { (clip : Option IsClipped) → IfOk result (λ m. Did (replaces_in buffer.old clip
-        (chosen_in buffer.old edits.removed)) m
+        (chosen_of buffer.old edits.removed)) m
         buffer.new clip (now_of journal.old) (now_of journal.new)) }
     ensures gave_up { (clip : Option IsClipped) → OnErr result (GaveUp buffer.old.grove.spec
-        (replaces_in buffer.old clip (chosen_in buffer.old edits.removed))
+        (replaces_in buffer.old clip (chosen_of buffer.old edits.removed))
         buffer.old buffer.new clip clip (now_of journal.old) (now_of journal.new)) }
     ensures spec { buffer.new.grove.spec ≡ buffer.old.grove.spec }
     ensures height { buffer.new.height ≡ buffer.old.height }
     ensures total { total_of journal.new ≡ total_of journal.old }
 {
     buffer.facts();
-    let choice = removed(alloc, buffer.terms(), buffer.selected())?;
+    let choice = removed(alloc, buffer.terms(), buffer.selected(), buffer.count())?;
     put_choice(tools, buffer, choice, journal)
 }
 
-/// `insert-before` and `insert-after`: a new element beside the selected one.
+/// `insert-before` and `insert-after`: a new element beside the selected ones.
 pub fn insert(
     alloc: Global,
     tools: &Tools,
@@ -169,17 +203,23 @@ pub fn insert(
 ) -> Result<Message, NoMemory>
     requires tools { AreTools buffer.old.grove.spec tools.now }
     ensures did { (clip : Option IsClipped) → IfOk result (λ m. Did (puts_in buffer.old clip
-        (chosen_in buffer.old (λ spec t u. edits.inserted spec t u after))) m
+        (chosen_of buffer.old (λ spec t u n. edits.inserted spec t u n after))) m
         buffer.new clip (now_of journal.old) (now_of journal.new)) }
     ensures gave_up { (clip : Option IsClipped) → OnErr result (GaveUp buffer.old.grove.spec (puts_in buffer.old clip
-        (chosen_in buffer.old (λ spec t u. edits.inserted spec t u after)))
+        (chosen_of buffer.old (λ spec t u n. edits.inserted spec t u n after)))
         buffer.old buffer.new clip clip (now_of journal.old) (now_of journal.new)) }
     ensures spec { buffer.new.grove.spec ≡ buffer.old.grove.spec }
     ensures height { buffer.new.height ≡ buffer.old.height }
     ensures total { total_of journal.new ≡ total_of journal.old }
 {
     buffer.facts();
-    let choice = inserted(alloc, buffer.terms(), buffer.selected(), after)?;
+    let choice = inserted(
+        alloc,
+        buffer.terms(),
+        buffer.selected(),
+        buffer.count(),
+        after,
+    )?;
     put_choice(tools, buffer, choice, journal)
 }
 
@@ -194,21 +234,27 @@ fn paste_clip(
     requires tools { AreTools buffer.old.grove.spec tools.now }
     requires clip { Fits buffer.old.grove.spec copy.now.term copy.now.phylum }
     ensures did { (clip : Option IsClipped) → IfOk result (λ m. Did (puts_in buffer.old clip
-        (chosen_in buffer.old (λ spec t u. edits.pasted spec t u (Some copy.now)))) m
+        (chosen_of buffer.old (λ spec t u n. edits.pasted spec t u n (Some copy.now)))) m
         buffer.new clip (now_of journal.old) (now_of journal.new)) }
     ensures gave_up { (clip : Option IsClipped) → OnErr result (GaveUp buffer.old.grove.spec (puts_in buffer.old clip
-        (chosen_in buffer.old (λ spec t u. edits.pasted spec t u (Some copy.now))))
+        (chosen_of buffer.old (λ spec t u n. edits.pasted spec t u n (Some copy.now))))
         buffer.old buffer.new clip clip (now_of journal.old) (now_of journal.new)) }
     ensures spec { buffer.new.grove.spec ≡ buffer.old.grove.spec }
     ensures height { buffer.new.height ≡ buffer.old.height }
     ensures total { total_of journal.new ≡ total_of journal.old }
 {
     buffer.facts();
-    let choice = pasted(alloc, buffer.terms(), buffer.selected(), Some(copy))?;
+    let choice = pasted(
+        alloc,
+        buffer.terms(),
+        buffer.selected(),
+        buffer.count(),
+        Some(copy),
+    )?;
     put_choice(tools, buffer, choice, journal)
 }
 
-/// `paste`: what was copied, in the place of the selected node, whose phylum it must have.
+/// `paste`: what was copied, in the place of what is selected, where it may stand.
 pub fn paste(
     alloc: Global,
     tools: &Tools,
@@ -219,10 +265,10 @@ pub fn paste(
     requires tools { AreTools buffer.old.grove.spec tools.now }
     requires clip { IsClip buffer.old.grove.spec clip.now }
     ensures did { IfOk result (λ m. Did (puts_in buffer.old clip.now
-        (chosen_in buffer.old (λ spec t u. edits.pasted spec t u clip.now))) m
+        (chosen_of buffer.old (λ spec t u n. edits.pasted spec t u n clip.now))) m
         buffer.new clip.now (now_of journal.old) (now_of journal.new)) }
     ensures gave_up { OnErr result (GaveUp buffer.old.grove.spec (puts_in buffer.old clip.now
-        (chosen_in buffer.old (λ spec t u. edits.pasted spec t u clip.now)))
+        (chosen_of buffer.old (λ spec t u n. edits.pasted spec t u n clip.now)))
         buffer.old buffer.new clip.now clip.now (now_of journal.old) (now_of journal.new)) }
     ensures spec { buffer.new.grove.spec ≡ buffer.old.grove.spec }
     ensures height { buffer.new.height ≡ buffer.old.height }
@@ -234,7 +280,7 @@ pub fn paste(
     }
 }
 
-/// `cut`: the selected term is copied and then deleted. Where that is refused nothing is copied.
+/// `cut`: what is selected is copied and then deleted. Where that is refused nothing is copied.
 pub fn cut(
     alloc: Global,
     tools: &Tools,
@@ -254,7 +300,7 @@ pub fn cut(
     ensures total { total_of journal.new ≡ total_of journal.old }
 {
     buffer.facts();
-    let copy = copied(alloc, buffer.terms(), buffer.selected())?;
+    let copy = copied(alloc, buffer.terms(), buffer.selected(), buffer.count())?;
     let said = delete(alloc, tools, buffer, journal)?;
     if let Message::Fine = said {
         *clip = Some(copy);

@@ -1,5 +1,5 @@
 //! The table of commands.
-ghost use Rattle.std.specs.Prelude.{◌≡◌, ◌≤◌, [], length, is_some, None, Option, Some, IfOk, OnErr};
+ghost use Rattle.std.specs.Prelude.{◌≡◌, ◌≤◌, ◌&&◌, nat_lt, [], length, is_some, None, true, Option, Some, IfOk, IsOk, OnErr};
 ghost use Rattle.sg_eval.specs.Journal.{now_of, total_of};
 ghost use Rattle.sg_changes.specs.Captured.{Captured};
 ghost use Rattle.sg_buffer.specs.Held.{state_of};
@@ -7,26 +7,48 @@ ghost use Rattle.sg_edits.specs.declared.clip.Clip.{Clip as IsClipped};
 ghost use Rattle.sg_commands.specs.Did.{Did, GaveUp, turn_of};
 ghost use Rattle.sg_commands.specs.Tools.{AreTools, IsClip};
 ghost use Rattle.sg_commands.specs.Turn.{AreReads, Reads};
-ghost use Rattle.sg_commands.specs.Turns.{plain_turn, typing_turn};
+ghost use Rattle.sg_commands.specs.Turns.{allowed_turn, count_here, plain_turn, typing_turn, wants_one as wants_one_node};
 ghost use Rattle.sg_commands.specs.Typing.{IsTyping};
 
 use crate::entering::{enter_typed, text};
-use crate::history::{redo, undo};
-use crate::moving::{copy, go, pick, toggle};
-use crate::replacing::{cut, delete, insert, paste, remove, transform};
+use crate::history::travel;
+use crate::moving::{copy, extend, find, go, pick, shrink, toggle};
+use crate::replacing::{cut, delete, insert, paste, remove, replace_all, transform};
 use crate::tools::Tools;
 use crate::typing::{abandon, begin, erase, type_in};
 use sg_buffer::Buffer;
+use sg_changes::Direction;
 use sg_edits::Clip;
 use sg_eval::Journal;
 use sg_kinds::memory::NoMemory;
-use sg_screen::Message;
-use sg_script::Command;
+use sg_script::{Command, Message};
 use sg_states::{Mark, Move};
 use std::alloc::Global;
 
-// a command while no text is being typed
-fn plain(
+// whether a command wants one node selected
+fn wants_one(command: &Command) -> bool
+    ensures { result ≡ wants_one_node command.now }
+{
+    matches!(
+        command,
+        Command::Do(_)
+            | Command::ReplaceAll(_)
+            | Command::Text(_)
+            | Command::TypeIn(_)
+            | Command::Alternate
+            | Command::Elide
+    )
+}
+
+// whether it does, and several elements are selected
+fn is_in_run(buffer: &Buffer, command: &Command) -> bool
+    ensures { result ≡ (wants_one_node command.now && nat_lt 1 (count_here (state_of buffer.now))) }
+{
+    wants_one(command) && buffer.count() > 1
+}
+
+// a command while no text is being typed, and one node is selected where it wants one
+fn allowed(
     alloc: Global,
     tools: &Tools,
     buffer: &mut Buffer,
@@ -36,14 +58,15 @@ fn plain(
 ) -> Result<Message, NoMemory>
     requires tools { AreTools buffer.old.grove.spec tools.now }
     requires clip { IsClip buffer.old.grove.spec clip.old }
-    requires typing { IsTyping buffer.old.grove.spec (state_of buffer.old) }
     requires none { buffer.old.capture ≡ None }
+    requires one { wants_one_node command.now ≡ true → count_here (state_of buffer.old) ≡ 1 }
     ensures did { (reads : Reads) → AreReads buffer.old.grove.spec reads → IfOk result (λ m. Did
-        (plain_turn buffer.old.grove.spec buffer.old.height reads clip.old (state_of buffer.old) command.now) m
+        (allowed_turn buffer.old.grove.spec buffer.old.height reads clip.old (state_of buffer.old) command.now) m
         buffer.new clip.new (now_of journal.old) (now_of journal.new)) }
     ensures gave_up { (reads : Reads) → AreReads buffer.old.grove.spec reads → OnErr result (GaveUp
-        buffer.old.grove.spec (plain_turn buffer.old.grove.spec buffer.old.height reads clip.old (state_of buffer.old)
+        buffer.old.grove.spec (allowed_turn buffer.old.grove.spec buffer.old.height reads clip.old (state_of buffer.old)
         command.now) buffer.old buffer.new clip.old clip.new (now_of journal.old) (now_of journal.new)) }
+    ensures erased { command.now ≡ Command.Erase → IsOk result }
     ensures spec { buffer.new.grove.spec ≡ buffer.old.grove.spec }
     ensures height { buffer.new.height ≡ buffer.old.height }
     ensures total { total_of journal.new ≡ total_of journal.old }
@@ -55,7 +78,11 @@ fn plain(
         Command::First => go(buffer, Move::First),
         Command::Sibling => go(buffer, Move::Sibling),
         Command::Goto(line, column) => pick(buffer, *line, *column),
+        Command::Extend => Ok(extend(buffer)),
+        Command::Shrink => Ok(shrink(buffer)),
+        Command::Find(name) => find(buffer, name.as_slice()),
         Command::Do(name) => transform(alloc, tools, buffer, name.as_slice(), journal),
+        Command::ReplaceAll(name) => replace_all(alloc, tools, buffer, name.as_slice(), journal),
         Command::Delete => delete(alloc, tools, buffer, journal),
         Command::Remove => remove(alloc, tools, buffer, journal),
         Command::InsertBefore => insert(alloc, tools, buffer, false, journal),
@@ -71,8 +98,8 @@ fn plain(
         Command::Erase | Command::Enter | Command::Abandon => Ok(Message::NotInText),
         Command::Alternate => toggle(buffer, Mark::Alternate),
         Command::Elide => toggle(buffer, Mark::Elide),
-        Command::Undo => undo(tools, buffer, journal),
-        Command::Redo => redo(tools, buffer, journal),
+        Command::Undo => travel(tools, buffer, Direction::Back, journal),
+        Command::Redo => travel(tools, buffer, Direction::Forth, journal),
         Command::New(_)
         | Command::Load(_, _)
         | Command::Switch(_)
@@ -80,6 +107,36 @@ fn plain(
         | Command::Save(_)
         | Command::SaveText(_) => Ok(Message::Fine),
     }
+}
+
+// a command while no text is being typed
+fn plain(
+    alloc: Global,
+    tools: &Tools,
+    buffer: &mut Buffer,
+    clip: &mut Option<Clip>,
+    command: &Command,
+    journal: &mut Journal,
+) -> Result<Message, NoMemory>
+    requires tools { AreTools buffer.old.grove.spec tools.now }
+    requires clip { IsClip buffer.old.grove.spec clip.old }
+    requires none { buffer.old.capture ≡ None }
+    ensures did { (reads : Reads) → AreReads buffer.old.grove.spec reads → IfOk result (λ m. Did
+        (plain_turn buffer.old.grove.spec buffer.old.height reads clip.old (state_of buffer.old) command.now) m
+        buffer.new clip.new (now_of journal.old) (now_of journal.new)) }
+    ensures gave_up { (reads : Reads) → AreReads buffer.old.grove.spec reads → OnErr result (GaveUp
+        buffer.old.grove.spec (plain_turn buffer.old.grove.spec buffer.old.height reads clip.old (state_of buffer.old)
+        command.now) buffer.old buffer.new clip.old clip.new (now_of journal.old) (now_of journal.new)) }
+    ensures erased { command.now ≡ Command.Erase → IsOk result }
+    ensures spec { buffer.new.grove.spec ≡ buffer.old.grove.spec }
+    ensures height { buffer.new.height ≡ buffer.old.height }
+    ensures total { total_of journal.new ≡ total_of journal.old }
+{
+    buffer.facts();
+    if is_in_run(buffer, command) {
+        return Ok(Message::InRun);
+    }
+    allowed(alloc, tools, buffer, clip, command, journal)
 }
 
 // a command while a text is being typed
@@ -91,7 +148,7 @@ fn typing(
     journal: &mut Journal,
 ) -> Result<Message, NoMemory>
     requires tools { AreTools buffer.old.grove.spec tools.now }
-    requires typing { IsTyping buffer.old.grove.spec (state_of buffer.old) }
+    requires open { is_some (state_of buffer.old).capture ≡ true }
     ensures did { (c : Captured) → (state_of buffer.old).capture ≡ Some c → (reads : Reads)
         → AreReads buffer.old.grove.spec reads → (clip : Option IsClipped) → IfOk result (λ m. Did
         (typing_turn buffer.old.grove.spec buffer.old.height reads clip (state_of buffer.old) c command.now) m
@@ -100,13 +157,15 @@ fn typing(
         → AreReads buffer.old.grove.spec reads → (clip : Option IsClipped) → OnErr result (GaveUp
         buffer.old.grove.spec (typing_turn buffer.old.grove.spec buffer.old.height reads clip (state_of buffer.old) c
         command.now) buffer.old buffer.new clip clip (now_of journal.old) (now_of journal.new)) }
+    ensures erased { command.now ≡ Command.Erase → IsOk result }
     ensures spec { buffer.new.grove.spec ≡ buffer.old.grove.spec }
     ensures height { buffer.new.height ≡ buffer.old.height }
     ensures total { total_of journal.new ≡ total_of journal.old }
 {
+    buffer.facts();
     match command {
         Command::TypeIn(bytes) => type_in(buffer, bytes.as_slice()),
-        Command::Erase => erase(buffer),
+        Command::Erase => Ok(erase(buffer)),
         Command::Enter => enter_typed(alloc, tools, buffer, journal),
         Command::Abandon => Ok(abandon(buffer)),
         Command::New(_)
@@ -121,7 +180,11 @@ fn typing(
         | Command::First
         | Command::Sibling
         | Command::Goto(_, _)
+        | Command::Extend
+        | Command::Shrink
+        | Command::Find(_)
         | Command::Do(_)
+        | Command::ReplaceAll(_)
         | Command::Delete
         | Command::Remove
         | Command::InsertBefore
@@ -158,13 +221,13 @@ fn turned(
 ) -> Result<Message, NoMemory>
     requires tools { AreTools buffer.old.grove.spec tools.now }
     requires clip { IsClip buffer.old.grove.spec clip.old }
-    requires typing { IsTyping buffer.old.grove.spec (state_of buffer.old) }
     ensures did { (reads : Reads) → AreReads buffer.old.grove.spec reads → IfOk result (λ m. Did
         (turn_of buffer.old reads clip.old command.now) m buffer.new clip.new (now_of journal.old)
         (now_of journal.new)) }
     ensures gave_up { (reads : Reads) → AreReads buffer.old.grove.spec reads → OnErr result (GaveUp
         buffer.old.grove.spec (turn_of buffer.old reads clip.old command.now) buffer.old buffer.new clip.old clip.new
         (now_of journal.old) (now_of journal.new)) }
+    ensures erased { command.now ≡ Command.Erase → IsOk result }
     ensures spec { buffer.new.grove.spec ≡ buffer.old.grove.spec }
     ensures height { buffer.new.height ≡ buffer.old.height }
     ensures total { total_of journal.new ≡ total_of journal.old }
@@ -178,8 +241,8 @@ fn turned(
 }
 
 /// Does a command in a buffer and says what came of it. `clip` is what was copied last. The commands of sessions and
-/// files do nothing here. Without memory the buffer's state and what was copied stay, and the journal may have gained
-/// some of what the command evaluates.
+/// files do nothing here, and `erase` takes no memory. Without memory the buffer's state and what was copied stay, and
+/// the journal may have gained some of what the command evaluates.
 pub fn turn(
     alloc: Global,
     tools: &Tools,
@@ -203,6 +266,7 @@ pub fn turn(
         → OnErr result (length (now_of journal.new) ≤ length (turn_of buffer.old reads clip.old command.now).set) }
     ensures typing { IsTyping buffer.new.grove.spec (state_of buffer.new) }
     ensures fits { IsClip buffer.new.grove.spec clip.new }
+    ensures erased { command.now ≡ Command.Erase → IsOk result }
     ensures spec { buffer.new.grove.spec ≡ buffer.old.grove.spec }
     ensures height { buffer.new.height ≡ buffer.old.height }
     ensures total { total_of journal.new ≡ total_of journal.old }

@@ -14,7 +14,7 @@ use crate::entering::{entry_here, is_editable_here};
 use crate::moving::said;
 use sg_buffer::Buffer;
 use sg_kinds::memory::NoMemory;
-use sg_screen::Message;
+use sg_script::Message;
 
 // the place of the first byte that is not allowed
 fn bad_byte(bytes: &[u8]) -> Option<usize>
@@ -63,18 +63,15 @@ pub fn begin(buffer: &mut Buffer, bytes: &[u8]) -> Result<Message, NoMemory>
     }
 }
 
-/// `erase`, where a text is being typed.
-pub fn erase(buffer: &mut Buffer) -> Result<Message, NoMemory>
+/// `erase`, where a text is being typed. It takes no memory.
+pub fn erase(buffer: &mut Buffer) -> Message
     ensures did { (c : Captured) → (state_of buffer.old).capture ≡ Some c → (clip : Option IsClipped)
-        (now : List Instance) → IfOk result (λ m. Did (erases clip (state_of buffer.old) c) m buffer.new clip now now) }
-    ensures gave_up { (turn : Turn) (clip : Option IsClipped) (now : List Instance) → OnErr result (GaveUp
-        buffer.old.grove.spec turn buffer.old buffer.new clip clip now now) }
+        (now : List Instance) → Did (erases clip (state_of buffer.old) c) result buffer.new clip now now }
     ensures spec { buffer.new.grove.spec ≡ buffer.old.grove.spec }
     ensures height { buffer.new.height ≡ buffer.old.height }
 {
     buffer.facts();
-    let done = buffer.erase()?;
-    Ok(said(done, Message::NoPlace))
+    said(buffer.erase(), Message::NoPlace)
 }
 
 /// `abandon`, where a text is being typed.

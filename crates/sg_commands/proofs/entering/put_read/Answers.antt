@@ -2,7 +2,7 @@ use Rattle.std.specs.Prelude.{Result, Ok, Err, IfOk, OnErr}
 use Rattle.std.proofs.Common.{◌≡◌, refl, subst}
 use Rattle.sg_kinds.specs.Values.{Value}
 use Rattle.sg_eval.specs.Journal.{now_of}
-use Rattle.sg_screen.specs.declared.message.Message.{Message}
+use Rattle.sg_script.specs.declared.message.Message.{Message}
 use Rattle.sg_input.specs.Entered.{Entered}
 use Rattle.sg_input.specs.declared.entering.EntryFault.{EntryFault}
 use Rattle.sg_commands.specs.Did.{Did, GaveUp}

@@ -1,6 +1,6 @@
 use Rattle.std.specs.Prelude.{Err}
 use Rattle.std.proofs.Common.{refl, ap, subst}
-use Rattle.sg_screen.specs.declared.message.Message.TheVariants as message
+use Rattle.sg_script.specs.declared.message.Message.TheVariants as message
 use Rattle.sg_states.specs.States.{pointed}
 use Rattle.sg_buffer.specs.Held.{state_of}
 use Rattle.sg_input.specs.Entered.{Entered}

@@ -7,8 +7,8 @@ use Rattle.sg_patterns.specs.LexemesOf.{AreLexemesOf}
 use Rattle.sg_grammar.specs.Numbered.{grammar_of}
 use Rattle.sg_changes.specs.Captured.{Captured}
 use Rattle.sg_eval.specs.Journal.{now_of}
-use Rattle.sg_screen.specs.declared.message.Message.{Message}
-use Rattle.sg_screen.specs.declared.message.Message.TheVariants as message
+use Rattle.sg_script.specs.declared.message.Message.{Message}
+use Rattle.sg_script.specs.declared.message.Message.TheVariants as message
 use Rattle.sg_commands.specs.Did.{Did, GaveUp}
 use Rattle.sg_commands.specs.Replaced.{StopsWithin}
 use Rattle.sg_commands.specs.Turn.{Turn}

@@ -1,6 +1,6 @@
 use Rattle.std.proofs.lemmas.Result.{err_from_is_err_and}
 use Rattle.std.proofs.Common.{sym, subst, ◌∙◌}
-use Rattle.sg_screen.specs.declared.message.Message.TheVariants as message
+use Rattle.sg_script.specs.declared.message.Message.TheVariants as message
 use Rattle.sg_states.specs.States.{marked}
 use Rattle.sg_buffer.specs.Held.{state_of}
 use Rattle.sg_commands.specs.Did.{Did}

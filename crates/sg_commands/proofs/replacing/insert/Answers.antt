@@ -1,21 +1,24 @@
-use Rattle.std.specs.Prelude.{IfOk, OnErr}
+use Rattle.std.specs.Prelude.{ℕ, IfOk, OnErr}
 use Rattle.std.proofs.Common.{refl, subst}
 use Rattle.std.proofs.lemmas.Result.{err_from_is_err_and}
 use Rattle.sg_eval.specs.Journal.{now_of}
-use Rattle.sg_screen.specs.declared.message.Message.{Message}
+use Rattle.sg_script.specs.declared.message.Message.{Message}
 use Rattle.sg_edits.specs.Choice.{Choice}
 use Rattle.sg_edits.specs.Edits as edits
 use Rattle.sg_kinds.specs.declared.spec.Spec.{Spec}
 use Rattle.sg_kinds.specs.Terms.{Term}
 use Rattle.sg_kinds.specs.Places.{Place}
 use Rattle.sg_commands.specs.Did.{Did, GaveUp}
-use Rattle.sg_commands.specs.Replaced.{chosen_in, puts_in}
-use Rattle.sg_commands.proofs.Choosing.{chosen_here, fits_here, live_here}
+use Rattle.sg_commands.specs.Replaced.{chosen_of, puts_in}
+use Rattle.sg_commands.proofs.Choosing.{fits_here, live_here, run_chosen, run_here}
 use Rattle.sg_commands.proofs.Putting.{gave_up_before}
 use Rattle.sg_commands.proofs.replacing.insert.Goals as goal
 
-pub inserted-requires : goal.inserted-requires
-inserted-requires c = live_here c.args.buffer.now c.facts.ensures c.terms.result.now c.terms.ensures c.selected.result c.selected.ensures.place
+pub inserted-requires-clause-live : goal.inserted-requires-clause-live
+inserted-requires-clause-live c = live_here c.args.buffer.now c.facts.ensures c.terms.result.now c.terms.ensures c.selected.result c.selected.ensures.place
+
+pub inserted-requires-clause-run : goal.inserted-requires-clause-run
+inserted-requires-clause-run c = run_here c.args.buffer.now c.facts.ensures c.terms.result.now c.terms.ensures c.selected.result c.selected.ensures.place c.count.result c.count.ensures
 
 pub put_choice-requires-clause-fits : goal.put_choice-requires-clause-fits
 put_choice-requires-clause-fits c = fits_here c.args.buffer.now c.facts.ensures c.terms.result.now c.terms.ensures c.selected.result c.selected.ensures.place c.in_ok-choice.choice c.in_ok-choice.ensures.fits
@@ -24,16 +27,16 @@ pub returns-clause-did : goal.returns-clause-did
 returns-clause-did c = λ clip.
     let b = c.args.buffer.now in
     subst (λ (x : Choice). IfOk c.put_choice.result (λ (m : Message). Did (puts_in b clip x) m c.put_choice.new.buffer clip (now_of c.args.journal.now) (now_of c.put_choice.new.journal)))
-    (chosen_here c.args.buffer.now c.facts.ensures c.terms.result.now c.terms.ensures c.selected.result c.selected.ensures.place c.in_ok-choice.choice (λ (spec : Spec) (t : Term) (u : Place). edits.inserted spec t u c.args.after) c.in_ok-choice.ensures.choice) (c.put_choice.ensures.did clip)
+    (run_chosen c.args.buffer.now c.facts.ensures c.terms.result.now c.terms.ensures c.selected.result c.selected.ensures.place c.in_ok-choice.choice (λ (spec : Spec) (t : Term) (u : Place) (n : ℕ). edits.inserted spec t u n c.args.after) c.count.result c.count.ensures c.in_ok-choice.ensures.choice) (c.put_choice.ensures.did clip)
 
 pub returns-clause-gave_up : goal.returns-clause-gave_up
 returns-clause-gave_up c = λ clip.
     let b = c.args.buffer.now in
     subst (λ (x : Choice). OnErr c.put_choice.result (GaveUp b.grove.spec (puts_in b clip x) b c.put_choice.new.buffer clip clip (now_of c.args.journal.now) (now_of c.put_choice.new.journal)))
-    (chosen_here c.args.buffer.now c.facts.ensures c.terms.result.now c.terms.ensures c.selected.result c.selected.ensures.place c.in_ok-choice.choice (λ (spec : Spec) (t : Term) (u : Place). edits.inserted spec t u c.args.after) c.in_ok-choice.ensures.choice) (c.put_choice.ensures.gave_up clip)
+    (run_chosen c.args.buffer.now c.facts.ensures c.terms.result.now c.terms.ensures c.selected.result c.selected.ensures.place c.in_ok-choice.choice (λ (spec : Spec) (t : Term) (u : Place) (n : ℕ). edits.inserted spec t u n c.args.after) c.count.result c.count.ensures c.in_ok-choice.ensures.choice) (c.put_choice.ensures.gave_up clip)
 
 pub returns-in_err-choice-clause-gave_up : goal.returns-in_err-choice-clause-gave_up
 returns-in_err-choice-clause-gave_up c = λ clip.
     let b = c.args.buffer.now in
     let p = err_from_is_err_and c.from_residual.result c.from_residual.ensures.1 in
-    rw p.1 (gave_up_before b b clip (now_of c.args.journal.now) (now_of c.args.journal.now) (puts_in b clip (chosen_in b (λ (spec : Spec) (t : Term) (u : Place). edits.inserted spec t u c.args.after))) refl refl)
+    rw p.1 (gave_up_before b b clip (now_of c.args.journal.now) (now_of c.args.journal.now) (puts_in b clip (chosen_of b (λ (spec : Spec) (t : Term) (u : Place) (n : ℕ). edits.inserted spec t u n c.args.after))) refl refl)

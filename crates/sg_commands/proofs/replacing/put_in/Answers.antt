@@ -9,7 +9,7 @@ pub returns-in-Ok-clause-did : goal.returns-in-Ok-clause-did
 returns-in-Ok-clause-did c = λ clip.
     let e = c.in-Ok.ensures in
     put_did c.args.buffer.now c.replace.new.self clip (now_of c.args.journal.now) (now_of c.replace.new.journal) (place_of c.args.at.now) c.args.t.now c.args.select.now
-    c.requires.tools.sound c.requires.one e.large e.state e.evaluated
+    c.requires.tools.sound e.large e.state e.evaluated
 
 pub returns-in-Err-Size-clause-did : goal.returns-in-Err-Size-clause-did
 returns-in-Err-Size-clause-did c = λ clip.

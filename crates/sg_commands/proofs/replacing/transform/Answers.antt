@@ -2,7 +2,7 @@ use Rattle.std.specs.Prelude.{IfOk, OnErr}
 use Rattle.std.proofs.Common.{refl, sym, ap, ◌∙◌, subst}
 use Rattle.std.proofs.lemmas.Result.{err_from_is_err_and}
 use Rattle.sg_eval.specs.Journal.{now_of}
-use Rattle.sg_screen.specs.declared.message.Message.{Message}
+use Rattle.sg_script.specs.declared.message.Message.{Message}
 use Rattle.sg_edits.specs.Choice.{Choice}
 use Rattle.sg_edits.specs.Edits as edits
 use Rattle.sg_kinds.specs.declared.spec.Spec.{Spec}

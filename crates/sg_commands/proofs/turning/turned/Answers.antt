@@ -11,6 +11,9 @@ pub plain-requires-clause-none : goal.plain-requires-clause-none
 plain-requires-clause-none c =
     c.facts.ensures.capture ∙ closed (state_of c.args.buffer.now).capture (sym c.is_typing.ensures ∙ c.if-is_typing.false)
 
+pub typing-requires-clause-open : goal.typing-requires-clause-open
+typing-requires-clause-open c = sym c.is_typing.ensures ∙ c.if-is_typing.true
+
 pub returns-then-is_typing-clause-did : goal.returns-then-is_typing-clause-did
 returns-then-is_typing-clause-did c = λ reads are.
     let b = c.args.buffer.now in

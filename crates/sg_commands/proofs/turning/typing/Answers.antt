@@ -2,13 +2,17 @@ use Rattle.std.specs.Prelude.{IfOk, OnErr}
 use Rattle.std.proofs.Common.{refl, sym, subst}
 use Rattle.sg_eval.specs.Journal.{now_of}
 use Rattle.sg_buffer.specs.Held.{state_of}
-use Rattle.sg_screen.specs.declared.message.Message.TheVariants as message
+use Rattle.sg_script.specs.declared.message.Message.TheVariants as message
 use Rattle.sg_commands.specs.Did.{Did, GaveUp}
 use Rattle.sg_commands.specs.Turn.{found_or}
 use Rattle.sg_commands.specs.Turns.{enters_captured, typing_turn}
 use Rattle.sg_commands.proofs.Alike.{typing_stays, typing_waits}
+use Rattle.sg_commands.proofs.Captures.{alone_here}
 use Rattle.sg_commands.proofs.Putting.{refused_did}
 use Rattle.sg_commands.proofs.turning.typing.Goals as goal
+
+pub type_in-requires : goal.type_in-requires
+type_in-requires c = alone_here c.args.buffer.now c.facts.ensures c.requires.open
 
 pub returns-in-Enter-clause-did : goal.returns-in-Enter-clause-did
 returns-in-Enter-clause-did c = λ x at reads are clip.
@@ -209,3 +213,38 @@ returns-in-Next-19-clause-did c = λ x at reads are clip.
     let was = now_of c.args.journal.now in
     subst (λ t. Did t message.InText b clip was was)
     (sym (typing_waits b.grove.spec b.height reads clip (state_of b) c.args.command.now x c.in-Next.is)) (refused_did b b clip was was message.InText refl refl)
+
+pub returns-in-Next-20-clause-did : goal.returns-in-Next-20-clause-did
+returns-in-Next-20-clause-did c = λ x at reads are clip.
+    let b = c.args.buffer.now in
+    let was = now_of c.args.journal.now in
+    subst (λ t. Did t message.InText b clip was was)
+    (sym (typing_waits b.grove.spec b.height reads clip (state_of b) c.args.command.now x c.in-Next.is)) (refused_did b b clip was was message.InText refl refl)
+
+pub returns-in-Next-21-clause-did : goal.returns-in-Next-21-clause-did
+returns-in-Next-21-clause-did c = λ x at reads are clip.
+    let b = c.args.buffer.now in
+    let was = now_of c.args.journal.now in
+    subst (λ t. Did t message.InText b clip was was)
+    (sym (typing_waits b.grove.spec b.height reads clip (state_of b) c.args.command.now x c.in-Next.is)) (refused_did b b clip was was message.InText refl refl)
+
+pub returns-in-Next-22-clause-did : goal.returns-in-Next-22-clause-did
+returns-in-Next-22-clause-did c = λ x at reads are clip.
+    let b = c.args.buffer.now in
+    let was = now_of c.args.journal.now in
+    subst (λ t. Did t message.InText b clip was was)
+    (sym (typing_waits b.grove.spec b.height reads clip (state_of b) c.args.command.now x c.in-Next.is)) (refused_did b b clip was was message.InText refl refl)
+
+pub returns-in-Next-23-clause-did : goal.returns-in-Next-23-clause-did
+returns-in-Next-23-clause-did c = λ x at reads are clip.
+    let b = c.args.buffer.now in
+    let was = now_of c.args.journal.now in
+    subst (λ t. Did t message.InText b clip was was)
+    (sym (typing_waits b.grove.spec b.height reads clip (state_of b) c.args.command.now x c.in-Next.is)) (refused_did b b clip was was message.InText refl refl)
+
+pub returns-in-Erase-clause-did : goal.returns-in-Erase-clause-did
+returns-in-Erase-clause-did c = λ x at reads are clip.
+    let b = c.args.buffer.now in
+    let was = now_of c.args.journal.now in
+    subst (λ k. Did (typing_turn b.grove.spec b.height reads clip (state_of b) x k) c.erase.result c.erase.new.buffer clip was was)
+    (sym c.in-Erase.is) (c.erase.ensures.did x at clip was)

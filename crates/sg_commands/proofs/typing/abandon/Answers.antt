@@ -1,4 +1,4 @@
-use Rattle.sg_screen.specs.declared.message.Message.TheVariants as message
+use Rattle.sg_script.specs.declared.message.Message.TheVariants as message
 use Rattle.sg_states.specs.States.{ended}
 use Rattle.sg_buffer.specs.Held.{state_of}
 use Rattle.sg_commands.proofs.Moved.{done_did}

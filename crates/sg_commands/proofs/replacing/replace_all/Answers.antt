@@ -1,0 +1,45 @@
+use Rattle.std.specs.Prelude.{IfOk, OnErr}
+use Rattle.std.proofs.Common.{refl, sym, ap, ◌∙◌, subst}
+use Rattle.std.proofs.lemmas.Result.{err_from_is_err_and}
+use Rattle.sg_eval.specs.Journal.{now_of}
+use Rattle.sg_script.specs.declared.message.Message.{Message}
+use Rattle.sg_edits.specs.Choice.{Choice}
+use Rattle.sg_edits.specs.Edits as edits
+use Rattle.sg_kinds.specs.declared.spec.Spec.{Spec}
+use Rattle.sg_kinds.specs.Terms.{Term}
+use Rattle.sg_kinds.specs.Places.{Place}
+use Rattle.sg_groves.specs.Grove.{Grove}
+use Rattle.sg_commands.specs.Did.{Did, GaveUp}
+use Rattle.sg_commands.specs.Replaced.{chosen_in, puts_in, replaces_in}
+use Rattle.sg_commands.proofs.Choosing.{fits_here, limited_here, live_here}
+use Rattle.sg_commands.proofs.Putting.{gave_up_before}
+use Rattle.sg_commands.proofs.replacing.replace_all.Goals as goal
+
+pub everywhere-requires-clause-same : goal.everywhere-requires-clause-same
+everywhere-requires-clause-same c = c.requires.tools.same ∙ ap (λ (g : Grove). g.spec) (sym c.terms.ensures)
+
+pub everywhere-requires-clause-live : goal.everywhere-requires-clause-live
+everywhere-requires-clause-live c = live_here c.args.buffer.now c.facts.ensures c.terms.result.now c.terms.ensures c.selected.result c.selected.ensures.place
+
+pub put_choice-requires-clause-fits : goal.put_choice-requires-clause-fits
+put_choice-requires-clause-fits c = fits_here c.args.buffer.now c.facts.ensures c.terms.result.now c.terms.ensures c.selected.result c.selected.ensures.place c.in_ok-choice.choice c.in_ok-choice.ensures.fits
+
+pub returns-clause-did : goal.returns-clause-did
+returns-clause-did c = λ clip.
+    let b = c.args.buffer.now in
+    let told = limited_here c.args.buffer.now c.facts.ensures c.terms.result.now c.terms.ensures c.selected.result c.selected.ensures.place c.in_ok-choice.choice (λ (spec : Spec) (t : Term) (u : Place). edits.everywhere spec t u c.args.name.now) c.in_ok-choice.ensures.choice in
+    subst (λ (x : Choice). IfOk c.put_choice.result (λ (m : Message). Did (replaces_in b clip x) m c.put_choice.new.buffer clip (now_of c.args.journal.now) (now_of c.put_choice.new.journal)))
+    told (c.put_choice.ensures.did clip)
+
+pub returns-clause-gave_up : goal.returns-clause-gave_up
+returns-clause-gave_up c = λ clip.
+    let b = c.args.buffer.now in
+    let told = limited_here c.args.buffer.now c.facts.ensures c.terms.result.now c.terms.ensures c.selected.result c.selected.ensures.place c.in_ok-choice.choice (λ (spec : Spec) (t : Term) (u : Place). edits.everywhere spec t u c.args.name.now) c.in_ok-choice.ensures.choice in
+    subst (λ (x : Choice). OnErr c.put_choice.result (GaveUp b.grove.spec (replaces_in b clip x) b c.put_choice.new.buffer clip clip (now_of c.args.journal.now) (now_of c.put_choice.new.journal)))
+    told (c.put_choice.ensures.gave_up clip)
+
+pub returns-in_err-choice-clause-gave_up : goal.returns-in_err-choice-clause-gave_up
+returns-in_err-choice-clause-gave_up c = λ clip.
+    let b = c.args.buffer.now in
+    let p = err_from_is_err_and c.from_residual.result c.from_residual.ensures.1 in
+    rw p.1 (gave_up_before b b clip (now_of c.args.journal.now) (now_of c.args.journal.now) (puts_in b clip (chosen_in b (λ (spec : Spec) (t : Term) (u : Place). edits.everywhere spec t u c.args.name.now))) refl refl)
