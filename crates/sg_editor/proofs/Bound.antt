@@ -17,10 +17,10 @@ use Rattle.sg_eval.specs.declared.journal.Instance.{Instance}
 use Rattle.sg_forest.specs.declared.node_id.NodeId.{NodeId}
 use Rattle.sg_groves.specs.Grove.{Grove}
 use Rattle.sg_groves.proofs.InstancesOnce.{instance_has}
-use Rattle.sg_replies.specs.Calls.{ShelfState}
+use Rattle.sg_outside.specs.Shelf.{ShelfState}
 use Rattle.sg_replies.specs.declared.reply.Reply.{Reply}
 use Rattle.sg_terms.specs.Entries.{AreEntries, Gained, GainedAll}
-use Rattle.sg_screen.specs.declared.message.Message.{Message}
+use Rattle.sg_script.specs.declared.message.Message.{Message}
 use Rattle.sg_buffer.specs.Held.{term_in}
 use Rattle.sg_commands.proofs.Counting.{gained_most}
 use Rattle.sg_editor.specs.declared.desk.Named.{Named}

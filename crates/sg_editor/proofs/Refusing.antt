@@ -1,5 +1,5 @@
 -- Commands that are not done.
-use Rattle.std.specs.Prelude.{◌≡◌, ◌≢◌, ◌⊎◌, refl, ℕ, Bool, true, false, not, nat_eq, nat_lt, length, if◌then◌else◌, List, [], ◌∷◌, slice_get, slice_set, Option, None, Some, Result, Ok, Err}
+use Rattle.std.specs.Prelude.{◌≡◌, ◌≢◌, ◌⊎◌, refl, ℕ, Bool, true, false, not, ◌&&◌, nat_eq, nat_lt, length, if◌then◌else◌, List, [], ◌∷◌, slice_get, slice_set, Option, None, Some, Result, Ok, Err}
 use Rattle.std.specs.Option.{option_map_or}
 use Rattle.std.proofs.Common.{sym, ap, ◌∙◌, subst, inl, inr}
 use Rattle.std.proofs.lemmas.Option.{get_or_from_slice_get}
@@ -8,25 +8,30 @@ use Rattle.sg_kinds.specs.Values.{Bytes}
 use Rattle.sg_kinds.specs.Completing.{completing}
 use Rattle.sg_kinds.specs.declared.spec.Spec.{Spec}
 use Rattle.sg_changes.specs.Captured.{Captured}
-use Rattle.sg_changes.specs.Changes.{Change}
+use Rattle.sg_changes.specs.Changes.{Change, chosen}
+use Rattle.sg_changes.specs.declared.direction.Direction.{Direction}
+use Rattle.sg_changes.specs.declared.direction.Direction.TheVariants.{Back, Forth}
 use Rattle.sg_edits.specs.Choice.{Choice, Refused, Put, limited}
-use Rattle.sg_edits.specs.Edits.{done, deleted, pasted, removed, inserted, typed as typed_in}
+use Rattle.sg_edits.specs.Edits.{done, everywhere, deleted, pasted, removed, inserted, typed as typed_in}
 use Rattle.sg_edits.specs.declared.clip.Clip.{Clip}
 use Rattle.sg_input.specs.Entered.{Entered, BadByte, NoToken, Stopped, Faulted, Typed, bad_byte}
 use Rattle.sg_replies.specs.declared.reply.Reply.{Reply}
 use Rattle.sg_replies.specs.declared.reply.Reply.TheVariants as reply
 use Rattle.sg_saved.specs.Read.{Opened, FormAt, PhylumAt, TooLarge, Holds}
-use Rattle.sg_screen.specs.declared.message.Message.{Message}
-use Rattle.sg_screen.specs.declared.message.Message.TheVariants as message
+use Rattle.sg_script.specs.declared.message.Message.{Message}
+use Rattle.sg_script.specs.declared.message.Message.TheVariants as message
 use Rattle.sg_script.specs.declared.command.Command.{Command}
 use Rattle.sg_script.specs.declared.command.Command.TheVariants as command
-use Rattle.sg_states.specs.States.{State, erased, marked, moved, picked, pointed, selected_place}
+use Rattle.sg_states.specs.States.{State, erased, extension, marked, moved, picked, pointed, selected_place, shrunk}
+use Rattle.sg_search.specs.Found.{is_known}
+use Rattle.sg_states.specs.declared.marks.Extended.{Extended}
+use Rattle.sg_states.specs.declared.marks.Extended.TheVariants.{Done, NotInList, NoPlace}
 use Rattle.sg_states.specs.declared.marks.Mark.{Mark}
 use Rattle.sg_states.specs.declared.marks.Mark.TheVariants.{Alternate, Elide}
 use Rattle.sg_states.specs.declared.marks.Move.{Move}
 use Rattle.sg_states.specs.declared.marks.Move.TheVariants.{Next, Prev, Up, First, Sibling}
 use Rattle.sg_commands.specs.Turn.{Reads, Turn, becomes, found_or, refused_if, says}
-use Rattle.sg_commands.specs.Turns.{copied_of, enterable, enters, enters_typed, entry_here, is_editable_here, plain_turn, puts, redoes, replaces, turn, types_unless, typing_turn, undoes}
+use Rattle.sg_commands.specs.Turns.{allowed_turn, copied_of, count_here, enterable, enters, enters_typed, entry_here, extends, found_next, is_editable_here, plain_turn, puts, replaces, travels, turn, types_unless, typing_turn, wants_one}
 use Rattle.sg_editor.specs.Ask.{Readers, Step, ask, barred, fetched, in_current, keeps, loads, longest_file, news, opened, opens, saved_form, saved_text, switches, taken, turned_at, turned_to}
 use Rattle.sg_editor.specs.Ask as asking
 use Rattle.sg_editor.specs.Refused.{IsPointed, Leaves, counted_by}
@@ -58,6 +63,11 @@ module _ (c : Command) (clip : Option Clip) (st : State) where
   found_left m f None each = said_left m
   found_left m f (Some x) each = each x
 
+  extends_left : (e : Extended) → Left c clip st (extends clip st e)
+  extends_left Done = inl refl
+  extends_left NotInList = said_left message.NotInList
+  extends_left NoPlace = said_left message.NoPlace
+
   types_left : (o : Option ℕ) (bytes : Bytes) → Left c clip st (types_unless clip st o bytes)
   types_left None bytes = inl refl
   types_left (Some k) bytes = said_left (message.ByteAt k)
@@ -70,13 +80,9 @@ module _ (c : Command) (clip : Option Clip) (st : State) where
     puts_left : (choice : Choice) → Left c clip st (puts spec height clip st choice)
     puts_left choice = replaces_left clip (limited st.term choice)
 
-    undoes_left : (cs : List Change) → Left c clip st (undoes spec clip st cs)
-    undoes_left [] = said_left message.NothingToUndo
-    undoes_left (x ∷ cs) = inl refl
-
-    redoes_left : (cs : List Change) → Left c clip st (redoes spec clip st cs)
-    redoes_left [] = said_left message.NothingToRedo
-    redoes_left (x ∷ cs) = inl refl
+    travels_left : (d : Direction) (cs : List Change) → Left c clip st (travels spec clip st d cs)
+    travels_left d [] = said_left (chosen d message.NothingToUndo message.NothingToRedo)
+    travels_left d (x ∷ cs) = inl refl
 
     enters_left : (x : Entered) → Left c clip st (enters spec height clip st x)
     enters_left (BadByte k) = said_left (message.ByteAt k)
@@ -103,32 +109,40 @@ module _ (c : Command) (clip : Option Clip) (st : State) where
     marks_left mark = found_left message.NoAlternate (becomes clip) (marked spec height mark st) done_left
 
 module _ (spec : Spec) (height : ℕ) (reads : Reads) (clip : Option Clip) (st : State) where
-  plain_left : (c : Command) → Left c clip st (plain_turn spec height reads clip st c)
-  plain_left command.Next = goes_left command.Next clip st spec height Next
-  plain_left command.Prev = goes_left command.Prev clip st spec height Prev
-  plain_left command.Up = goes_left command.Up clip st spec height Up
-  plain_left command.First = goes_left command.First clip st spec height First
-  plain_left command.Sibling = goes_left command.Sibling clip st spec height Sibling
-  plain_left (command.Goto line column) = found_left (command.Goto line column) clip st message.NoPlace (becomes clip) (picked spec height line column st) (done_left (command.Goto line column) clip st)
-  plain_left (command.Do name) = puts_left (command.Do name) clip st spec height (done spec st.term (selected_place st) name)
-  plain_left command.Delete = puts_left command.Delete clip st spec height (deleted spec st.term (selected_place st))
-  plain_left command.Remove = replaces_left command.Remove clip st spec height clip (removed spec st.term (selected_place st))
-  plain_left command.InsertBefore = puts_left command.InsertBefore clip st spec height (inserted spec st.term (selected_place st) false)
-  plain_left command.InsertAfter = puts_left command.InsertAfter clip st spec height (inserted spec st.term (selected_place st) true)
-  plain_left command.Cut = replaces_left command.Cut clip st spec height (Some (copied_of spec st)) (limited st.term (deleted spec st.term (selected_place st)))
-  plain_left command.Paste = puts_left command.Paste clip st spec height (pasted spec st.term (selected_place st) clip)
-  plain_left (command.Text text) = enterable_left (command.Text text) clip st spec height (λ entry. enters spec height clip st (reads entry text))
+  allowed_left : (c : Command) → Left c clip st (allowed_turn spec height reads clip st c)
+  allowed_left command.Next = goes_left command.Next clip st spec height Next
+  allowed_left command.Prev = goes_left command.Prev clip st spec height Prev
+  allowed_left command.Up = goes_left command.Up clip st spec height Up
+  allowed_left command.First = goes_left command.First clip st spec height First
+  allowed_left command.Sibling = goes_left command.Sibling clip st spec height Sibling
+  allowed_left (command.Goto line column) = found_left (command.Goto line column) clip st message.NoPlace (becomes clip) (picked spec height line column st) (done_left (command.Goto line column) clip st)
+  allowed_left command.Extend = extends_left command.Extend clip st (extension spec st)
+  allowed_left command.Shrink = if_left command.Shrink clip st (nat_eq (count_here st) 1) message.NoPlace (becomes clip (shrunk st)) (inl refl)
+  allowed_left (command.Find name) = if_left (command.Find name) clip st (not (is_known spec name)) message.Unknown (found_or clip st message.NoMatch (becomes clip) (found_next spec height name st))
+      (found_left (command.Find name) clip st message.NoMatch (becomes clip) (found_next spec height name st) (done_left (command.Find name) clip st))
+  allowed_left (command.Do name) = puts_left (command.Do name) clip st spec height (done spec st.term (selected_place st) name)
+  allowed_left (command.ReplaceAll name) = puts_left (command.ReplaceAll name) clip st spec height (everywhere spec st.term (selected_place st) name)
+  allowed_left command.Delete = puts_left command.Delete clip st spec height (deleted spec st.term (selected_place st) (count_here st))
+  allowed_left command.Remove = replaces_left command.Remove clip st spec height clip (removed spec st.term (selected_place st) (count_here st))
+  allowed_left command.InsertBefore = puts_left command.InsertBefore clip st spec height (inserted spec st.term (selected_place st) (count_here st) false)
+  allowed_left command.InsertAfter = puts_left command.InsertAfter clip st spec height (inserted spec st.term (selected_place st) (count_here st) true)
+  allowed_left command.Cut = replaces_left command.Cut clip st spec height (Some (copied_of spec st)) (limited st.term (deleted spec st.term (selected_place st) (count_here st)))
+  allowed_left command.Paste = puts_left command.Paste clip st spec height (pasted spec st.term (selected_place st) (count_here st) clip)
+  allowed_left (command.Text text) = enterable_left (command.Text text) clip st spec height (λ entry. enters spec height clip st (reads entry text))
       (λ entry. enters_left (command.Text text) clip st spec height (reads entry text))
-  plain_left (command.TypeIn text) = enterable_left (command.TypeIn text) clip st spec height (λ entry. types_unless clip st (bad_byte text) text)
+  allowed_left (command.TypeIn text) = enterable_left (command.TypeIn text) clip st spec height (λ entry. types_unless clip st (bad_byte text) text)
       (λ entry. types_left (command.TypeIn text) clip st (bad_byte text) text)
-  plain_left command.Erase = said_left command.Erase clip st message.NotInText
-  plain_left command.Enter = said_left command.Enter clip st message.NotInText
-  plain_left command.Abandon = said_left command.Abandon clip st message.NotInText
-  plain_left command.Alternate = marks_left command.Alternate clip st spec height Alternate
-  plain_left command.Elide = marks_left command.Elide clip st spec height Elide
-  plain_left command.Undo = undoes_left command.Undo clip st spec height st.past
-  plain_left command.Redo = redoes_left command.Redo clip st spec height st.future
-  plain_left other = inl refl
+  allowed_left command.Erase = said_left command.Erase clip st message.NotInText
+  allowed_left command.Enter = said_left command.Enter clip st message.NotInText
+  allowed_left command.Abandon = said_left command.Abandon clip st message.NotInText
+  allowed_left command.Alternate = marks_left command.Alternate clip st spec height Alternate
+  allowed_left command.Elide = marks_left command.Elide clip st spec height Elide
+  allowed_left command.Undo = travels_left command.Undo clip st spec height Back st.past
+  allowed_left command.Redo = travels_left command.Redo clip st spec height Forth st.future
+  allowed_left other = inl refl
+
+  plain_left : (c : Command) → Left c clip st (plain_turn spec height reads clip st c)
+  plain_left c = if_left c clip st (wants_one c && nat_lt 1 (count_here st)) message.InRun (allowed_turn spec height reads clip st c) (allowed_left c)
 
   typing_left : (cap : Captured) (c : Command) → Left c clip st (typing_turn spec height reads clip st cap c)
   typing_left cap (command.TypeIn text) = types_left (command.TypeIn text) clip st (bad_byte text) text

@@ -6,8 +6,8 @@ use Rattle.std.proofs.lemmas.Option.{none-some}
 use Rattle.sg_kinds.specs.Values.{Bytes}
 use Rattle.sg_kinds.specs.declared.spec.Spec.{Spec}
 use Rattle.sg_changes.specs.Captured.{Captured}
-use Rattle.sg_screen.specs.declared.message.Message.{Message}
-use Rattle.sg_screen.specs.declared.message.Message.TheVariants as message
+use Rattle.sg_script.specs.declared.message.Message.{Message}
+use Rattle.sg_script.specs.declared.message.Message.TheVariants as message
 use Rattle.sg_unparse.specs.Page.{bytes_of, cells_of, is_cut}
 use Rattle.sg_unparse.specs.Sheet.{Sheet}
 use Rattle.sg_states.specs.Paged.{page_seen}

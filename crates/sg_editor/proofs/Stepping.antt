@@ -4,12 +4,13 @@ use Rattle.std.proofs.Common.{sym, ◌∙◌, subst, arith, inl, inr, append-nil
 use Rattle.sg_kinds.specs.Values.{Bytes}
 use Rattle.sg_kinds.specs.declared.spec.Spec.{Spec}
 use Rattle.sg_eval.specs.declared.journal.Instance.{Instance}
-use Rattle.sg_replies.specs.Calls.{ShelfState, Replied, Served, ServedOrOneMore}
+use Rattle.sg_outside.specs.Shelf.{ShelfState}
+use Rattle.sg_replies.specs.Calls.{Replied, Served, ServedOrOneMore}
 use Rattle.sg_replies.specs.Requests.{Request, Keep}
 use Rattle.sg_replies.specs.declared.reply.Reply.{Reply}
 use Rattle.sg_replies.proofs.Laws.{served_one, none_or_one_more, unanswered_one_more}
 use Rattle.sg_outside.proofs.Tally.{answered_by-zero}
-use Rattle.sg_screen.specs.declared.message.Message.{Message}
+use Rattle.sg_script.specs.declared.message.Message.{Message}
 use Rattle.sg_editor.specs.Ask.{Ask, Step, Tells, Asks, says, keeps, said_of_keep}
 use Rattle.sg_editor.specs.Editing.{Editing, session_in, session_of}
 use Rattle.sg_editor.specs.Steps.{Answered, AreSome, Interrupted, IsUnanswered, Stepped, Took}

@@ -1,5 +1,5 @@
 -- Steps that are taken.
-use Rattle.std.specs.Prelude.{◌≡◌, refl, ℕ, ◌≤◌, List, [], ◌∷◌, ◌++◌, map, length, Contains, get_or, slice_get, slice_set, Result, Ok, Err, IfOk, OnErr, Option, None, Some, option_map, option_and_then, MatchOption}
+use Rattle.std.specs.Prelude.{◌≡◌, ◌⊎◌, refl, ℕ, ◌≤◌, List, [], ◌∷◌, ◌++◌, map, length, Contains, get_or, slice_get, slice_set, Result, Ok, Err, IfOk, OnErr, Option, None, Some, option_map, option_and_then, MatchOption}
 use Rattle.std.proofs.Common.{sym, ap, ◌∙◌, subst, arith, inl}
 use Rattle.std.proofs.lemmas.List.{map-set, map-append, length-map}
 use Rattle.std.proofs.lemmas.Option.{get_or_from_slice_get, slice_get-map, slice_get_within}
@@ -15,12 +15,12 @@ use Rattle.sg_terms.specs.Entries.{GainedAll}
 use Rattle.sg_groves.proofs.InstancesOnce.{instances_apart}
 use Rattle.sg_turns.specs.Noted.{Noted}
 use Rattle.sg_edits.specs.declared.clip.Clip.{Clip}
-use Rattle.sg_screen.specs.declared.message.Message.{Message}
-use Rattle.sg_screen.specs.declared.message.Message.TheVariants as message
+use Rattle.sg_script.specs.declared.message.Message.{Message}
+use Rattle.sg_script.specs.declared.message.Message.TheVariants as message
 use Rattle.sg_states.specs.States.{State, begun}
 use Rattle.sg_buffer.specs.Held.{Held, state_of, term_in}
 use Rattle.sg_script.specs.declared.command.Command.{Command}
-use Rattle.sg_commands.specs.Did.{Did, GaveUp, turn_of}
+use Rattle.sg_commands.specs.Did.{Did, GaveUp, NotedOf, turn_of}
 use Rattle.sg_commands.specs.Turn.{Turn}
 use Rattle.sg_commands.specs.Turns.{turn}
 use Rattle.sg_commands.proofs.Counting.{gained_count, noted_most, noted_plain}
@@ -28,7 +28,7 @@ use Rattle.sg_editor.specs.declared.desk.Named.{Named}
 use Rattle.sg_editor.specs.Ask.{Step, Readers, says, opens, turned_to, turned_at, in_current}
 use Rattle.sg_editor.specs.Editing.{Kept, IsOver, told, session_in, current_in}
 use Rattle.sg_editor.specs.Session.{Session, current_of}
-use Rattle.sg_editor.specs.Steps.{AreNoted, AreSome, Took}
+use Rattle.sg_editor.specs.Steps.{AreNoted, AreSome, NotedHere, Took}
 use Rattle.sg_editor.proofs.Told.{written_there, last_there}
 
 no_entries : (now : List Instance) → now ≡ [] → length now ≡ 0
@@ -208,6 +208,17 @@ module _ (spec : Spec) (k : Kept) (i : ℕ) (b : Named) (here : slice_get k.buff
         (turned_some the_turn now (subst (λ (sp : Spec). Noted sp the_turn.state.term (Contains the_turn.set) [] now) over.spec_is
         (subst (λ (es : List Instance). Noted b.buffer.grove.spec the_turn.state.term (Contains the_turn.set) es now) none
         (noted_plain b.buffer.grove.spec old the_turn.state the_turn.set was now up.noted))) fewer)
+
+    current_here : current_in k ≡ Some b
+    current_here = ap (option_and_then (slice_get k.buffers)) at ∙ here
+
+    pub turn_noted : {E : Type 0} (old : Held) (res : Result Message E) → old ≡ b.buffer → OnErr res (GaveUp b.buffer.grove.spec the_turn old h k.clip clip was now)
+        → OnErr res (NotedHere r k c now)
+    turn_noted old (Ok m) is up = tt
+    turn_noted old (Err e) is up =
+        subst (λ (o : Option Named). MatchOption o (now ≡ []) (λ (x : Named). (now ≡ []) ⊎ NotedOf x.buffer.grove.spec x.buffer (turn_of x.buffer r.text k.clip c).state (turn_of x.buffer r.text k.clip c).set [] now)) (sym current_here)
+        (subst (λ (es : List Instance). (now ≡ es) ⊎ NotedOf b.buffer.grove.spec b.buffer the_turn.state the_turn.set es now) none
+        (subst (λ (z : Held). (now ≡ was) ⊎ NotedOf b.buffer.grove.spec z the_turn.state the_turn.set was now) is up.noted))
 
     turned_back : state_of h ≡ state_of b.buffer → clip ≡ k.clip → session_in (after k i b h clip) ≡ session_in k
     turned_back state same =

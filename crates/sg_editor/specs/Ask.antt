@@ -16,8 +16,8 @@ use Rattle.sg_replies.specs.declared.reply.Reply.{Reply}
 use Rattle.sg_replies.specs.declared.reply.Reply.TheVariants as reply
 use Rattle.sg_script.specs.declared.command.Command.{Command}
 use Rattle.sg_script.specs.declared.command.Command.TheVariants as command
-use Rattle.sg_screen.specs.declared.message.Message.{Message}
-use Rattle.sg_screen.specs.declared.message.Message.TheVariants as message
+use Rattle.sg_script.specs.declared.message.Message.{Message}
+use Rattle.sg_script.specs.declared.message.Message.TheVariants as message
 use Rattle.sg_unparse.specs.Cells.{Mark}
 use Rattle.sg_unparse.specs.Sheet.{Sheet}
 use Rattle.sg_unparse.specs.Page.{cells_of, is_cut, bytes_of}

@@ -4,8 +4,8 @@ use Rattle.sg_kinds.specs.Values.{Bytes}
 use Rattle.sg_replies.specs.declared.reply.Reply.{Reply}
 use Rattle.sg_script.specs.declared.command.Command.{Command}
 use Rattle.sg_script.specs.declared.command.Command.TheVariants as command
-use Rattle.sg_screen.specs.declared.message.Message.{Message}
-use Rattle.sg_screen.specs.declared.message.Message.TheVariants as message
+use Rattle.sg_script.specs.declared.message.Message.{Message}
+use Rattle.sg_script.specs.declared.message.Message.TheVariants as message
 use Rattle.sg_states.specs.States.{State, pointed}
 use Rattle.sg_editor.specs.Ask.{Step}
 use Rattle.sg_editor.specs.Session.{Session, with_load, with_state}

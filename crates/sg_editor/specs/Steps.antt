@@ -1,5 +1,5 @@
 -- What a command did: the step that was taken, the replies of the shelf, and what was evaluated.
-use Rattle.std.specs.Prelude.{◌≡◌, ◌⊎◌, ◌≤◌, ◌++◌, List, [], ◌∷◌, length, Contains, IsTrue, MatchOption}
+use Rattle.std.specs.Prelude.{◌≡◌, ◌⊎◌, ◌≤◌, ◌++◌, Bool, true, false, List, [], ◌∷◌, length, Contains, IsTrue, MatchOption}
 use Rattle.sg_kinds.specs.Places.{Place}
 use Rattle.sg_kinds.specs.Nets.{Reference}
 use Rattle.sg_kinds.specs.declared.spec.Spec.{Spec}
@@ -7,12 +7,16 @@ use Rattle.sg_eval.specs.declared.journal.Instance.{Instance}
 use Rattle.sg_terms.specs.Entries.{GainedAll}
 use Rattle.sg_turns.specs.Noted.{Noted}
 use Rattle.sg_buffer.specs.Held.{term_in}
-use Rattle.sg_replies.specs.Calls.{ShelfState, Replied, Unanswered, Served, ServedOrOneMore}
+use Rattle.sg_outside.specs.Shelf.{ShelfState}
+use Rattle.sg_replies.specs.Calls.{Replied, Unanswered, Served, ServedOrOneMore}
 use Rattle.sg_replies.specs.Requests.{Request, fits}
 use Rattle.sg_replies.specs.declared.reply.Reply.{Reply}
-use Rattle.sg_screen.specs.declared.message.Message.{Message}
+use Rattle.sg_script.specs.declared.command.Command.{Command}
+use Rattle.sg_script.specs.declared.command.Command.TheVariants as command
+use Rattle.sg_script.specs.declared.message.Message.{Message}
+use Rattle.sg_commands.specs.Did.{NotedOf, turn_of}
 use Rattle.sg_editor.specs.Session.{current_of}
-use Rattle.sg_editor.specs.Ask.{Ask, Step, Tells, Asks}
+use Rattle.sg_editor.specs.Ask.{Ask, Readers, Step, Tells, Asks}
 use Rattle.sg_editor.specs.Editing.{Editing, Kept, session_in, session_of, current_in}
 
 -- the request of a command, if it has one
@@ -42,6 +46,22 @@ pub record Took (step : Step) (k : Kept) (said : Message) (now : List Instance) 
 pub record AreSome (spec : Spec) (step : Step) (now : List Instance) : Type 0 where
   pub few : length now ≤ length step.set
   pub noted : MatchOption (current_of step.session) (now ≡ []) (λ b. Noted spec b.1.term (Contains step.set) [] now)
+
+-- whether a command is done in the current buffer
+abbrev pub is_turn : Command → Bool
+is_turn (command.New name) = false
+is_turn (command.Load name file) = false
+is_turn (command.Switch name) = false
+is_turn command.Show = false
+is_turn (command.Save file) = false
+is_turn (command.SaveText file) = false
+is_turn c = true
+
+-- without memory for it nothing was noted, or some of what it evaluates, at the nodes of the buffer's tree and, where a
+-- subterm comes, at those of the tree that comes
+abbrev pub NotedHere : Readers → Kept → Command → List Instance → Type 0
+NotedHere r k c now = MatchOption (current_in k) (now ≡ []) (λ b. (now ≡ []) ⊎ NotedOf b.buffer.grove.spec b.buffer
+    (turn_of b.buffer r.text k.clip c).state (turn_of b.buffer r.text k.clip c).set [] now)
 
 -- a request was replied to, the reply came behind the others, and this is said of it
 pub record Answered (request : Request) (said_of : Reply → Message) (said : Message) (before after : List Reply)

@@ -10,7 +10,7 @@ ghost use Rattle.sg_editor.specs.Steps.{Took};
 use sg_buffer::Buffer;
 use sg_edits::Clip;
 use sg_kinds::text::Text;
-use sg_screen::Message;
+use sg_script::Message;
 use std::alloc::Global;
 use std::marker::Model;
 

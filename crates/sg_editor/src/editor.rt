@@ -1,14 +1,13 @@
 //! The editor.
-ghost use Rattle.std.specs.Prelude.{◌≡◌, ◌≤◌, ◌<◌, ◌^◌, [], length, IfOk, MatchOption, MatchResult, ⊤, OnErr, None, Ok, Err};
+ghost use Rattle.std.specs.Prelude.{◌≡◌, ◌≤◌, ◌<◌, ◌^◌, [], length, IfOk, IsTrue, MatchOption, MatchResult, ⊤, OnErr, None, Ok, Err};
 ghost use Rattle.sg_kinds.specs.Sound.{IsSmall, IsSound};
 ghost use Rattle.sg_buffer.specs.Held.{term_in};
 ghost use Rattle.sg_eval.specs.Journal.{counted, now_of, total_of};
-ghost use Rattle.sg_replies.specs.Calls.{shelf_state};
 ghost use Rattle.sg_editor.specs.Ask.{AreReaders, Readers, ask, barred, keeps, loads, saved_form, saved_text};
 ghost use Rattle.sg_editor.specs.Editing.{IsCurrent, IsKept, current_in, height_in, session_in, session_of, spec_in, width_in};
 ghost use Rattle.sg_editor.specs.Screen.{screen};
 ghost use Rattle.sg_editor.specs.Session.{current_of, start};
-ghost use Rattle.sg_editor.specs.Steps.{Interrupted, Stepped};
+ghost use Rattle.sg_editor.specs.Steps.{Interrupted, NotedHere, Stepped, is_turn};
 
 use crate::base::Base;
 use crate::desk::Desk;
@@ -21,8 +20,7 @@ use sg_kinds::text::Text;
 use sg_load::Loaded;
 use sg_outside::Shelf;
 use sg_replies::{Reply, add};
-use sg_screen::Message;
-use sg_script::{Command, FileName};
+use sg_script::{Command, FileName, Message};
 use std::alloc::Global;
 use std::marker::Model;
 
@@ -99,14 +97,11 @@ impl Editor {
         ensures ok { (r : Readers) → AreReaders (spec_in self.old) r → IfOk result (λ m. Stepped
             (loads (spec_in self.old) (height_in self.old) r name.now file.now (session_in self.old.kept)
             (barred name.now (session_in self.old.kept))) self.new m (now_of journal.new)
-            replies.old.items replies.new.items
-            (shelf_state (S.files shelf.old) (S.faults shelf.old) (S.calls shelf.old))
-            (shelf_state (S.files shelf.new) (S.faults shelf.new) (S.calls shelf.new))) }
+            replies.old.items replies.new.items (S.state shelf.old) (S.state shelf.new)) }
         ensures err { (r : Readers) → AreReaders (spec_in self.old) r → OnErr result (Interrupted (spec_in self.old)
             (loads (spec_in self.old) (height_in self.old) r name.now file.now (session_in self.old.kept)
             (barred name.now (session_in self.old.kept))) (now_of journal.new) replies.old.items replies.new.items
-            (shelf_state (S.files shelf.old) (S.faults shelf.old) (S.calls shelf.old))
-            (shelf_state (S.files shelf.new) (S.faults shelf.new) (S.calls shelf.new))) }
+            (S.state shelf.old) (S.state shelf.new)) }
         ensures same { OnErr result (session_in self.new.kept ≡ session_in self.old.kept) }
         ensures setting { self.new.setting ≡ self.old.setting }
         ensures total { total_of journal.new ≡ total_of journal.old }
@@ -131,12 +126,10 @@ impl Editor {
     ) -> Result<Message, NoMemory>
         ensures ok { IfOk result (λ m. Stepped (keeps file.now (session_in self.now.kept)
             (saved_form (spec_in self.now) (session_in self.now.kept))) self.now m [] replies.old.items
-            replies.new.items (shelf_state (S.files shelf.old) (S.faults shelf.old) (S.calls shelf.old))
-            (shelf_state (S.files shelf.new) (S.faults shelf.new) (S.calls shelf.new))) }
+            replies.new.items (S.state shelf.old) (S.state shelf.new)) }
         ensures err { OnErr result (Interrupted (spec_in self.now) (keeps file.now (session_in self.now.kept)
             (saved_form (spec_in self.now) (session_in self.now.kept))) [] replies.old.items
-            replies.new.items (shelf_state (S.files shelf.old) (S.faults shelf.old) (S.calls shelf.old))
-            (shelf_state (S.files shelf.new) (S.faults shelf.new) (S.calls shelf.new))) }
+            replies.new.items (S.state shelf.old) (S.state shelf.new)) }
     {
         match self.desk.saved_form(&self.base)? {
             Ok(bytes) => keep(shelf, file, bytes.as_slice(), replies),
@@ -163,12 +156,10 @@ impl Editor {
     ) -> Result<Message, NoMemory>
         ensures ok { IfOk result (λ m. Stepped (keeps file.now (session_in self.old.kept)
             (saved_text (spec_in self.old) (session_in self.old.kept))) self.old m [] replies.old.items
-            replies.new.items (shelf_state (S.files shelf.old) (S.faults shelf.old) (S.calls shelf.old))
-            (shelf_state (S.files shelf.new) (S.faults shelf.new) (S.calls shelf.new))) }
+            replies.new.items (S.state shelf.old) (S.state shelf.new)) }
         ensures err { OnErr result (Interrupted (spec_in self.old) (keeps file.now (session_in self.old.kept)
             (saved_text (spec_in self.old) (session_in self.old.kept))) [] replies.old.items
-            replies.new.items (shelf_state (S.files shelf.old) (S.faults shelf.old) (S.calls shelf.old))
-            (shelf_state (S.files shelf.new) (S.faults shelf.new) (S.calls shelf.new))) }
+            replies.new.items (S.state shelf.old) (S.state shelf.new)) }
         ensures same { self.new ≡ self.old }
     {
         match self.text()? {
@@ -188,17 +179,15 @@ impl Editor {
         requires begun { now_of journal.old ≡ [] }
         ensures ok { (r : Readers) → AreReaders (spec_in self.old) r → IfOk result (λ m. Stepped
             (ask (spec_in self.old) (height_in self.old) r (session_in self.old.kept) command.now) self.new m
-            (now_of journal.new) replies.old.items replies.new.items
-            (shelf_state (S.files shelf.old) (S.faults shelf.old) (S.calls shelf.old))
-            (shelf_state (S.files shelf.new) (S.faults shelf.new) (S.calls shelf.new))) }
+            (now_of journal.new) replies.old.items replies.new.items (S.state shelf.old) (S.state shelf.new)) }
         ensures err { (r : Readers) → AreReaders (spec_in self.old) r → OnErr result (Interrupted (spec_in self.old)
             (ask (spec_in self.old) (height_in self.old) r (session_in self.old.kept) command.now) (now_of journal.new)
-            replies.old.items replies.new.items
-            (shelf_state (S.files shelf.old) (S.faults shelf.old) (S.calls shelf.old))
-            (shelf_state (S.files shelf.new) (S.faults shelf.new) (S.calls shelf.new))) }
+            replies.old.items replies.new.items (S.state shelf.old) (S.state shelf.new)) }
         ensures same { OnErr result (session_in self.new.kept ≡ session_in self.old.kept) }
         ensures setting { self.new.setting ≡ self.old.setting }
         ensures total { total_of journal.new ≡ total_of journal.old }
+        ensures nodes { (r : Readers) → AreReaders (spec_in self.old) r → IsTrue (is_turn command.now)
+            → OnErr result (NotedHere r self.old.kept command.now (now_of journal.new)) }
     {
         match command {
             Command::Load(name, file) => self.load(name, file, shelf, journal, replies),
@@ -221,18 +210,16 @@ impl Editor {
         requires room { counted journal.old < 2 ^ 62 }
         ensures ok { (r : Readers) → AreReaders (spec_in self.old) r → IfOk result (λ m. Stepped
             (ask (spec_in self.old) (height_in self.old) r (session_of self.old) command.now) self.new m
-            (now_of journal.new) replies.old.items replies.new.items
-            (shelf_state (S.files shelf.old) (S.faults shelf.old) (S.calls shelf.old))
-            (shelf_state (S.files shelf.new) (S.faults shelf.new) (S.calls shelf.new))) }
+            (now_of journal.new) replies.old.items replies.new.items (S.state shelf.old) (S.state shelf.new)) }
         ensures err { (r : Readers) → AreReaders (spec_in self.old) r → OnErr result (Interrupted (spec_in self.old)
             (ask (spec_in self.old) (height_in self.old) r (session_of self.old) command.now) (now_of journal.new)
-            replies.old.items replies.new.items
-            (shelf_state (S.files shelf.old) (S.faults shelf.old) (S.calls shelf.old))
-            (shelf_state (S.files shelf.new) (S.faults shelf.new) (S.calls shelf.new))) }
+            replies.old.items replies.new.items (S.state shelf.old) (S.state shelf.new)) }
         ensures same { OnErr result (session_of self.new ≡ session_of self.old) }
         ensures setting { self.new.setting ≡ self.old.setting }
         ensures total { total_of journal.new ≡ counted journal.old }
         ensures most { IfOk result (λ _. length (now_of journal.new) ≤ 2 ^ 40) }
+        ensures nodes { (r : Readers) → AreReaders (spec_in self.old) r → IsTrue (is_turn command.now)
+            → OnErr result (NotedHere r self.old.kept command.now (now_of journal.new)) }
     {
         journal.begin();
         let message = self.act(command, shelf, journal, replies);

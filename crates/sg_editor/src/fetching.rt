@@ -1,7 +1,7 @@
 // Files that are loaded.
 ghost use Rattle.std.specs.Prelude.{◌≡◌, ◌<◌, [], vec_len, vec_capacity, IfOk, OnErr, None};
 ghost use Rattle.sg_eval.specs.Journal.{now_of, total_of};
-ghost use Rattle.sg_replies.specs.Calls.{shelf_state, Replied};
+ghost use Rattle.sg_replies.specs.Calls.{Replied};
 ghost use Rattle.sg_replies.specs.Requests.Request.{Fetch};
 ghost use Rattle.sg_editor.specs.Ask.{AreReaders, Readers, barred, fetched, read_in, taken};
 ghost use Rattle.sg_editor.specs.Editing.{IsKept, session_in};
@@ -15,8 +15,7 @@ use sg_kinds::memory::NoMemory;
 use sg_outside::Shelf;
 use sg_replies::{Reply, fetched};
 use sg_saved_read::{OpenFault, read};
-use sg_screen::Message;
-use sg_script::FileName;
+use sg_script::{FileName, Message};
 use std::alloc::Global;
 
 /// How many bytes a file may have.
@@ -29,12 +28,8 @@ pub fn fetch<S: Shelf>(
     file: &FileName,
     replies: &mut Vec<Reply>,
 ) -> Result<Reply, NoMemory>
-    ensures ok { IfOk result (λ reply. Replied (Fetch file.now 4194305) reply
-        (shelf_state (S.files shelf.old) (S.faults shelf.old) (S.calls shelf.old))
-        (shelf_state (S.files shelf.new) (S.faults shelf.new) (S.calls shelf.new))) }
-    ensures err { OnErr result (IsUnanswered
-        (shelf_state (S.files shelf.old) (S.faults shelf.old) (S.calls shelf.old))
-        (shelf_state (S.files shelf.new) (S.faults shelf.new) (S.calls shelf.new))) }
+    ensures ok { IfOk result (λ reply. Replied (Fetch file.now 4194305) reply (S.state shelf.old) (S.state shelf.new)) }
+    ensures err { OnErr result (IsUnanswered (S.state shelf.old) (S.state shelf.new)) }
     ensures room { IfOk result (λ _. vec_len replies.new < vec_capacity replies.new) }
     ensures replies { replies.new.items ≡ replies.old.items }
 {

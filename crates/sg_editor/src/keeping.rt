@@ -1,8 +1,7 @@
 // Files that are saved.
 ghost use Rattle.std.specs.Prelude.{◌≡◌, ℕ, List, IfOk, IfErr, MatchResult, OnErr, Result, Ok, Err, None, Some};
-ghost use Rattle.sg_replies.specs.Calls.{shelf_state};
 ghost use Rattle.sg_replies.specs.Requests.Request.{Keep};
-ghost use Rattle.sg_screen.specs.declared.message.Message.{Message as IsMessage};
+ghost use Rattle.sg_script.specs.declared.message.Message.{Message as IsMessage};
 ghost use Rattle.sg_states.specs.States.{State};
 ghost use Rattle.sg_editor.specs.Ask.{resting, said_of_keep, saved_form, saved_text, whole_text};
 ghost use Rattle.sg_editor.specs.Editing.{IsKept, current_in, session_in};
@@ -15,8 +14,7 @@ use sg_kinds::memory::NoMemory;
 use sg_outside::Shelf;
 use sg_replies::{Reply, add, kept};
 use sg_saved::write;
-use sg_screen::Message;
-use sg_script::FileName;
+use sg_script::{FileName, Message};
 use sg_unparse::Page;
 use std::alloc::Global;
 
@@ -38,11 +36,8 @@ pub fn keep<S: Shelf>(
     replies: &mut Vec<Reply>,
 ) -> Result<Message, NoMemory>
     ensures ok { IfOk result (λ m. Answered (Keep file.now bytes.now) said_of_keep m replies.old.items replies.new.items
-        (shelf_state (S.files shelf.old) (S.faults shelf.old) (S.calls shelf.old))
-        (shelf_state (S.files shelf.new) (S.faults shelf.new) (S.calls shelf.new))) }
-    ensures err { OnErr result (IsUnanswered
-        (shelf_state (S.files shelf.old) (S.faults shelf.old) (S.calls shelf.old))
-        (shelf_state (S.files shelf.new) (S.faults shelf.new) (S.calls shelf.new))) }
+        (S.state shelf.old) (S.state shelf.new)) }
+    ensures err { OnErr result (IsUnanswered (S.state shelf.old) (S.state shelf.new)) }
     ensures replies { OnErr result (replies.new.items ≡ replies.old.items) }
 {
     replies.reserve(1)?;

@@ -15,7 +15,7 @@ ghost use Rattle.sg_replies.specs.declared.reply.Reply.{Reply};
 ghost use Rattle.sg_saved_form.specs.Files.{IsFile};
 ghost use Rattle.sg_saved.specs.Read.{Holds, IsOpened, most_nodes, most_depth};
 ghost use Rattle.sg_saved.specs.Spelling.{saved, AreNamed};
-ghost use Rattle.sg_screen.specs.declared.message.Message.TheVariants as message;
+ghost use Rattle.sg_script.specs.declared.message.Message.TheVariants as message;
 ghost use Rattle.sg_script.specs.declared.command.Command.{Command};
 ghost use Rattle.sg_editor.specs.Ask.{AreReaders, Readers, Step, Tells, ask, asks_nothing};
 ghost use Rattle.sg_editor.specs.Buffers.{HasFewBuffers};

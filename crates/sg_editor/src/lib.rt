@@ -12,3 +12,4 @@ mod screens;
 mod turning;
 
 pub use editor::Editor;
+pub use sg_script::Message;

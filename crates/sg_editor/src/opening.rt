@@ -21,7 +21,7 @@ use sg_eval::Journal;
 use sg_kinds::memory::NoMemory;
 use sg_kinds::term::Term;
 use sg_kinds::text::Text;
-use sg_screen::Message;
+use sg_script::Message;
 
 // a buffer of a term of the root's phylum that is in the limits
 fn begun(base: &Base, t: &Term, journal: &mut Journal) -> Result<Buffer, NoMemory>

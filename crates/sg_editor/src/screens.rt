@@ -1,15 +1,29 @@
 // What is printed of a session.
-ghost use Rattle.std.specs.Prelude.{◌≡◌, IfOk};
+ghost use Rattle.std.specs.Prelude.{◌≡◌, ◌≤◌, List, ◌∷◌, option_map, IfOk};
+ghost use Rattle.sg_kinds.specs.Places.{Place};
+ghost use Rattle.sg_kinds.specs.Terms.{Term};
+ghost use Rattle.sg_forest.specs.Trees.{Climbs, IsLive};
+ghost use Rattle.sg_groves.specs.Grove.{nodes};
+ghost use Rattle.sg_groves.specs.Holds.{Holds};
+ghost use Rattle.sg_unparse.specs.Cells.{Mark};
+ghost use Rattle.sg_unparse.specs.Sheet.{told};
+ghost use Rattle.sg_select.specs.Paths.{elements};
+ghost use Rattle.sg_states.specs.States.{selected_place};
 ghost use Rattle.sg_screen.specs.Block.{head_of};
 ghost use Rattle.sg_buffer.specs.Held.{shown, state_of};
 ghost use Rattle.sg_editor.specs.Editing.{IsKept, IsOver, session_in};
-ghost use Rattle.sg_editor.specs.Screen.{header_of, screen};
+ghost use Rattle.sg_editor.specs.Screen.{header_of, last_region, region_of_run, run_from, screen, shown_in, TellsRegions};
 
 use crate::base::Base;
 use crate::desk::{Desk, Named};
+use sg_buffer::Buffer;
+use sg_forest::NodeId;
 use sg_kinds::memory::NoMemory;
 use sg_kinds::row::item;
-use sg_screen::{Head, Message, bare, block};
+use sg_screen::{Head, bare, block};
+use sg_script::Message;
+use sg_select::spine_of;
+use sg_terms::Terms;
 use sg_unparse::{Page, Region};
 
 /// The first position of a page.
@@ -20,6 +34,52 @@ const BEGIN: Region = Region {
     end_col: 1,
 };
 
+// the region of the last of so many elements of a list that has one, from a list's node on
+fn last_region(terms: &Terms, page: &Page, n: NodeId, count: usize) -> Option<Region>
+    requires live { IsLive (nodes terms.now) n }
+    requires long { (x : Term) → Holds terms.now n x → count ≤ elements terms.now.spec x }
+    ensures { (root : _) (marks : List Mark) (p : Place) → TellsRegions terms.now root page.now marks
+        → Climbs (nodes terms.now) p n root
+        → option_map told result ≡ last_region marks (run_from count (0 ∷ p)) }
+{
+    terms.facts();
+    if count == 0 {
+        return None;
+    }
+    match last_region(terms, page, terms.kid(n, 1), count - 1) {
+        Some(region) => Some(region),
+        None => page.region(terms.kid(n, 0)),
+    }
+}
+
+// the region of what is selected
+fn selected_region(buffer: &Buffer, page: &Page) -> Region
+    requires page { page.now ≡ shown buffer.now }
+    ensures { told result ≡ region_of_run (shown_in buffer.now.grove.spec (state_of buffer.now))
+        (selected_place (state_of buffer.now)) (state_of buffer.now).spot.selection.count }
+{
+    buffer.facts();
+    let n = buffer.selected();
+    let count = buffer.count();
+    let first = page.region(n).unwrap_or(BEGIN);
+    if count == 1 {
+        return first;
+    }
+    let terms = buffer.terms();
+    match spine_of(terms, n) {
+        Some(spine) => {
+            let last = last_region(terms, page, spine, count).unwrap_or(BEGIN);
+            Region {
+                line: first.line,
+                col: first.col,
+                end_line: last.end_line,
+                end_col: last.end_col,
+            }
+        }
+        None => first,
+    }
+}
+
 // what the header of a buffer tells, by its page
 fn head<'a>(base: &'a Base, named: &'a Named, page: &Page, message: Message, ev: u64) -> Head<'a>
     requires over { IsOver base.now.contents.spec base.now.height named.now.buffer }
@@ -28,14 +88,14 @@ fn head<'a>(base: &'a Base, named: &'a Named, page: &Page, message: Message, ev:
 {
     let buffer = &named.buffer;
     buffer.facts();
-    let n = buffer.selected();
-    let phylum = buffer.terms().phylum(n);
+    let phylum = buffer.terms().phylum(buffer.selected());
     Head {
         name: named.name.as_slice(),
-        region: page.region(n).unwrap_or(BEGIN),
+        region: selected_region(buffer, page),
         phylum: item(base.spec().phyla.as_slice(), phylum.number as usize)
             .name
             .as_slice(),
+        count: buffer.count(),
         top: buffer.top(),
         ev,
         message,

@@ -1,17 +1,16 @@
 // Commands in the current buffer.
-ghost use Rattle.std.specs.Prelude.{◌≡◌, [], IfOk, OnErr};
+ghost use Rattle.std.specs.Prelude.{◌≡◌, [], IfOk, IsTrue, OnErr};
 ghost use Rattle.sg_eval.specs.Journal.{now_of, total_of};
 ghost use Rattle.sg_editor.specs.Ask.{AreReaders, Readers, in_current, tells};
 ghost use Rattle.sg_editor.specs.Editing.{IsKept, session_in};
-ghost use Rattle.sg_editor.specs.Steps.{Took, AreSome};
+ghost use Rattle.sg_editor.specs.Steps.{Took, AreSome, NotedHere, is_turn};
 
 use crate::base::Base;
 use crate::desk::Desk;
 use sg_commands::{Tools, turn};
 use sg_eval::Journal;
 use sg_kinds::memory::NoMemory;
-use sg_screen::Message;
-use sg_script::Command;
+use sg_script::{Command, Message};
 
 impl Desk {
     /// A command in the current buffer.
@@ -29,6 +28,8 @@ impl Desk {
         ensures some { (r : Readers) → AreReaders base.now.contents.spec r → OnErr result (AreSome
             base.now.contents.spec (in_current base.now.contents.spec base.now.height r (session_in self.old)
             command.now self.old.current) (now_of journal.new)) }
+        ensures nodes { (r : Readers) → AreReaders base.now.contents.spec r
+            → OnErr result (NotedHere r self.old command.now (now_of journal.new)) }
         ensures same { OnErr result (session_in self.new ≡ session_in self.old) }
         ensures kept { IsKept base.now.contents.spec base.now.height self.new }
         ensures total { total_of journal.new ≡ total_of journal.old }
@@ -72,6 +73,8 @@ impl Desk {
         ensures some { (r : Readers) → AreReaders base.now.contents.spec r → OnErr result (AreSome
             base.now.contents.spec (tells base.now.contents.spec base.now.height r (session_in self.old) command.now)
             (now_of journal.new)) }
+        ensures nodes { (r : Readers) → AreReaders base.now.contents.spec r → IsTrue (is_turn command.now)
+            → OnErr result (NotedHere r self.old command.now (now_of journal.new)) }
         ensures same { OnErr result (session_in self.new ≡ session_in self.old) }
         ensures kept { IsKept base.now.contents.spec base.now.height self.new }
         ensures total { total_of journal.new ≡ total_of journal.old }

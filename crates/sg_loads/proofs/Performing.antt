@@ -5,10 +5,10 @@ use Rattle.sg_kinds.specs.declared.spec.Spec.{Spec}
 use Rattle.sg_eval.specs.Journal.{now_of, total_of, counted}
 use Rattle.sg_eval.specs.declared.journal.Instance.{Instance}
 use Rattle.sg_eval.specs.declared.journal.Journal.{Journal}
-use Rattle.sg_replies.specs.Calls.{ShelfState}
+use Rattle.sg_outside.specs.Shelf.{ShelfState}
 use Rattle.sg_replies.specs.declared.reply.Reply.{Reply}
 use Rattle.sg_script.specs.declared.command.Command.{Command}
-use Rattle.sg_screen.specs.declared.message.Message.{Message}
+use Rattle.sg_script.specs.declared.message.Message.{Message}
 use Rattle.sg_editor.specs.Session.{Session}
 use Rattle.sg_editor.specs.Ask.{Readers, Step, Ask, Tells, ask, asks_nothing}
 use Rattle.sg_editor.specs.Editing.{Editing, Setting, spec_in, height_in, session_of}

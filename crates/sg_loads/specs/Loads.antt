@@ -6,7 +6,7 @@ use Rattle.sg_kinds.specs.Values.{Bytes}
 use Rattle.sg_kinds.specs.Terms.{nodes_of}
 use Rattle.sg_kinds.specs.declared.spec.Spec.{Spec}
 use Rattle.sg_script.specs.declared.command.Command.{Command}
-use Rattle.sg_screen.specs.declared.message.Message.TheVariants.{Fine}
+use Rattle.sg_script.specs.declared.message.Message.TheVariants.{Fine}
 use Rattle.sg_states.specs.States.{State}
 use Rattle.sg_shown.specs.Shown.{shown}
 use Rattle.sg_workload.specs.Workload.{workload}

@@ -14,10 +14,8 @@ use Rattle.sg_edits.proofs.Shaped.{phylum_low}
 use Rattle.sg_states.specs.States.{selected_place}
 use Rattle.sg_buffer.specs.Held.{state_of}
 use Rattle.sg_commands.specs.Turns.{selected_term}
-use Rattle.sg_unparse.specs.Page.{Region as RegionOf, region_of}
 use Rattle.sg_unparse.specs.Sheet.{told}
-use Rattle.sg_editor.specs.Screen.{page_begin, shown_in}
-use Rattle.sg_editor.proofs.Printed.{region_shown, told_or}
+use Rattle.sg_editor.specs.Screen.{region_of_run, shown_in}
 use Rattle.sg_editor.proofs.screens.head.Goals as goal
 
 pub item-requires : goal.item-requires
@@ -25,10 +23,10 @@ item-requires c =
     let b = c.args.named.now.buffer in
     let st = state_of b in
     let spec = c.args.base.now.contents.spec in
-    let s = part_held b.grove c.facts.ensures.grove (selected_place st) c.selected-n.result b.root st.term c.selected-n.ensures.place c.facts.ensures.whole.holds in
+    let s = part_held b.grove c.facts.ensures.grove (selected_place st) c.selected.result b.root st.term c.selected.ensures.place c.facts.ensures.whole.holds in
     let fits : Fits b.grove.spec s.0 c.phylum-phylum.result =
     subst (λ (g : Grove). Fits g.spec s.0 c.phylum-phylum.result) c.terms.ensures
-    (c.phylum-phylum.ensures.term s.0 (subst (λ (g : Grove). Holds g c.selected-n.result s.0) (sym c.terms.ensures) s.1)) in
+    (c.phylum-phylum.ensures.term s.0 (subst (λ (g : Grove). Holds g c.selected.result s.0) (sym c.terms.ensures) s.1)) in
     let low = phylum_low spec c.spec.ensures.sound.shapes s.0 c.phylum-phylum.result (subst (λ (sp : Spec). Fits sp s.0 c.phylum-phylum.result) c.requires.over.spec_is fits) in
     subst (λ (xs : List Phylum). c.phylum.inside.number < length xs) (sym (c.as_slice-2.ensures ∙ ap (λ (sp : Spec). sp.phyla) c.spec.ensures.spec))
     (subst (λ (p : ℕ). p < length spec.phyla) (sym c.phylum.view_is) low)
@@ -39,10 +37,10 @@ returns c =
     let st = state_of b in
     let u = selected_place st in
     let spec = c.args.base.now.contents.spec in
-    let s = part_held b.grove c.facts.ensures.grove u c.selected-n.result b.root st.term c.selected-n.ensures.place c.facts.ensures.whole.holds in
+    let s = part_held b.grove c.facts.ensures.grove u c.selected.result b.root st.term c.selected.ensures.place c.facts.ensures.whole.holds in
     let fits : Fits b.grove.spec s.0 c.phylum-phylum.result =
     subst (λ (g : Grove). Fits g.spec s.0 c.phylum-phylum.result) c.terms.ensures
-    (c.phylum-phylum.ensures.term s.0 (subst (λ (g : Grove). Holds g c.selected-n.result s.0) (sym c.terms.ensures) s.1)) in
+    (c.phylum-phylum.ensures.term s.0 (subst (λ (g : Grove). Holds g c.selected.result s.0) (sym c.terms.ensures) s.1)) in
     let number : c.phylum.inside.number ≡ phylum_in spec (selected_term st) =
     c.phylum.view_is ∙ sym (fits_phylum spec s.0 c.phylum-phylum.result (subst (λ (sp : Spec). Fits sp s.0 c.phylum-phylum.result) c.requires.over.spec_is fits))
     ∙ ap (phylum_in spec) (sym (ap (λ (o : Option Term). unwrap_or o st.term) s.2)) in
@@ -50,7 +48,6 @@ returns c =
     let name : c.as_slice-3.result.now ≡ phylum_name spec.phyla (phylum_in spec (selected_term st)) =
     c.as_slice-3.ensures ∙ sym (ap (λ (o : Option Phylum). unwrap_or (option_map (λ (x : Phylum). x.name) o) []) c.item.ensures)
     ∙ (λ i. phylum_name (phyla i) (number i)) in
-    let region : told c.unwrap_or.result ≡ unwrap_or (region_of (shown_in spec st) u) page_begin =
-    ap told c.unwrap_or.ensures ∙ told_or c.region.result
-    ∙ ap (λ (o : Option RegionOf). unwrap_or o page_begin) (c.region.ensures ∙ region_shown spec b c.facts.ensures c.requires.over.spec_is c.args.page.now c.requires.page c.selected-n.result c.selected-n.ensures.place) in
-    λ i. record { name = c.as_slice.ensures i; region = region i; phylum = name i; top = c.top.ensures i; ev = c.args.ev; message = c.args.message }
+    let region : told c.selected_region.result ≡ region_of_run (shown_in spec st) u st.spot.selection.count =
+    c.selected_region.ensures ∙ ap (λ (sp : Spec). region_of_run (shown_in sp st) u st.spot.selection.count) c.requires.over.spec_is in
+    λ i. record { name = c.as_slice.ensures i; region = region i; phylum = name i; count = c.count.ensures i; top = c.top.ensures i; ev = c.args.ev; message = c.args.message }

@@ -1,7 +1,7 @@
 use Rattle.std.specs.Prelude.{◌≡◌, [], ◌∷◌, ◌++◌, length, Some}
 use Rattle.std.proofs.Common.{sym, ap, subst, arith}
 use Rattle.sg_eval.specs.Journal.{now_of}
-use Rattle.sg_screen.specs.declared.message.Message.TheVariants as message
+use Rattle.sg_script.specs.declared.message.Message.TheVariants as message
 use Rattle.sg_editor.specs.Ask.{opens}
 use Rattle.sg_editor.specs.Editing.{IsKept, Kept, session_in}
 use Rattle.sg_editor.specs.Steps.{Took}

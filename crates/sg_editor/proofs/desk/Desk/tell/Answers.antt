@@ -1,11 +1,12 @@
-use Rattle.std.specs.Prelude.{IfOk, OnErr}
+use Rattle.std.specs.Prelude.{◌≡◌, IfOk, OnErr, true}
 use Rattle.std.proofs.Common.{sym, subst}
+use Rattle.std.proofs.lemmas.Bool.{false≢true}
 use Rattle.sg_kinds.specs.Values.{Bytes}
 use Rattle.sg_eval.specs.Journal.{now_of}
 use Rattle.sg_script.specs.declared.command.Command.{Command}
 use Rattle.sg_editor.specs.Ask.{news, tells}
 use Rattle.sg_editor.specs.Editing.{session_in}
-use Rattle.sg_editor.specs.Steps.{AreSome, Took}
+use Rattle.sg_editor.specs.Steps.{AreSome, Took, is_turn}
 use Rattle.sg_editor.proofs.desk.Desk.tell.Goals as goal
 
 pub returns-in-New-clause-took : goal.returns-in-New-clause-took
@@ -27,3 +28,6 @@ returns-in-New-clause-some c = λ r right.
 
 pub returns-in-Switch-clause-kept : goal.returns-in-Switch-clause-kept
 returns-in-Switch-clause-kept c = c.switch.ensures.kept c.args.base.now.contents.spec c.args.base.now.height c.requires.kept
+
+pub returns-in-New-clause-nodes : goal.returns-in-New-clause-nodes
+returns-in-New-clause-nodes c = λ r right here. absurd (false≢true (subst (λ (x : Command). is_turn x ≡ true) c.in-New.is here))

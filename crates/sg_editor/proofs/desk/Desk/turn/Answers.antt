@@ -9,9 +9,9 @@ use Rattle.sg_commands.specs.Turn.{AreReads}
 use Rattle.sg_commands.specs.Typing.{IsTyping}
 use Rattle.sg_editor.specs.Ask.{in_current}
 use Rattle.sg_editor.specs.Editing.{IsKept, Kept, session_in}
-use Rattle.sg_editor.specs.Steps.{AreSome, Took}
+use Rattle.sg_editor.specs.Steps.{AreSome, NotedHere, Took}
 use Rattle.sg_editor.proofs.Stays.{after_kept, over_at}
-use Rattle.sg_editor.proofs.Taken.{after, turn_took, turn_some, turn_same}
+use Rattle.sg_editor.proofs.Taken.{after, turn_noted, turn_took, turn_some, turn_same}
 use Rattle.sg_editor.proofs.desk.Desk.turn.Goals as goal
 
 pub returns-clause-took : goal.returns-clause-took
@@ -55,6 +55,27 @@ returns-clause-some c = λ r right.
     subst (λ (x : Kept). OnErr c.turn-message.result (AreSome spec (in_current spec height r (session_in x) c.args.command.now x.current) now)) c.self.view_is
     (turn_some spec k i b here at height r c.args.command.now over h clip was now c.requires.begun b.buffer c.turn-message.result
     (c.turn-message.ensures.gave_up r.text reads) (c.turn-message.ensures.fewer r.text reads c.requires.begun))
+
+pub returns-clause-nodes : goal.returns-clause-nodes
+returns-clause-nodes c = λ r right.
+    let spec = c.args.base.now.contents.spec in
+    let height = c.args.base.now.height in
+    let k : Kept = record { buffers = c.self.inside.named.items; current = c.self.inside.current; clip = c.self.inside.clip; loads = c.self.inside.loads } in
+    let i = c.in-Some.k in
+    let b = c.index_mut-named.result.now in
+    let h = c.turn-message.new.buffer in
+    let clip = c.turn-message.new.clip in
+    let kept : IsKept spec height k = subst (IsKept spec height) (sym c.self.view_is) c.requires.kept in
+    let at : k.current ≡ Some i = c.in-Some.is in
+    let low : i < length k.buffers = subst (λ (o : Option ℕ). MatchOption o ⊤ (λ j. j < length k.buffers)) at kept.current in
+    let here : slice_get k.buffers i ≡ Some b = slice_get_read k.buffers (length k.buffers) i b refl low c.index_mut-named.ensures.value in
+    let over = over_at spec height k kept i b here in
+    let was = now_of c.args.journal.now in
+    let now = now_of c.turn-message.new.journal in
+    let reads : AreReads b.buffer.grove.spec r.text = subst (λ (sp : Spec). AreReads sp r.text) (sym over.spec_is) right.0 in
+    subst (λ (x : Kept). OnErr c.turn-message.result (NotedHere r x c.args.command.now now)) c.self.view_is
+    (turn_noted spec k i b here at height r c.args.command.now over h clip was now c.requires.begun b.buffer c.turn-message.result refl
+    (c.turn-message.ensures.gave_up r.text reads))
 
 pub returns-clause-same : goal.returns-clause-same
 returns-clause-same c =

@@ -2,10 +2,9 @@ use Rattle.std.specs.Prelude.{◌≡◌, ◌++◌, ◌∷◌, [], List, IfOk, On
 use Rattle.std.proofs.Common.{refl, sym, ap, ◌∙◌, subst}
 use Rattle.sg_kinds.specs.Values.{Bytes}
 use Rattle.sg_eval.specs.Journal.{now_of}
-use Rattle.sg_replies.specs.Calls.{shelf_state}
 use Rattle.sg_replies.specs.Requests.{Fetch}
 use Rattle.sg_replies.specs.declared.reply.Reply.{Reply}
-use Rattle.sg_screen.specs.declared.message.Message.{Message}
+use Rattle.sg_script.specs.declared.message.Message.{Message}
 use Rattle.sg_editor.specs.Ask.{AreReaders, barred, fetched, loads, says}
 use Rattle.sg_editor.specs.Editing.{Editing, height_in, session_in, spec_in}
 use Rattle.sg_editor.specs.Session.{with_load}
@@ -21,7 +20,7 @@ returns-in-Some-clause-ok g c = λ r given.
     let name = c.args.name.now in
     let file = c.args.file.now in
     let before = c.args.replies.now.items in
-    let old = shelf_state (g.S.Shelf.files c.args.shelf.now) (g.S.Shelf.faults c.args.shelf.now) (g.S.Shelf.calls c.args.shelf.now) in
+    let old = g.S.Shelf.state c.args.shelf.now in
     let now = now_of c.args.journal.now in
     let why = c.in-Some.why in
     let barred_why : barred name s ≡ Some why = sym (c.barred.ensures ∙ ap (λ (n : Bytes). barred n s) c.as_slice.ensures) ∙ c.in-Some.is in
@@ -36,9 +35,9 @@ returns-in_err-reply-clause-err g c = λ r given.
     let name = c.args.name.now in
     let file = c.args.file.now in
     let before = c.args.replies.now.items in
-    let old = shelf_state (g.S.Shelf.files c.args.shelf.now) (g.S.Shelf.faults c.args.shelf.now) (g.S.Shelf.calls c.args.shelf.now) in
+    let old = g.S.Shelf.state c.args.shelf.now in
     let free : barred name s ≡ None = sym (c.barred.ensures ∙ ap (λ (n : Bytes). barred n s) c.as_slice.ensures) ∙ c.in_default.is in
-    let new = shelf_state (g.S.Shelf.files c.fetch.new.shelf) (g.S.Shelf.faults c.fetch.new.shelf) (g.S.Shelf.calls c.fetch.new.shelf) in
+    let new = g.S.Shelf.state c.fetch.new.shelf in
     let next = fetched (spec_in e) (height_in e) r name (with_load s) in
     let now = now_of c.args.journal.now in
     let after = c.fetch.new.replies.items in
@@ -54,9 +53,9 @@ returns-clause-ok g c = λ r given.
     let name = c.args.name.now in
     let file = c.args.file.now in
     let before = c.args.replies.now.items in
-    let old = shelf_state (g.S.Shelf.files c.args.shelf.now) (g.S.Shelf.faults c.args.shelf.now) (g.S.Shelf.calls c.args.shelf.now) in
+    let old = g.S.Shelf.state c.args.shelf.now in
     let free : barred name s ≡ None = sym (c.barred.ensures ∙ ap (λ (n : Bytes). barred n s) c.as_slice.ensures) ∙ c.in_default.is in
-    let new = shelf_state (g.S.Shelf.files c.fetch.new.shelf) (g.S.Shelf.faults c.fetch.new.shelf) (g.S.Shelf.calls c.fetch.new.shelf) in
+    let new = g.S.Shelf.state c.fetch.new.shelf in
     let next = fetched (spec_in e) (height_in e) r name (with_load s) in
     let now = now_of c.take_in-result.new.journal in
     let after = c.add.new.replies.items in
@@ -76,9 +75,9 @@ returns-clause-err g c = λ r given.
     let name = c.args.name.now in
     let file = c.args.file.now in
     let before = c.args.replies.now.items in
-    let old = shelf_state (g.S.Shelf.files c.args.shelf.now) (g.S.Shelf.faults c.args.shelf.now) (g.S.Shelf.calls c.args.shelf.now) in
+    let old = g.S.Shelf.state c.args.shelf.now in
     let free : barred name s ≡ None = sym (c.barred.ensures ∙ ap (λ (n : Bytes). barred n s) c.as_slice.ensures) ∙ c.in_default.is in
-    let new = shelf_state (g.S.Shelf.files c.fetch.new.shelf) (g.S.Shelf.faults c.fetch.new.shelf) (g.S.Shelf.calls c.fetch.new.shelf) in
+    let new = g.S.Shelf.state c.fetch.new.shelf in
     let next = fetched (spec_in e) (height_in e) r name (with_load s) in
     let now = now_of c.take_in-result.new.journal in
     let after = c.add.new.replies.items in

@@ -1,6 +1,5 @@
 use Rattle.std.proofs.Common.{subst}
 use Rattle.sg_eval.specs.Journal.{now_of}
-use Rattle.sg_replies.specs.Calls.{shelf_state}
 use Rattle.sg_editor.specs.Ask.{AreReaders, ask}
 use Rattle.sg_editor.specs.Editing.{Setting, height_in, session_in, session_of, spec_in}
 use Rattle.sg_editor.proofs.Bound.{steps_few}
@@ -24,9 +23,12 @@ returns-clause-most g c =
     let r = c.facts.ensures.readers.0 in
     let right : AreReaders (spec_in c.args.self.now) r =
     subst (λ (s : Setting). AreReaders s.contents.spec r) c.act-message.ensures.setting c.facts.ensures.readers.1 in
-    let old = shelf_state (g.S.Shelf.files c.args.shelf.now) (g.S.Shelf.faults c.args.shelf.now) (g.S.Shelf.calls c.args.shelf.now) in
-    let new = shelf_state (g.S.Shelf.files c.act-message.new.shelf) (g.S.Shelf.faults c.act-message.new.shelf) (g.S.Shelf.calls c.act-message.new.shelf) in
+    let old = g.S.Shelf.state c.args.shelf.now in
+    let new = g.S.Shelf.state c.act-message.new.shelf in
     steps_few f c.facts.ensures.sound c.facts.ensures.kept c.facts.ensures.small
     (ask (spec_in c.args.self.now) (height_in c.args.self.now) r (session_in c.args.self.now.kept) c.args.command.now)
     (now_of c.act-message.new.journal) c.args.replies.now.items c.act-message.new.replies.items old new c.act-message.result
     (c.act-message.ensures.ok r right)
+
+pub returns-clause-nodes : goal.returns-clause-nodes
+returns-clause-nodes g c = c.act-message.ensures.nodes
