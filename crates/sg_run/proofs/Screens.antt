@@ -1,6 +1,6 @@
 -- The block of a command that an editor showed
 use Rattle.std.proofs.Common.{◌≡◌, ℕ, List, ◌∷◌, subst, sym, ap, ◌∙◌}
-use Rattle.sg_screen.specs.declared.message.Message.{Message}
+use Rattle.sg_script.specs.declared.message.Message.{Message}
 use Rattle.sg_script.specs.declared.command.Command.{Command}
 use Rattle.sg_replies.specs.declared.reply.Reply.{Reply}
 use Rattle.sg_editor.specs.Session as editor

@@ -1,7 +1,6 @@
 // The text that ends a run.
 ghost use Rattle.std.specs.Prelude.{◌≡◌};
 ghost use Rattle.sg_told.specs.Statuses.{IsEnd, ended};
-ghost use Rattle.sg_told.specs.World.{sink_state};
 ghost use Rattle.sg_told.specs.Parts.{Finished};
 
 use crate::Status;
@@ -17,11 +16,20 @@ pub fn end(status: Status) -> Result<(), Status>
     }
 }
 
+/// The status of a run that is over.
+pub fn status_of(over: Result<(), Status>) -> Status
+    ensures { result ≡ ended over }
+{
+    match over {
+        Ok(()) => Status::Done,
+        Err(status) => status,
+    }
+}
+
 /// Puts the text that ends the run with that status. A put that is refused gives its own status in its place.
 pub fn finish<K: Sink>(sink: &mut K, text: &[u8], status: Status) -> Status
     requires { IsEnd status }
-    ensures { Finished status text.now (sink_state (K.written sink.old) (K.faults sink.old) (K.puts sink.old)) result
-        (sink_state (K.written sink.new) (K.faults sink.new) (K.puts sink.new)) }
+    ensures { Finished status text.now (K.state sink.old) result (K.state sink.new) }
 {
     match sink.put(text) {
         Ok(()) => status,

@@ -5,6 +5,7 @@
 mod finishing;
 mod opening;
 mod playing;
+mod reports;
 mod running;
 mod scripts;
 mod sure;
@@ -13,4 +14,4 @@ mod workloads;
 
 pub use running::{Outcome, run};
 pub use sg_told::Status;
-pub use sure::run_surely;
+pub use sure::{run_surely, surely_says};

@@ -2,18 +2,22 @@
 ghost use Rattle.std.specs.Prelude.{◌≡◌, ◌≢◌, ◌<◌, ◌↔◌, ℕ, List, [], vec_len, vec_capacity, IsTrue, IfOk, IfErr, OnOk};
 ghost use Rattle.sg_kinds.specs.declared.spec.Spec.{Spec};
 ghost use Rattle.sg_replies.specs.declared.reply.Reply.{Reply};
-ghost use Rattle.sg_replies.specs.Calls.{ShelfState, shelf_state, Replied};
+ghost use Rattle.sg_outside.specs.Shelf.{ShelfState};
+ghost use Rattle.sg_replies.specs.Calls.{Replied};
+ghost use Rattle.sg_replies.specs.Requests.Request.{Fetch};
 ghost use Rattle.sg_load.specs.Only.{IsTheVerdict};
 ghost use Rattle.sg_load.specs.Verdict.{Verdict, IsVerdict};
 ghost use Rattle.sg_load.specs.Verdict.Verdict.{Refused, Accepted};
 ghost use Rattle.sg_editor.specs.Ask.{Readers, AreReaders};
 ghost use Rattle.sg_told.specs.Told.{Told, asked};
-ghost use Rattle.sg_told.specs.Output.{fault_told, judged, opened, whole_file, with_spec};
+ghost use Rattle.sg_told.specs.Output.{fault_told, judged, opened, with_spec};
 ghost use Rattle.sg_told.specs.Opening.{IsQuiet, IsOpened, IsKnown, IsKnownOf, IsVerdictOf, IsAdmitted};
 ghost use Rattle.sg_told.specs.Causes.{IsReadOf};
 ghost use Rattle.sg_told.specs.Reading.{IsVerdictIn};
-ghost use Rattle.sg_told.specs.Parts.{Ends, Played};
-ghost use Rattle.sg_told.specs.World.{SinkState, world, world_of, sink_state};
+ghost use Rattle.sg_told.specs.Ran.{Ends};
+ghost use Rattle.sg_told.specs.Parts.{Played};
+ghost use Rattle.sg_outside.specs.Sink.{SinkState};
+ghost use Rattle.sg_told.specs.World.{world};
 
 use crate::Status;
 use crate::finishing::finish;
@@ -27,29 +31,28 @@ use std::alloc::Global;
 
 const READ_FAULT: &[u8] = b"read fault specification\n";
 
-// The most bytes that are fetched: one more than a specification or a script may have.
-const MOST: usize = 1_048_577;
+/// The most bytes that are fetched: one more than a specification or a script may have.
+pub const MOST: usize = 1_048_577;
 
-/// Fetches the file of that name by one call of the shelf, and makes room for the reply among the others. An error says
-/// that there was no memory.
+/// Fetches so many bytes of the file of that name by one call of the shelf, and makes room for the reply among the
+/// others. An error says that there was no memory.
 pub fn fetch<S: Shelf>(
     alloc: Global,
     name: &str,
+    most: usize,
     shelf: &mut S,
     replies: &mut Vec<Reply>,
 ) -> Result<Reply, Status>
     ensures room { OnOk result (vec_len replies.new < vec_capacity replies.new) }
     ensures same { replies.new.items ≡ replies.old.items }
-    ensures replied { IfOk result (λ reply. Replied (whole_file name.now) reply
-        (shelf_state (S.files shelf.old) (S.faults shelf.old) (S.calls shelf.old))
-        (shelf_state (S.files shelf.new) (S.faults shelf.new) (S.calls shelf.new))) }
+    ensures replied { IfOk result (λ reply. Replied (Fetch name.now most) reply (S.state shelf.old)
+        (S.state shelf.new)) }
     ensures played { IfErr result (λ status. (next : Reply → List Reply → Told) (sink : SinkState) (n : ℕ)
-        → Played (asked (whole_file name.now) next) replies.old.items replies.new.items status
-        (world (shelf_state (S.files shelf.old) (S.faults shelf.old) (S.calls shelf.old)) sink n)
-        (world (shelf_state (S.files shelf.new) (S.faults shelf.new) (S.calls shelf.new)) sink n)) }
+        → Played (asked (Fetch name.now most) next) replies.old.items replies.new.items status
+        (world (S.state shelf.old) sink n) (world (S.state shelf.new) sink n)) }
 {
     replies.reserve(1)?;
-    let reply = fetched(alloc, shelf, name, MOST)?;
+    let reply = fetched(alloc, shelf, name, most)?;
     Ok(reply)
 }
 
@@ -62,9 +65,8 @@ pub fn is_memory(fault: &SpecFault) -> bool
 
 /// Ends the run by the line of a static fault.
 pub fn refuse<K: Sink>(alloc: Global, fault: &SpecFault, sink: &mut K) -> Status
-    ensures { (shelf : ShelfState) (n : ℕ) → Ends (world shelf
-        (sink_state (K.written sink.old) (K.faults sink.old) (K.puts sink.old)) n) (fault_told fault.now) [] result
-        (world shelf (sink_state (K.written sink.new) (K.faults sink.new) (K.puts sink.new)) n) }
+    ensures { (shelf : ShelfState) (n : ℕ) → Ends (world shelf (K.state sink.old) n) (fault_told fault.now) [] result
+        (world shelf (K.state sink.new) n) }
 {
     match fault_line(alloc, fault) {
         Ok(line) => finish(sink, line.as_slice(), Status::SpecFault),
@@ -75,13 +77,10 @@ pub fn refuse<K: Sink>(alloc: Global, fault: &SpecFault, sink: &mut K) -> Status
 /// Ends the run by what there is in place of a specification: want of memory, or a static fault.
 fn end_by<K: Sink>(alloc: Global, bytes: &[u8], fault: &SpecFault, sink: &mut K) -> Status
     requires { fault.now ≢ SpecFault.NoMemory → IsTheVerdict bytes.now (Refused fault.now) }
-    ensures known { IsKnown bytes.now result (sink_state (K.written sink.old) (K.faults sink.old) (K.puts sink.old))
-        (sink_state (K.written sink.new) (K.faults sink.new) (K.puts sink.new)) }
+    ensures known { IsKnown bytes.now result (K.state sink.old) (K.state sink.new) }
     ensures ended { (v : Verdict) → IsVerdict bytes.now v → (next : Spec → Told)
         → ((spec : Spec) → IsQuiet (next spec)) → (shelf : ShelfState) (n : ℕ)
-        → Ends (world shelf (sink_state (K.written sink.old) (K.faults sink.old) (K.puts sink.old)) n)
-        (judged v next) [] result
-        (world shelf (sink_state (K.written sink.new) (K.faults sink.new) (K.puts sink.new)) n) }
+        → Ends (world shelf (K.state sink.old) n) (judged v next) [] result (world shelf (K.state sink.new) n) }
 {
     if is_memory(fault) {
         return Status::Memory;
@@ -93,16 +92,11 @@ fn end_by<K: Sink>(alloc: Global, bytes: &[u8], fault: &SpecFault, sink: &mut K)
 fn judge<K: Sink>(alloc: Global, bytes: &[u8], sink: &mut K) -> Result<Loaded, Status>
     ensures accepted { IfOk result (λ loaded. IsTheVerdict bytes.now (Accepted loaded.spec)) }
     ensures readers { IfOk result (λ loaded. (r : Readers) × AreReaders loaded.spec r) }
-    ensures quiet { IfOk result (λ _. sink_state (K.written sink.new) (K.faults sink.new) (K.puts sink.new)
-        ≡ sink_state (K.written sink.old) (K.faults sink.old) (K.puts sink.old)) }
-    ensures known { IfErr result (λ status. IsKnown bytes.now status
-        (sink_state (K.written sink.old) (K.faults sink.old) (K.puts sink.old))
-        (sink_state (K.written sink.new) (K.faults sink.new) (K.puts sink.new))) }
+    ensures quiet { IfOk result (λ _. K.state sink.new ≡ K.state sink.old) }
+    ensures known { IfErr result (λ status. IsKnown bytes.now status (K.state sink.old) (K.state sink.new)) }
     ensures ended { IfErr result (λ status. (v : Verdict) → IsVerdict bytes.now v → (next : Spec → Told)
         → ((spec : Spec) → IsQuiet (next spec)) → (shelf : ShelfState) (n : ℕ)
-        → Ends (world shelf (sink_state (K.written sink.old) (K.faults sink.old) (K.puts sink.old)) n)
-        (judged v next) [] status
-        (world shelf (sink_state (K.written sink.new) (K.faults sink.new) (K.puts sink.new)) n)) }
+        → Ends (world shelf (K.state sink.old) n) (judged v next) [] status (world shelf (K.state sink.new) n)) }
 {
     match load(alloc, bytes) {
         Ok(loaded) => {
@@ -116,16 +110,12 @@ fn judge<K: Sink>(alloc: Global, bytes: &[u8], sink: &mut K) -> Result<Loaded, S
 /// Loads the specification that a reply brought. An error says with which status the run is over.
 fn judge_reply<K: Sink>(alloc: Global, reply: &Reply, sink: &mut K) -> Result<Loaded, Status>
     ensures admitted { IfOk result (λ loaded. IsAdmitted reply.now loaded.spec) }
-    ensures quiet { IfOk result (λ _. sink_state (K.written sink.new) (K.faults sink.new) (K.puts sink.new)
-        ≡ sink_state (K.written sink.old) (K.faults sink.old) (K.puts sink.old)) }
-    ensures known { IfErr result (λ status. IsKnownOf reply.now status
-        (sink_state (K.written sink.old) (K.faults sink.old) (K.puts sink.old))
-        (sink_state (K.written sink.new) (K.faults sink.new) (K.puts sink.new))) }
+    ensures quiet { IfOk result (λ _. K.state sink.new ≡ K.state sink.old) }
+    ensures known { IfErr result (λ status. IsKnownOf reply.now status (K.state sink.old) (K.state sink.new)) }
     ensures ended { IfErr result (λ status. (v : Verdict) → IsVerdictOf reply.now v
         → (next : Spec → List Reply → Told) → ((spec : Spec) → IsQuiet (next spec [])) → (shelf : ShelfState) (n : ℕ)
-        → Ends (world shelf (sink_state (K.written sink.old) (K.faults sink.old) (K.puts sink.old)) n)
-        (opened next v reply.now []) [] status
-        (world shelf (sink_state (K.written sink.new) (K.faults sink.new) (K.puts sink.new)) n)) }
+        → Ends (world shelf (K.state sink.old) n) (opened next v reply.now []) [] status
+        (world shelf (K.state sink.new) n)) }
 {
     match reply {
         Reply::Fetched(text) => judge(alloc, text.as_slice(), sink),
@@ -143,21 +133,18 @@ pub fn open<S: Shelf, K: Sink>(
     replies: &mut Vec<Reply>,
 ) -> Result<Loaded, Status>
     requires none { replies.old.items ≡ [] }
-    ensures opened { IfOk result (λ loaded. IsOpened name.now loaded.spec replies.new.items
-        (shelf_state (S.files shelf.old) (S.faults shelf.old) (S.calls shelf.old))
-        (shelf_state (S.files shelf.new) (S.faults shelf.new) (S.calls shelf.new))) }
-    ensures quiet { IfOk result (λ _. sink_state (K.written sink.new) (K.faults sink.new) (K.puts sink.new)
-        ≡ sink_state (K.written sink.old) (K.faults sink.old) (K.puts sink.old)) }
+    ensures opened { IfOk result (λ loaded. IsOpened name.now loaded.spec replies.new.items (S.state shelf.old)
+        (S.state shelf.new)) }
+    ensures quiet { IfOk result (λ _. K.state sink.new ≡ K.state sink.old) }
     ensures known { IfErr result (λ status. (n : ℕ) → IsReadOf name.now
-        (world_of S.files S.faults S.calls shelf.old K.written K.faults K.puts sink.old n) replies.new.items status
-        (world_of S.files S.faults S.calls shelf.new K.written K.faults K.puts sink.new n)) }
+        (world (S.state shelf.old) (K.state sink.old) n) replies.new.items status
+        (world (S.state shelf.new) (K.state sink.new) n)) }
     ensures played { IfErr result (λ status. (v : Verdict) → IsVerdictIn replies.new.items v
         → (next : Spec → List Reply → Told) → ((spec : Spec) → IsQuiet (next spec [])) → (n : ℕ)
         → Played (with_spec next name.now v) [] replies.new.items status
-        (world_of S.files S.faults S.calls shelf.old K.written K.faults K.puts sink.old n)
-        (world_of S.files S.faults S.calls shelf.new K.written K.faults K.puts sink.new n)) }
+        (world (S.state shelf.old) (K.state sink.old) n) (world (S.state shelf.new) (K.state sink.new) n)) }
 {
-    let reply = fetch(alloc, name, shelf, replies)?;
+    let reply = fetch(alloc, name, MOST, shelf, replies)?;
     let loaded = judge_reply(alloc, &reply, sink);
     add(replies, reply);
     loaded

@@ -7,7 +7,7 @@ ghost use Rattle.sg_editor.specs.Session.{start};
 ghost use Rattle.sg_editor.specs.Editing.{spec_in, session_of};
 ghost use Rattle.sg_told.specs.Statuses.{ended};
 ghost use Rattle.sg_told.specs.Session.{desk, session};
-ghost use Rattle.sg_told.specs.World.{world_of};
+ghost use Rattle.sg_told.specs.World.{world};
 ghost use Rattle.sg_told.specs.Parts.{Passed, Played};
 ghost use Rattle.sg_run.specs.DeskView.{desk_in};
 
@@ -33,14 +33,14 @@ fn play<S: Shelf, K: Sink>(
     ensures passed { (r : Readers) → AreReaders (spec_in editor.old) r → OnOk result ((commands : List Command)
         → Passed (session (desk_in editor.old r) (session_of editor.old) (command.now ∷ commands))
         (session (desk_in editor.old r) (session_of editor.new) commands) replies.old.items replies.new.items
-        (world_of S.files S.faults S.calls shelf.old K.written K.faults K.puts sink.old (counted journal.old))
-        (world_of S.files S.faults S.calls shelf.new K.written K.faults K.puts sink.new (counted journal.new))) }
+        (world (S.state shelf.old) (K.state sink.old) (counted journal.old))
+        (world (S.state shelf.new) (K.state sink.new) (counted journal.new))) }
     ensures played { (r : Readers) → AreReaders (spec_in editor.old) r → IfErr result (λ status.
         (commands : List Command)
         → Played (session (desk_in editor.old r) (session_of editor.old) (command.now ∷ commands))
         replies.old.items replies.new.items status
-        (world_of S.files S.faults S.calls shelf.old K.written K.faults K.puts sink.old (counted journal.old))
-        (world_of S.files S.faults S.calls shelf.new K.written K.faults K.puts sink.new (counted journal.new))) }
+        (world (S.state shelf.old) (K.state sink.old) (counted journal.old))
+        (world (S.state shelf.new) (K.state sink.new) (counted journal.new))) }
     ensures kept { (r : Readers) → desk_in editor.new r ≡ desk_in editor.old r }
     ensures most { OnOk result (counted journal.new ≤ counted journal.old + 2 ^ 40) }
 {
@@ -63,8 +63,8 @@ fn perform<S: Shelf, K: Sink>(
     ensures { (r : Readers) → AreReaders (spec_in editor.old) r
         → Played (session (desk_in editor.old r) (session_of editor.old) commands.now)
         replies.old.items replies.new.items (ended result)
-        (world_of S.files S.faults S.calls shelf.old K.written K.faults K.puts sink.old (counted journal.old))
-        (world_of S.files S.faults S.calls shelf.new K.written K.faults K.puts sink.new (counted journal.new)) }
+        (world (S.state shelf.old) (K.state sink.old) (counted journal.old))
+        (world (S.state shelf.new) (K.state sink.new) (counted journal.new)) }
 {
     for command in commands {
         play(editor, command, shelf, sink, journal, replies)?;
@@ -91,8 +91,8 @@ pub fn play_all<S: Shelf, K: Sink>(
     ensures { (r : Readers) → AreReaders loaded.spec r
         → Played (session (desk loaded.spec width height r) start commands.now)
         replies.old.items replies.new.items (ended result)
-        (world_of S.files S.faults S.calls shelf.old K.written K.faults K.puts sink.old (counted journal.old))
-        (world_of S.files S.faults S.calls shelf.new K.written K.faults K.puts sink.new (counted journal.new)) }
+        (world (S.state shelf.old) (K.state sink.old) (counted journal.old))
+        (world (S.state shelf.new) (K.state sink.new) (counted journal.new)) }
 {
     let mut editor = Editor::new(alloc, loaded, width, height)?;
     perform(&mut editor, commands, shelf, sink, journal, replies)

@@ -1,7 +1,7 @@
 // The fetch of the script, and what may be wrong with what it brings.
 ghost use Rattle.std.specs.Prelude.{◌≡◌, ◌≢◌, ◌++◌, ◌∷◌, ◌≤◌, ℕ, List, [], length, IfOk, IfErr, Ok, Err};
 ghost use Rattle.std.specs.Fmt.{decimal};
-ghost use Rattle.sg_replies.specs.Calls.{ShelfState};
+ghost use Rattle.sg_outside.specs.Shelf.{ShelfState};
 ghost use Rattle.sg_replies.specs.declared.reply.Reply.{Reply};
 ghost use Rattle.sg_script.specs.declared.command.Command.{Command};
 ghost use Rattle.sg_script.specs.Script.{script_of};
@@ -9,12 +9,13 @@ ghost use Rattle.sg_told.specs.declared.status.Status.TheVariants.{ScriptFault a
 ghost use Rattle.sg_told.specs.Told.{Told, text};
 ghost use Rattle.sg_told.specs.Output.{scanned, scripted, script_fault_text, with_script};
 ghost use Rattle.sg_told.specs.Opening.{IsQuiet, IsScriptOf};
-ghost use Rattle.sg_told.specs.Parts.{Ends, Passed, Played};
-ghost use Rattle.sg_told.specs.World.{world, world_of, sink_state};
+ghost use Rattle.sg_told.specs.Ran.{Ends};
+ghost use Rattle.sg_told.specs.Parts.{Passed, Played};
+ghost use Rattle.sg_told.specs.World.{world};
 
 use crate::Status;
 use crate::finishing::finish;
-use crate::opening::fetch;
+use crate::opening::{MOST, fetch};
 use sg_kinds::memory::NoMemory;
 use sg_outside::{Shelf, Sink};
 use sg_replies::{Reply, add};
@@ -26,7 +27,7 @@ const READ_FAULT: &[u8] = b"read fault script\n";
 const LONG: &[u8] = b"script long\n";
 
 /// The line of these words and a number.
-fn numbered(alloc: Global, words: &[u8], n: usize) -> Result<Vec<u8>, NoMemory>
+pub fn numbered(alloc: Global, words: &[u8], n: usize) -> Result<Vec<u8>, NoMemory>
     ensures { IfOk result (λ line. line.items ≡ words.now ++ decimal n ++ 10 ∷ []) }
 {
     let mut line = words.to_vec(alloc)?;
@@ -49,10 +50,8 @@ fn fault_line(alloc: Global, fault: &ScriptFault) -> Result<Vec<u8>, NoMemory>
 
 /// Ends the run by the line of a fault of a script.
 fn refuse<K: Sink>(alloc: Global, fault: &ScriptFault, sink: &mut K) -> Status
-    ensures { (shelf : ShelfState) (n : ℕ) → Ends (world shelf
-        (sink_state (K.written sink.old) (K.faults sink.old) (K.puts sink.old)) n)
-        (text ScriptFaultStatus (script_fault_text fault.now)) [] result
-        (world shelf (sink_state (K.written sink.new) (K.faults sink.new) (K.puts sink.new)) n) }
+    ensures { (shelf : ShelfState) (n : ℕ) → Ends (world shelf (K.state sink.old) n)
+        (text ScriptFaultStatus (script_fault_text fault.now)) [] result (world shelf (K.state sink.new) n) }
 {
     match fault_line(alloc, fault) {
         Ok(line) => finish(sink, line.as_slice(), Status::ScriptFault),
@@ -65,9 +64,8 @@ fn end_by<K: Sink>(alloc: Global, bytes: &[u8], fault: &ScriptFault, sink: &mut 
     requires { fault.now ≢ ScriptFault.NoMemory → script_of bytes.now ≡ Err fault.now }
     ensures { (next : List Command → Told) → ((commands : List Command) → IsQuiet (next commands))
         → (shelf : ShelfState) (n : ℕ)
-        → Ends (world shelf (sink_state (K.written sink.old) (K.faults sink.old) (K.puts sink.old)) n)
-        (scanned (script_of bytes.now) next) [] result
-        (world shelf (sink_state (K.written sink.new) (K.faults sink.new) (K.puts sink.new)) n) }
+        → Ends (world shelf (K.state sink.old) n) (scanned (script_of bytes.now) next) [] result
+        (world shelf (K.state sink.new) n) }
 {
     match fault {
         ScriptFault::NoMemory => Status::Memory,
@@ -79,13 +77,11 @@ fn end_by<K: Sink>(alloc: Global, bytes: &[u8], fault: &ScriptFault, sink: &mut 
 fn judge<K: Sink>(alloc: Global, bytes: &[u8], sink: &mut K) -> Result<Vec<Command>, Status>
     ensures read { IfOk result (λ commands. script_of bytes.now ≡ Ok commands.items) }
     ensures few { IfOk result (λ commands. length commands.items ≤ 10000) }
-    ensures quiet { IfOk result (λ _. sink_state (K.written sink.new) (K.faults sink.new) (K.puts sink.new)
-        ≡ sink_state (K.written sink.old) (K.faults sink.old) (K.puts sink.old)) }
+    ensures quiet { IfOk result (λ _. K.state sink.new ≡ K.state sink.old) }
     ensures ended { IfErr result (λ status. (next : List Command → Told)
         → ((commands : List Command) → IsQuiet (next commands)) → (shelf : ShelfState) (n : ℕ)
-        → Ends (world shelf (sink_state (K.written sink.old) (K.faults sink.old) (K.puts sink.old)) n)
-        (scanned (script_of bytes.now) next) [] status
-        (world shelf (sink_state (K.written sink.new) (K.faults sink.new) (K.puts sink.new)) n)) }
+        → Ends (world shelf (K.state sink.old) n) (scanned (script_of bytes.now) next) [] status
+        (world shelf (K.state sink.new) n)) }
 {
     match read(alloc, bytes) {
         Ok(commands) => Ok(commands),
@@ -97,13 +93,11 @@ fn judge<K: Sink>(alloc: Global, bytes: &[u8], sink: &mut K) -> Result<Vec<Comma
 fn judge_reply<K: Sink>(alloc: Global, reply: &Reply, sink: &mut K) -> Result<Vec<Command>, Status>
     ensures read { IfOk result (λ commands. IsScriptOf reply.now commands.items) }
     ensures few { IfOk result (λ commands. length commands.items ≤ 10000) }
-    ensures quiet { IfOk result (λ _. sink_state (K.written sink.new) (K.faults sink.new) (K.puts sink.new)
-        ≡ sink_state (K.written sink.old) (K.faults sink.old) (K.puts sink.old)) }
+    ensures quiet { IfOk result (λ _. K.state sink.new ≡ K.state sink.old) }
     ensures ended { IfErr result (λ status. (next : List Command → List Reply → Told)
         → ((commands : List Command) → IsQuiet (next commands [])) → (shelf : ShelfState) (n : ℕ)
-        → Ends (world shelf (sink_state (K.written sink.old) (K.faults sink.old) (K.puts sink.old)) n)
-        (scripted next reply.now []) [] status
-        (world shelf (sink_state (K.written sink.new) (K.faults sink.new) (K.puts sink.new)) n)) }
+        → Ends (world shelf (K.state sink.old) n) (scripted next reply.now []) [] status
+        (world shelf (K.state sink.new) n)) }
 {
     match reply {
         Reply::Fetched(text) => judge(alloc, text.as_slice(), sink),
@@ -121,16 +115,14 @@ pub fn script<S: Shelf, K: Sink>(
 ) -> Result<Vec<Command>, Status>
     ensures passed { IfOk result (λ commands. (next : List Command → List Reply → Told) (n : ℕ)
         → Passed (with_script next name.now) (next commands.items) replies.old.items replies.new.items
-        (world_of S.files S.faults S.calls shelf.old K.written K.faults K.puts sink.old n)
-        (world_of S.files S.faults S.calls shelf.new K.written K.faults K.puts sink.new n)) }
+        (world (S.state shelf.old) (K.state sink.old) n) (world (S.state shelf.new) (K.state sink.new) n)) }
     ensures few { IfOk result (λ commands. length commands.items ≤ 10000) }
     ensures played { IfErr result (λ status. (next : List Command → List Reply → Told)
         → ((commands : List Command) → IsQuiet (next commands [])) → (n : ℕ)
         → Played (with_script next name.now) replies.old.items replies.new.items status
-        (world_of S.files S.faults S.calls shelf.old K.written K.faults K.puts sink.old n)
-        (world_of S.files S.faults S.calls shelf.new K.written K.faults K.puts sink.new n)) }
+        (world (S.state shelf.old) (K.state sink.old) n) (world (S.state shelf.new) (K.state sink.new) n)) }
 {
-    let reply = fetch(alloc, name, shelf, replies)?;
+    let reply = fetch(alloc, name, MOST, shelf, replies)?;
     let commands = judge_reply(alloc, &reply, sink);
     add(replies, reply);
     commands

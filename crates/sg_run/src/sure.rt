@@ -1,18 +1,20 @@
 // A run over a shelf and a sink that never fail.
-ghost use Rattle.std.specs.Prelude.{◌≡◌, ◌≢◌, ◌<◌, ◌^◌, ◌+◌, ◌++◌, ◌⊎◌, map, sum, length, string_bytes, Contains, IsSome, Some, None};
+ghost use Rattle.std.specs.Prelude.{◌≡◌, ◌≢◌, ◌<◌, ◌^◌, ◌⊎◌, ℕ, List, map, string_bytes, Contains, IsSome, None};
 ghost use Rattle.sg_eval.specs.Journal.{counted};
-ghost use Rattle.sg_outside.specs.Count.{more_answered, raised_by};
+ghost use Rattle.sg_outside.specs.Shelf.KnownFiles.{OrEmpty};
+ghost use Rattle.sg_outside.specs.SureShelf.{UnfailingShelf};
+ghost use Rattle.sg_outside.specs.SureSink.{UnfailingSink};
 ghost use Rattle.sg_replies.specs.declared.reply.Reply.{Reply as AReply};
-ghost use Rattle.sg_replies.specs.Counts.{CallsOrOneMore};
 ghost use Rattle.sg_replies.specs.Requests.{Serves, failure};
-ghost use Rattle.sg_told.specs.Statuses.{IsEnd, IsCut};
+ghost use Rattle.sg_told.specs.declared.status.Status.{Status as AStatus};
+ghost use Rattle.sg_told.specs.Statuses.{IsEnd};
 ghost use Rattle.sg_told.specs.Job.{job};
-ghost use Rattle.sg_told.specs.Told.{joined};
+ghost use Rattle.sg_told.specs.Told.{Told};
 ghost use Rattle.sg_told.specs.Output.{told};
-ghost use Rattle.sg_told.specs.Parts.{Stopped};
+ghost use Rattle.sg_told.specs.Ran.{Ran};
 ghost use Rattle.sg_told.specs.Reading.{Reading, IsRightFor};
-ghost use Rattle.sg_told.specs.Causes.{IsRead, SecondFetched, IsSpecRefused, IsNoScript, IsAccepted};
-ghost use Rattle.sg_run.specs.SureWorld.{sure_world};
+ghost use Rattle.sg_told.specs.Causes.{IsRead, SecondFetched, IsSpecRefused, IsNoScript, IsReportRefused, IsAccepted};
+ghost use Rattle.sg_run.specs.SureWorld.{sure_world, IsSurelyWhole};
 
 use crate::{Outcome, Status, run};
 use sg_eval::Journal;
@@ -30,40 +32,20 @@ pub fn run_surely(
 ) -> Outcome
     requires room { counted journal.old < 2 ^ 60 }
 
-    // What is known of the reading; for each right one the rest follows.
+    // What is known of the reading; for each right one what was written, evaluated, asked and kept, and the status, are
+    // those that are told of it.
     ensures known { IsRead (job (map string_bytes words.now)) (sure_world shelf.old sink.old (counted journal.old))
         result.replies.items result.status (sure_world shelf.new sink.new (counted journal.new)) }
+    ensures ran { (r : Reading) → IsRightFor (job (map string_bytes words.now)) result.replies.items r
+        → Ran (told (map string_bytes words.now) r) (sure_world shelf.old sink.old (counted journal.old))
+        result.replies.items result.status (sure_world shelf.new sink.new (counted journal.new)) }
 
-    // What was written and evaluated, at an end of its own and after want of memory.
-    ensures output { (r : Reading) → IsRightFor (job (map string_bytes words.now)) result.replies.items r
-        → IsEnd result.status → sink.new.written
-        ≡ sink.old.written ++ joined (told (map string_bytes words.now) r result.replies.items).blocks }
-    ensures puts { (r : Reading) → IsRightFor (job (map string_bytes words.now)) result.replies.items r
-        → IsEnd result.status → sink.new.puts
-        ≡ raised_by (length (told (map string_bytes words.now) r result.replies.items).blocks) sink.old.puts }
-    ensures finished { (r : Reading) → IsRightFor (job (map string_bytes words.now)) result.replies.items r
-        → IsEnd result.status
-        → (told (map string_bytes words.now) r result.replies.items).status ≡ Some result.status }
-    ensures evaluated { (r : Reading) → IsRightFor (job (map string_bytes words.now)) result.replies.items r
-        → IsEnd result.status → counted journal.new ≡ counted journal.old + sum
-        (told (map string_bytes words.now) r result.replies.items).evs }
-    ensures cut_short { (r : Reading) → IsRightFor (job (map string_bytes words.now)) result.replies.items r
-        → IsCut result.status → Stopped result.status (sure_world shelf.old sink.old (counted journal.old))
-        (sure_world shelf.new sink.new (counted journal.new)) (told (map string_bytes words.now) r)
-        result.replies.items }
-
-    // The replies, and what they say of the shelf.
-    ensures replies { (r : Reading) → IsRightFor (job (map string_bytes words.now)) result.replies.items r
-        → (told (map string_bytes words.now) r result.replies.items).taken ≡ length result.replies.items }
-    ensures serves { (r : Reading) → IsRightFor (job (map string_bytes words.now)) result.replies.items r
-        → Serves None (told (map string_bytes words.now) r result.replies.items).requests result.replies.items None }
+    // Each reply to a fetch is the front of that file, as it was and as it was kept since, and what was kept is what the
+    // shelf has at the end. None is a failure.
+    ensures files { (r : Reading) → IsRightFor (job (map string_bytes words.now)) result.replies.items r
+        → Serves (OrEmpty shelf.old.files) (told (map string_bytes words.now) r result.replies.items).requests
+        result.replies.items (OrEmpty shelf.new.files) }
     ensures no_failure { (reply : AReply) → Contains result.replies.items reply → failure reply ≡ 0 }
-    ensures calls { result.status ≢ Status.Memory → shelf.new.calls
-        ≡ more_answered (length result.replies.items) shelf.old.calls }
-    ensures calls_or_one_more { (r : Reading) → IsRightFor (job (map string_bytes words.now)) result.replies.items r
-        → CallsOrOneMore (length (told (map string_bytes words.now) r result.replies.items).requests
-        ≡ length result.replies.items + 1)
-        (length result.replies.items) (Some shelf.old.calls) (Some shelf.new.calls) }
 
     // The cause of each status; two do not come.
     ensures usage { result.status ≡ Status.Usage → job (map string_bytes words.now) ≡ None }
@@ -71,6 +53,9 @@ pub fn run_surely(
     ensures spec_fault { result.status ≡ Status.SpecFault
         → IsSpecRefused (job (map string_bytes words.now)) result.replies.items }
     ensures script_fault { result.status ≡ Status.ScriptFault → SecondFetched result.replies.items IsNoScript }
+    ensures report_fault { (r : Reading) → IsRightFor (job (map string_bytes words.now)) result.replies.items r
+        → result.status ≡ Status.ReportFault
+        → IsReportRefused (job (map string_bytes words.now)) r result.replies.items }
     ensures no_sink_fault { result.status ≢ Status.SinkFault }
     ensures complete { IsSome (job (map string_bytes words.now))
         → IsAccepted (job (map string_bytes words.now)) result.replies.items
@@ -78,3 +63,13 @@ pub fn run_surely(
 {
     run(alloc, words, shelf, sink, journal)
 }
+
+/// What the end of such a run says in one: of each right reading, where memory was not wanting, the bytes, puts and
+/// status, the requests and their replies, the calls, and how many equations were evaluated. Without code.
+pub fn surely_says()
+    ensures { (f : List AReply → Told) (shelf shelf_after : UnfailingShelf) (sink sink_after : UnfailingSink)
+        (count count_after : ℕ) (got : List AReply) (status : AStatus)
+        → Ran f (sure_world shelf sink count) got status (sure_world shelf_after sink_after count_after)
+        → IsEnd status
+        → IsSurelyWhole (f got) got status shelf shelf_after sink sink_after count count_after }
+{}

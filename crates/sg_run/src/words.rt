@@ -4,6 +4,7 @@ ghost use Rattle.std.specs.Option.{option_map};
 ghost use Rattle.sg_told.specs.Job.{job, job_of_name, load_of, size_of, sized as sized_job};
 ghost use Rattle.sg_run.specs.JobView.{job_of, HasWindow};
 
+use sg_told::words::size;
 use sg_workload::MOST_STATEMENTS;
 
 /// What the words ask for.
@@ -18,24 +19,9 @@ pub enum Job<'a> {
     Run(&'a str, &'a str, usize, usize),
     /// To perform the workload of so many statements, from 1 to 400.
     Load(usize),
-}
-
-/// A width or a height: a number from 1 to 1,024 in decimal digits, of which the first is no 0.
-fn size(word: &str) -> Option<usize>
-    ensures { result ≡ size_of word.now }
-{
-    let bytes = word.as_bytes();
-    if bytes.is_empty() || bytes[0] <= b'0' {
-        return None;
-    }
-    let mut n = 0usize;
-    for b in bytes {
-        if !b.is_ascii_digit() || n > 1024 {
-            return None;
-        }
-        n = n * 10 + (*b - b'0') as usize;
-    }
-    if n > 1024 { None } else { Some(n) }
+    /// To report, by the specification of the first name, the attribute that the third word names of all nodes of the
+    /// file of the second.
+    Report(&'a str, &'a str, &'a str),
 }
 
 fn sized<'a>(name: &'a str, script: &'a str, width: &str, height: &str) -> Option<Job<'a>>
@@ -84,6 +70,9 @@ pub fn read<'a>(words: &'a [String]) -> Option<Job<'a>>
         [word, name] => named(word.as_str(), name.as_str()),
         [word, name, script] if word.as_str() == "run" => {
             Some(Job::Run(name.as_str(), script.as_str(), 80, 24))
+        }
+        [word, name, file, attr] if word.as_str() == "report" => {
+            Some(Job::Report(name.as_str(), file.as_str(), attr.as_str()))
         }
         [word, name, script, width, height] if word.as_str() == "run" => sized(
             name.as_str(),

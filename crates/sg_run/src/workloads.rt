@@ -1,12 +1,12 @@
 // The job of a workload.
 ghost use Rattle.std.specs.Prelude.{◌≤◌, ◌<◌, ◌^◌, []};
 ghost use Rattle.sg_eval.specs.Journal.{counted};
-ghost use Rattle.sg_replies.specs.Calls.{ShelfState};
+ghost use Rattle.sg_outside.specs.Shelf.{ShelfState};
 ghost use Rattle.sg_told.specs.Reading.{Reading, IsRightLines};
 ghost use Rattle.sg_told.specs.Work.{work_told, AreKnownLines};
-ghost use Rattle.sg_told.specs.Parts.{Ends};
+ghost use Rattle.sg_told.specs.Ran.{Ends};
 ghost use Rattle.sg_told.specs.Statuses.{ended};
-ghost use Rattle.sg_told.specs.World.{world, sink_state};
+ghost use Rattle.sg_told.specs.World.{world};
 
 use crate::Status;
 use crate::finishing::{end, finish};
@@ -26,14 +26,11 @@ pub fn work<K: Sink>(
 ) -> Result<(), Status>
     requires few { count ≤ 400 }
     requires room { counted journal.old < 2 ^ 60 }
-    ensures known { AreKnownLines (ended result)
-        (sink_state (K.written sink.old) (K.faults sink.old) (K.puts sink.old))
-        (sink_state (K.written sink.new) (K.faults sink.new) (K.puts sink.new))
+    ensures known { AreKnownLines (ended result) (K.state sink.old) (K.state sink.new)
         (counted journal.old) (counted journal.new) }
     ensures ended { (r : Reading) → IsRightLines r → (shelf : ShelfState)
-        → Ends (world shelf (sink_state (K.written sink.old) (K.faults sink.old) (K.puts sink.old))
-        (counted journal.old)) (work_told count r) [] (ended result)
-        (world shelf (sink_state (K.written sink.new) (K.faults sink.new) (K.puts sink.new)) (counted journal.new)) }
+        → Ends (world shelf (K.state sink.old) (counted journal.old)) (work_told count r) [] (ended result)
+        (world shelf (K.state sink.new) (counted journal.new)) }
 {
     match line(alloc, count, journal) {
         Ok(line) => end(finish(sink, line.as_slice(), Status::Done)),

@@ -1,5 +1,6 @@
 -- The causes of a status follow from what the run tells
 use Rattle.std.proofs.Common.{◌≡◌, ◌≢◌, ◌⊎◌, inl, inr, ℕ, suc, ◌≤◌, List, [], ◌∷◌, ◌++◌, Option, Some, None, IsSome, Result, Ok, Err, Bool, true, false, if◌then◌else◌, refl, sym, ap, ◌∙◌, subst, length, arith}
+use Rattle.std.specs.Option.{option_map_or}
 use Rattle.sg_outside.specs.Count.{Rose, raised, raised_by}
 use Rattle.sg_kinds.specs.declared.spec.Spec.{Spec}
 use Rattle.sg_load.specs.Verdict.{Verdict, IsVerdict}
@@ -7,7 +8,7 @@ use Rattle.sg_load.specs.Verdict.Verdict.{Refused, Accepted}
 use Rattle.sg_replies.specs.declared.reply.Reply.{Reply}
 use Rattle.sg_replies.specs.declared.reply.Reply.TheVariants.{Fetched, FetchFailed, Kept, KeepFailed}
 use Rattle.sg_replies.specs.Requests.{Request, failures, fits}
-use Rattle.sg_replies.specs.Calls.{ShelfState}
+use Rattle.sg_outside.specs.Shelf.{ShelfState}
 use Rattle.sg_replies.proofs.Laws.{≤-raised_by}
 use Rattle.sg_script.specs.declared.command.Command.{Command}
 use Rattle.sg_script.specs.declared.fault.ScriptFault.{ScriptFault as NoScript}
@@ -17,19 +18,26 @@ use Rattle.sg_editor.specs.Session.{start}
 use Rattle.sg_editor.specs.Ask.{Ask}
 use Rattle.sg_editor.specs.Ask.Ask.{Tells, Asks}
 use Rattle.sg_told.specs.declared.status.Status.{Status}
-use Rattle.sg_told.specs.declared.status.Status.TheVariants.{Done, Memory, Usage, ReadFault, SpecFault, ScriptFault, SinkFault}
+use Rattle.sg_told.specs.declared.status.Status.TheVariants.{Done, Memory, Usage, ReadFault, SpecFault, ScriptFault, SinkFault, ReportFault}
 use Rattle.sg_told.specs.Job.{Job}
-use Rattle.sg_told.specs.Job.Job.{Show, Check, Run, Load}
+use Rattle.sg_told.specs.Job.Job.{Show, Check, Run, Load, Report}
 use Rattle.sg_told.specs.Told.{Told, before, taking, unfinished, asked}
 use Rattle.sg_told.specs.Session.{Desk, desk, telling, turn, asks, session}
 use Rattle.sg_told.specs.Output.{first_command, scanned, with_spec, with_script, shown, checked, performed, job_told}
 use Rattle.sg_told.specs.Reading.{Reading, IsVerdictIn, IsTheReading, IsRightFor, IsTheReadingFor}
 use Rattle.sg_told.specs.Work.{told_once, work_told}
+use Rattle.sg_report.specs.Attrs.{attr_of}
+use Rattle.sg_report.specs.Reports.{report_of}
+use Rattle.sg_report.specs.declared.attrs.Named.{Named}
+use Rattle.sg_report.specs.declared.answers.Report.{Report as IsReport}
+use Rattle.sg_report.specs.declared.answers.ReportFault.{ReportFault as NoReport}
+use Rattle.sg_report.specs.declared.answers.ReportFault.TheVariants.{NoAttribute}
 use Rattle.sg_workload.specs.Lines.{lines_text}
 use Rattle.sg_loads.specs.Loads.{work, work_line}
 use Rattle.sg_told.specs.World.{World}
-use Rattle.sg_told.specs.Parts.{Ends}
-use Rattle.sg_told.specs.Causes.{IsRead, LastFailed, FirstFetched, SecondFetched, HasFault, HasNoFault, IsNoScript, IsScript, AreScripts, IsAccepted, IsSpecRefused, IsSpecAccepted, IsUnjudged}
+use Rattle.sg_told.specs.Ran.{Ends}
+use Rattle.sg_told.specs.Causes.{IsRead, LastFailed, FirstFetched, SecondFetched, HasFault, HasNoFault, IsNoScript, IsScript, AreScripts, IsNoReport, IsReportRefused, AreReports, IsAccepted, IsSpecRefused, IsSpecAccepted, IsUnjudged}
+use Rattle.sg_told.specs.Filed.{report_file, refusal, report_end, filed, reported}
 use Rattle.sg_told.specs.Judged.{judged}
 use Rattle.sg_editor.specs.Ask.{Readers}
 use Rattle.sg_told.proofs.Opened.{reading_of, the_reading_is_right}
@@ -70,14 +78,14 @@ lines_refused : (n : ℕ) (r : Readers) (v : Verdict) → IsVerdict lines_text v
 lines_refused n r (Refused f) right is = (f, right)
 lines_refused n r (Accepted spec) right is = absurd (cc)
 
--- a run that never ends with usage
-spec_no_usage : (next : Spec → List Reply → Told) (name : List ℕ) (v : Verdict) → ((spec : Spec) → Never Usage (next spec)) → Never Usage (with_spec next name v)
-spec_no_usage next name v never [] e = cc
-spec_no_usage next name (Refused f) never (Fetched bytes ∷ rest) e = cc
-spec_no_usage next name (Accepted spec) never (Fetched bytes ∷ rest) e = never spec rest e
-spec_no_usage next name v never (FetchFailed ∷ rest) e = cc
-spec_no_usage next name v never (Kept ∷ rest) e = cc
-spec_no_usage next name v never (KeepFailed ∷ rest) e = cc
+-- what never ends so after the specification
+spec_never : (status : Status) → status ≢ SpecFault → status ≢ ReadFault → (next : Spec → List Reply → Told) (name : List ℕ) (v : Verdict) → ((spec : Spec) → Never status (next spec)) → Never status (with_spec next name v)
+spec_never status fault read next name v never [] e = cc
+spec_never status fault read next name (Refused f) never (Fetched bytes ∷ rest) e = fault (cc)
+spec_never status fault read next name (Accepted spec) never (Fetched bytes ∷ rest) e = never spec rest e
+spec_never status fault read next name v never (FetchFailed ∷ rest) e = read (cc)
+spec_never status fault read next name v never (Kept ∷ rest) e = cc
+spec_never status fault read next name v never (KeepFailed ∷ rest) e = cc
 
 scanned_never : (status : Status) → status ≢ ScriptFault → (r : Result (List Command) NoScript) (next : List Command → Told) → ((commands : List Command) → (next commands).status ≡ Some status → ⊥)
     → (scanned r next).status ≡ Some status → ⊥
@@ -92,13 +100,34 @@ script_never status other read next name never (FetchFailed ∷ rest) e = read (
 script_never status other read next name never (Kept ∷ rest) e = cc
 script_never status other read next name never (KeepFailed ∷ rest) e = cc
 
+-- a report ends with Done, or is refused, or its file is missing
+end_never : (status : Status) → status ≢ Done → status ≢ ReportFault → (x : Result IsReport NoReport) → (report_end x).status ≡ Some status → ⊥
+end_never status done refused (Ok r) e = done (cc)
+end_never status done refused (Err f) e = refused (cc)
+
+file_never : (status : Status) → status ≢ Done → status ≢ ReportFault → status ≢ ReadFault → (r : Readers) (spec : Spec) (a : Named) (file : List ℕ) → Never status (asked (report_file file) (filed r spec a))
+file_never status done refused read r spec a file [] e = cc
+file_never status done refused read r spec a file (Fetched bytes ∷ rest) e = end_never status done refused (report_of spec r.text r.file a bytes) e
+file_never status done refused read r spec a file (FetchFailed ∷ rest) e = read (cc)
+file_never status done refused read r spec a file (Kept ∷ rest) e = cc
+file_never status done refused read r spec a file (KeepFailed ∷ rest) e = cc
+
+report_never : (status : Status) → status ≢ Done → status ≢ ReportFault → status ≢ ReadFault → (file word : List ℕ) (r : Readers) (spec : Spec) → Never status (reported file word r spec)
+report_never status done refused read file word r spec replies e = by (attr_of spec word) e
+  where
+    by : (o : Option Named) → (option_map_or (λ a. asked (report_file file) (filed r spec a) replies) o (refusal NoAttribute)).status ≡ Some status → ⊥
+    by None e = refused (cc)
+    by (Some a) e = file_never status done refused read r spec a file replies e
+
 pub usage_cause : (j : Option Job) (r : Reading) (replies : List Reply) → (job_told j r replies).status ≡ Some Usage → j ≡ None
 usage_cause None r replies is = refl
-usage_cause (Some (Show name)) r replies is = absurd (spec_no_usage (shown r.readers) name r.verdict (λ spec. session_never Usage (λ e. cc) (desk spec 80 24 r.readers) first_command start) replies is)
-usage_cause (Some (Check name)) r replies is = absurd (spec_no_usage checked name r.verdict (checked_never Usage (λ e. cc)) replies is)
+usage_cause (Some (Show name)) r replies is = absurd (spec_never Usage (λ e. cc) (λ e. cc) (shown r.readers) name r.verdict (λ spec. session_never Usage (λ e. cc) (desk spec 80 24 r.readers) first_command start) replies is)
+usage_cause (Some (Check name)) r replies is = absurd (spec_never Usage (λ e. cc) (λ e. cc) checked name r.verdict (checked_never Usage (λ e. cc)) replies is)
 usage_cause (Some (Load n)) r replies is = absurd (work_never Usage (λ e. cc) (λ e. cc) n r is)
+usage_cause (Some (Report name file word)) r replies is =
+    absurd (spec_never Usage (λ e. cc) (λ e. cc) (reported file word r.readers) name r.verdict (report_never Usage (λ e. cc) (λ e. cc) (λ e. cc) file word r.readers) replies is)
 usage_cause (Some (Run name script w h)) r replies is =
-    absurd (spec_no_usage (performed script w h r.readers) name r.verdict
+    absurd (spec_never Usage (λ e. cc) (λ e. cc) (performed script w h r.readers) name r.verdict
     (λ spec. script_never Usage (λ e. cc) (λ e. cc) (session (desk spec w h r.readers) start) script (λ commands. session_never Usage (λ e. cc) (desk spec w h r.readers) commands start)) replies is)
 
 -- what ends with a failed fetch, where no reply is left over
@@ -129,12 +158,32 @@ script_fails next name never (FetchFailed ∷ more ∷ rest) is all = absurd (om
 script_fails next name never (Kept ∷ rest) is all = absurd (cc)
 script_fails next name never (KeepFailed ∷ rest) is all = absurd (cc)
 
+file_fails : (r : Readers) (spec : Spec) (a : Named) (file : List ℕ) → FailsLast (asked (report_file file) (filed r spec a))
+file_fails r spec a file [] is all = absurd (cc)
+file_fails r spec a file (Fetched bytes ∷ rest) is all = absurd (end_never ReadFault (λ e. cc) (λ e. cc) (report_of spec r.text r.file a bytes) is)
+file_fails r spec a file (FetchFailed ∷ []) is all = ([], refl)
+file_fails r spec a file (FetchFailed ∷ more ∷ rest) is all = absurd (omega (arith, all))
+file_fails r spec a file (Kept ∷ rest) is all = absurd (cc)
+file_fails r spec a file (KeepFailed ∷ rest) is all = absurd (cc)
+
+-- what is told of an attribute, or of none
+abbrev told_by : Readers → Spec → List ℕ → List Reply → Option Named → Told
+told_by r spec file replies o = option_map_or (λ a. asked (report_file file) (filed r spec a) replies) o (refusal NoAttribute)
+
+report_fails : (file word : List ℕ) (r : Readers) (spec : Spec) → FailsLast (reported file word r spec)
+report_fails file word r spec replies is all = by (attr_of spec word) is all
+  where
+    by : (o : Option Named) → (told_by r spec file replies o).status ≡ Some ReadFault → (told_by r spec file replies o).taken ≡ length replies → LastFailed replies
+    by None is all = absurd (cc)
+    by (Some a) is all = file_fails r spec a file replies is all
+
 pub read_cause : (j : Option Job) (r : Reading) (replies : List Reply) → (job_told j r replies).status ≡ Some ReadFault → (job_told j r replies).taken ≡ length replies → LastFailed replies
 read_cause None r replies is all = absurd (cc)
 read_cause (Some (Show name)) r replies is all =
     spec_fails (shown r.readers) name r.verdict (λ spec. never_fails (shown r.readers spec) (session_never ReadFault (λ e. cc) (desk spec 80 24 r.readers) first_command start)) replies is all
 read_cause (Some (Check name)) r replies is all = spec_fails checked name r.verdict (λ spec. never_fails (checked spec) (checked_never ReadFault (λ e. cc) spec)) replies is all
 read_cause (Some (Load n)) r replies is all = absurd (work_never ReadFault (λ e. cc) (λ e. cc) n r is)
+read_cause (Some (Report name file word)) r replies is all = spec_fails (reported file word r.readers) name r.verdict (report_fails file word r.readers) replies is all
 read_cause (Some (Run name script w h)) r replies is all =
     spec_fails (performed script w h r.readers) name r.verdict
     (λ spec. script_fails (session (desk spec w h r.readers) start) script (λ commands. session_never ReadFault (λ e. cc) (desk spec w h r.readers) commands start)) replies is all
@@ -155,6 +204,8 @@ spec_cause (Some (Show name)) r replies right is =
     spec_refused (shown r.readers) name r.verdict replies (λ spec. session_never SpecFault (λ e. cc) (desk spec 80 24 r.readers) first_command start) right.verdict is
 spec_cause (Some (Check name)) r replies right is = spec_refused checked name r.verdict replies (checked_never SpecFault (λ e. cc)) right.verdict is
 spec_cause (Some (Load n)) r replies right is = lines_refused n r.readers r.verdict right.verdict is
+spec_cause (Some (Report name file word)) r replies right is =
+    spec_refused (reported file word r.readers) name r.verdict replies (report_never SpecFault (λ e. cc) (λ e. cc) (λ e. cc) file word r.readers) right.verdict is
 spec_cause (Some (Run name script w h)) r replies right is =
     spec_refused (performed script w h r.readers) name r.verdict replies
     (λ spec. script_never SpecFault (λ e. cc) (λ e. cc) (session (desk spec w h r.readers) start) script (λ commands. session_never SpecFault (λ e. cc) (desk spec w h r.readers) commands start)) right.verdict is
@@ -196,11 +247,50 @@ script_cause (Some (Show name)) r replies is =
     absurd ((spec_stops (shown r.readers) name r.verdict replies (λ rest. ⊥) (λ spec. session_never ScriptFault (λ e. cc) (desk spec 80 24 r.readers) first_command start) is).3)
 script_cause (Some (Check name)) r replies is = absurd ((spec_stops checked name r.verdict replies (λ rest. ⊥) (checked_never ScriptFault (λ e. cc)) is).3)
 script_cause (Some (Load n)) r replies is = absurd (work_never ScriptFault (λ e. cc) (λ e. cc) n r is)
+script_cause (Some (Report name file word)) r replies is =
+    absurd ((spec_stops (reported file word r.readers) name r.verdict replies (λ rest. ⊥) (report_never ScriptFault (λ e. cc) (λ e. cc) (λ e. cc) file word r.readers) is).3)
 script_cause (Some (Run name script w h)) r replies is =
     let s = spec_stops (performed script w h r.readers) name r.verdict replies (λ rest. FirstFetched rest IsNoScript)
     (λ spec rest. script_stops (session (desk spec w h r.readers) start) script rest (λ commands. session_never ScriptFault (λ e. cc) (desk spec w h r.readers) commands start)) is in
     let t : SecondFetched replies IsNoScript = second replies s.0 s.1 IsNoScript s.2 s.3 in
     (t, λ are. let good : IsScript t.1 = are t.0 t.1 t.2 t.3 in let bad = t.4.1 in let fine = good.1 in cc)
+
+-- only where a report is refused
+no_report : (x : Result IsReport NoReport) → (report_end x).status ≡ Some ReportFault → (f : NoReport) × (x ≡ Err f)
+no_report (Ok r) is = absurd (cc)
+no_report (Err f) is = (f, refl)
+
+file_stops : (r : Reading) (spec : Spec) (a : Named) (file : List ℕ) (replies : List Reply) → (asked (report_file file) (filed r.readers spec a) replies).status ≡ Some ReportFault → FirstFetched replies (IsNoReport r spec a)
+file_stops r spec a file [] is = absurd (cc)
+file_stops r spec a file (Fetched bytes ∷ rest) is = (bytes, rest, refl, no_report (report_of spec r.readers.text r.readers.file a bytes) is)
+file_stops r spec a file (FetchFailed ∷ rest) is = absurd (cc)
+file_stops r spec a file (Kept ∷ rest) is = absurd (cc)
+file_stops r spec a file (KeepFailed ∷ rest) is = absurd (cc)
+
+report_stops : (file word name : List ℕ) (r : Reading) (v : Verdict) (replies : List Reply) → r.verdict ≡ v → (with_spec (reported file word r.readers) name v replies).status ≡ Some ReportFault
+    → IsReportRefused (Some (Report name file word)) r replies
+report_stops file word name r v [] same is = absurd (cc)
+report_stops file word name r (Refused f) (Fetched bytes ∷ rest) same is = absurd (cc)
+report_stops file word name r (Accepted spec) (Fetched bytes ∷ rest) same is = (spec, same, by (attr_of spec word) refl is)
+  where
+    by : (o : Option Named) → attr_of spec word ≡ o → (option_map_or (λ a. asked (report_file file) (filed r.readers spec a) rest) o (refusal NoAttribute)).status ≡ Some ReportFault
+        → (attr_of spec word ≡ None) ⊎ ((a : Named) × (attr_of spec word ≡ Some a) × SecondFetched (Fetched bytes ∷ rest) (IsNoReport r spec a))
+    by None e is = inl e
+    by (Some a) e is = inr (a, e, second (Fetched bytes ∷ rest) (Fetched bytes) rest (IsNoReport r spec a) refl (file_stops r spec a file rest is))
+report_stops file word name r v (FetchFailed ∷ rest) same is = absurd (cc)
+report_stops file word name r v (Kept ∷ rest) same is = absurd (cc)
+report_stops file word name r v (KeepFailed ∷ rest) same is = absurd (cc)
+
+pub report_cause : (j : Option Job) (r : Reading) (replies : List Reply) → (job_told j r replies).status ≡ Some ReportFault → IsReportRefused j r replies
+report_cause None r replies is = absurd (cc)
+report_cause (Some (Show name)) r replies is =
+    absurd (spec_never ReportFault (λ e. cc) (λ e. cc) (shown r.readers) name r.verdict (λ spec. session_never ReportFault (λ e. cc) (desk spec 80 24 r.readers) first_command start) replies is)
+report_cause (Some (Check name)) r replies is = absurd (spec_never ReportFault (λ e. cc) (λ e. cc) checked name r.verdict (checked_never ReportFault (λ e. cc)) replies is)
+report_cause (Some (Load n)) r replies is = absurd (work_never ReportFault (λ e. cc) (λ e. cc) n r is)
+report_cause (Some (Run name script w h)) r replies is =
+    absurd (spec_never ReportFault (λ e. cc) (λ e. cc) (performed script w h r.readers) name r.verdict
+    (λ spec. script_never ReportFault (λ e. cc) (λ e. cc) (session (desk spec w h r.readers) start) script (λ commands. session_never ReportFault (λ e. cc) (desk spec w h r.readers) commands start)) replies is)
+report_cause (Some (Report name file word)) r replies is = report_stops file word name r r.verdict replies refl is
 
 failures_last : (front : List Reply) → failures (front ++ FetchFailed ∷ []) ≡ suc (failures front)
 failures_last [] = omega arith
@@ -221,6 +311,7 @@ the_reading_is_right_for None replies r the = the_reading_is_right replies r the
 the_reading_is_right_for (Some (Show name)) replies r the = the_reading_is_right replies r the
 the_reading_is_right_for (Some (Check name)) replies r the = the_reading_is_right replies r the
 the_reading_is_right_for (Some (Run name script w h)) replies r the = the_reading_is_right replies r the
+the_reading_is_right_for (Some (Report name file word)) replies r the = the_reading_is_right replies r the
 
 -- nothing failed but what the shelf counted
 unjudged_failures : (job : Job) (replies : List Reply) (status : Status) (old new : World) → IsUnjudged job old replies status new → raised_by (failures replies) old.shelf.faults ≤ new.shelf.faults
@@ -231,6 +322,7 @@ unjudged_failures (Load n) replies status old new u =
 unjudged_failures (Show name) replies status old new u = u.served.faults
 unjudged_failures (Check name) replies status old new u = u.served.faults
 unjudged_failures (Run name script w h) replies status old new u = u.served.faults
+unjudged_failures (Report name file word) replies status old new u = u.served.faults
 
 -- each failure was counted
 pub failures_counted : (j : Option Job) (replies : List Reply) (status : Status) (old new : World) → IsRead j old replies status new
@@ -257,6 +349,16 @@ not_accepted None r replies the f fit = fetched_apart r replies the f fit
 not_accepted (Some (Show name)) r replies the f fit = fetched_apart r replies the f fit
 not_accepted (Some (Check name)) r replies the f fit = fetched_apart r replies the f fit
 not_accepted (Some (Run name script w h)) r replies the f fit = fetched_apart r replies the f fit
+not_accepted (Some (Report name file word)) r replies the f fit = fetched_apart r replies the f fit
+
+-- neither is a file of which there is no report
+not_reported : (j : Option Job) (r : Reading) (replies : List Reply) → IsRightFor j replies r → IsReportRefused j r replies → AreReports j replies → ⊥
+not_reported None r replies right f fit = f
+not_reported (Some (Show name)) r replies right f fit = f
+not_reported (Some (Check name)) r replies right f fit = f
+not_reported (Some (Run name script w h)) r replies right f fit = f
+not_reported (Some (Load n)) r replies right f fit = f
+not_reported (Some (Report name file word)) r replies right f fit = fit r right f
 
 -- the job is done, or there was not enough memory
 pub done_or_memory : (j : Option Job) (replies : List Reply) (status : Status) (old new : World)
@@ -285,6 +387,10 @@ done_or_memory j replies status old new shelf sink some fit read ends = decide s
     decide ScriptFault k e =
         let r = reading ScriptFault (λ m. cc) k in
         absurd ((script_cause j r.0 replies ((e r.0 (the_reading_is_right_for j replies r.0 r.1)).finished tt)).1 fit.script)
+    decide ReportFault k e =
+        let r = reading ReportFault (λ m. cc) k in
+        let right = the_reading_is_right_for j replies r.0 r.1 in
+        absurd (not_reported j r.0 replies right (report_cause j r.0 replies ((e r.0 right).finished tt)) fit.report)
 
 -- where memory was not wanting, there is a right reading
 pub right_of : (asked : Option Job) (old new : World) (replies : List Reply) (status : Status) → IsRead asked old replies status new → status ≢ Memory → (r : Reading) × IsRightFor asked replies r

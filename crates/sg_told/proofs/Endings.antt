@@ -1,18 +1,20 @@
 -- How a part of a run ends
 use Rattle.std.proofs.Common.{◌≡◌, ◌≤◌, ℕ, ◌+◌, List, [], ◌∷◌, take, sum, length, Option, Some, inl, inr, refl, sym, ap, ◌∙◌, subst, arith, append-nil}
 use Rattle.sg_outside.specs.Count.{Rose, answered_by, tallied}
-use Rattle.sg_outside.specs.Sink.{CutShort, appended}
+use Rattle.sg_outside.specs.Sink.{SinkState, CutShort, appended}
 use Rattle.sg_outside.proofs.Tally.{answered_by-zero, tallied-zero}
 use Rattle.sg_replies.specs.declared.reply.Reply.{Reply}
-use Rattle.sg_replies.specs.Calls.{ShelfState, ServedOrOneMore}
+use Rattle.sg_outside.specs.Shelf.{ShelfState}
+use Rattle.sg_replies.specs.Calls.{ServedOrOneMore}
 use Rattle.sg_replies.proofs.Laws.{none_or_one_more}
 use Rattle.sg_told.specs.declared.status.Status.{Status}
-use Rattle.sg_told.specs.declared.status.Status.TheVariants.{Done, Memory, Usage, ReadFault, SpecFault, ScriptFault, SinkFault}
+use Rattle.sg_told.specs.declared.status.Status.TheVariants.{Done, Memory, Usage, ReadFault, SpecFault, ScriptFault, SinkFault, ReportFault}
 use Rattle.sg_told.specs.Statuses.{IsEnd, IsCut}
 use Rattle.sg_told.specs.Opening.{IsQuiet, Silent}
 use Rattle.sg_told.specs.Told.{Told, text, finished, joined}
-use Rattle.sg_told.specs.World.{SinkState, World, world, WroteWhole, WroteFront}
-use Rattle.sg_told.specs.Parts.{Ends, Finished}
+use Rattle.sg_told.specs.World.{World, world, WroteWhole, WroteFront}
+use Rattle.sg_told.specs.Ran.{Ends}
+use Rattle.sg_told.specs.Parts.{Finished}
 use Rattle.sg_told.proofs.Laws.{appended-nil}
 
 pub one_block : (old new : Option (List ℕ)) (block : List ℕ) → new ≡ appended old block → new ≡ appended old (joined (block ∷ []))
@@ -112,6 +114,7 @@ not_both Usage c e = c
 not_both ReadFault c e = c
 not_both SpecFault c e = c
 not_both ScriptFault c e = c
+not_both ReportFault c e = c
 
 -- the first block was not put as a whole
 pub ends_unput : (shelf shelf' : ShelfState) (old new : SinkState) (n m ev : ℕ) (t : Told) (got : List Reply) (status : Status) (block : List ℕ) (blocks : List (List ℕ)) (evs : List ℕ)

@@ -2,7 +2,9 @@
 use Rattle.std.proofs.Common.{◌≡◌, ℕ, List, [], ◌∷◌, ◌++◌, Result, Ok, Err, IfOk, IfErr, ap, ◌∙◌}
 use Rattle.sg_kinds.specs.declared.spec.Spec.{Spec}
 use Rattle.sg_replies.specs.declared.reply.Reply.{Reply}
-use Rattle.sg_replies.specs.Calls.{ShelfState, Replied}
+use Rattle.sg_replies.specs.Requests.{Request}
+use Rattle.sg_outside.specs.Shelf.{ShelfState}
+use Rattle.sg_replies.specs.Calls.{Replied}
 use Rattle.sg_script.specs.declared.command.Command.{Command}
 use Rattle.sg_load.specs.Verdict.{Verdict}
 use Rattle.sg_editor.specs.Ask.{Readers}
@@ -12,14 +14,16 @@ use Rattle.sg_told.specs.Output.{opened, scripted, whole_file, with_spec, with_s
 use Rattle.sg_told.specs.Reading.{IsVerdictIn}
 use Rattle.sg_told.specs.Opening.{IsFetched, IsVerdictOf, IsAdmitted, IsOpened, IsScriptOf, IsQuiet, IsKnownOf}
 use Rattle.sg_told.specs.Causes.{IsReadOf}
-use Rattle.sg_told.specs.World.{SinkState, world}
-use Rattle.sg_told.specs.Parts.{Ends, Passed, Played}
+use Rattle.sg_outside.specs.Sink.{SinkState}
+use Rattle.sg_told.specs.World.{world}
+use Rattle.sg_told.specs.Ran.{Ends}
+use Rattle.sg_told.specs.Parts.{Passed, Played}
 use Rattle.sg_told.proofs.Requests.{played_fetched}
 use Rattle.sg_told.proofs.Opened.{opening_ok, read_of, verdict_of}
 
 -- the reply stands last
-abbrev pub fetched_last : (name : List ℕ) (reply : Reply) (rb rm ra : List Reply) (shelf shelf' : ShelfState) → Replied (whole_file name) reply shelf shelf' → rm ≡ rb → ra ≡ rm ++ reply ∷ [] → IsFetched name rb ra shelf shelf'
-fetched_last name reply rb rm ra shelf shelf' replied same last = record {
+abbrev pub fetched_last : (q : Request) (reply : Reply) (rb rm ra : List Reply) (shelf shelf' : ShelfState) → Replied q reply shelf shelf' → rm ≡ rb → ra ≡ rm ++ reply ∷ [] → IsFetched q rb ra shelf shelf'
+fetched_last q reply rb rm ra shelf shelf' replied same last = record {
   reply = reply;
   last = last ∙ ap (λ (rs : List Reply). rs ++ reply ∷ []) same;
   replied = replied;
@@ -29,7 +33,7 @@ fetched_last name reply rb rm ra shelf shelf' replied same last = record {
 pub opened_ok : {T : Type 0} (spec : T → Spec) (name : List ℕ) (reply : Reply) (rb rm ra : List Reply) (shelf shelf' : ShelfState) (r : Result T Status)
     → rb ≡ [] → Replied (whole_file name) reply shelf shelf' → rm ≡ rb → ra ≡ rm ++ reply ∷ [] → IfOk r (λ x. IsAdmitted reply (spec x)) → IfOk r (λ x. IsOpened name (spec x) ra shelf shelf')
 opened_ok spec name reply rb rm ra shelf shelf' (Ok x) none replied same last admitted = record {
-  fetched = fetched_last name reply [] rm ra shelf shelf' replied (same ∙ none) last;
+  fetched = fetched_last (whole_file name) reply [] rm ra shelf shelf' replied (same ∙ none) last;
   admitted = admitted;
 }
 opened_ok spec name reply rb rm ra shelf shelf' (Err s) none replied same last admitted = tt
@@ -40,7 +44,7 @@ pub opened_known : {T : Type 0} (readers : Readers) (name : List ℕ) (reply : R
     → IfErr r (λ status. (n : ℕ) → IsReadOf name (world shelf old n) ra status (world shelf' new n))
 opened_known readers name reply rb rm ra shelf shelf' old new (Ok x) none replied same last known = tt
 opened_known readers name reply rb rm ra shelf shelf' old new (Err s) none replied same last known =
-    λ n. read_of name rb ra shelf shelf' old new n s readers none (fetched_last name reply rb rm ra shelf shelf' replied same last) known
+    λ n. read_of name rb ra shelf shelf' old new n s readers none (fetched_last (whole_file name) reply rb rm ra shelf shelf' replied same last) known
 
 pub opened_played : {T : Type 0} (name : List ℕ) (reply : Reply) (rb rm ra : List Reply) (shelf shelf' : ShelfState) (old new : SinkState) (r : Result T Status)
     → rb ≡ [] → Replied (whole_file name) reply shelf shelf' → rm ≡ rb → ra ≡ rm ++ reply ∷ []
@@ -50,15 +54,15 @@ pub opened_played : {T : Type 0} (name : List ℕ) (reply : Reply) (rb rm ra : L
     → Played (with_spec next name v) [] ra status (world shelf old n) (world shelf' new n))
 opened_played name reply rb rm ra shelf shelf' old new (Ok x) none replied same last ended = tt
 opened_played name reply rb rm ra shelf shelf' old new (Err s) none replied same last ended = λ v right next quiet n.
-    let f : IsFetched name [] ra shelf shelf' = fetched_last name reply [] rm ra shelf shelf' replied (same ∙ none) last in
-    played_fetched name (opened next v) [] ra shelf shelf' old new n n s f (ended v (verdict_of ra reply v f.last right) next quiet shelf' n)
+    let f : IsFetched (whole_file name) [] ra shelf shelf' = fetched_last (whole_file name) reply [] rm ra shelf shelf' replied (same ∙ none) last in
+    played_fetched (whole_file name) (opened next v) [] ra shelf shelf' old new n n s f (ended v (verdict_of ra reply v f.last right) next quiet shelf' n)
 
 -- the reply to the fetch of the script, by which the run goes on, and by which it ended
 pub script_ok : {T : Type 0} (commands : T → List Command) (name : List ℕ) (reply : Reply) (rb rm ra : List Reply) (shelf shelf' : ShelfState) (old new : SinkState) (r : Result T Status)
     → Replied (whole_file name) reply shelf shelf' → rm ≡ rb → ra ≡ rm ++ reply ∷ [] → IfOk r (λ x. IsScriptOf reply (commands x)) → IfOk r (λ _. new ≡ old)
     → IfOk r (λ x. (next : List Command → List Reply → Told) (n : ℕ) → Passed (with_script next name) (next (commands x)) rb ra (world shelf old n) (world shelf' new n))
 script_ok commands name reply rb rm ra shelf shelf' old new (Ok x) replied same last script quiet =
-    λ next n. opening_ok next name rb ra shelf shelf' old new n (commands x) (fetched_last name reply rb rm ra shelf shelf' replied same last) script.bytes script.brought script.spelled quiet
+    λ next n. opening_ok next name rb ra shelf shelf' old new n (commands x) (fetched_last (whole_file name) reply rb rm ra shelf shelf' replied same last) script.bytes script.brought script.spelled quiet
 script_ok commands name reply rb rm ra shelf shelf' old new (Err s) replied same last script quiet = tt
 
 pub script_err : {T : Type 0} (name : List ℕ) (reply : Reply) (rb rm ra : List Reply) (shelf shelf' : ShelfState) (old new : SinkState) (r : Result T Status)
@@ -67,4 +71,4 @@ pub script_err : {T : Type 0} (name : List ℕ) (reply : Reply) (rb rm ra : List
     → IfErr r (λ status. (next : List Command → List Reply → Told) → ((commands : List Command) → IsQuiet (next commands [])) → (n : ℕ) → Played (with_script next name) rb ra status (world shelf old n) (world shelf' new n))
 script_err name reply rb rm ra shelf shelf' old new (Ok x) replied same last ended = tt
 script_err name reply rb rm ra shelf shelf' old new (Err s) replied same last ended =
-    λ next quiet n. played_fetched name (scripted next) rb ra shelf shelf' old new n n s (fetched_last name reply rb rm ra shelf shelf' replied same last) (ended next quiet shelf' n)
+    λ next quiet n. played_fetched (whole_file name) (scripted next) rb ra shelf shelf' old new n n s (fetched_last (whole_file name) reply rb rm ra shelf shelf' replied same last) (ended next quiet shelf' n)

@@ -11,7 +11,8 @@ use Rattle.sg_replies.proofs.Laws.{calls_then, served_then, served_then_or_one_m
 use Rattle.sg_told.specs.declared.status.Status.{Status}
 use Rattle.sg_told.specs.Told.{Told, before, joined}
 use Rattle.sg_told.specs.World.{World, PutsOrOneMore, WroteWhole, WroteFront, WroteCounted}
-use Rattle.sg_told.specs.Parts.{Goes, Ends}
+use Rattle.sg_told.specs.Ran.{Ends}
+use Rattle.sg_told.specs.Parts.{Goes}
 
 pub joined-append : (xs ys : List (List ℕ)) → joined (xs ++ ys) ≡ joined xs ++ joined ys
 joined-append [] ys = refl

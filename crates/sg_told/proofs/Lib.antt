@@ -12,4 +12,5 @@ pub mod CauseLaws
 pub mod Exits
 pub mod Worked
 pub mod Works
+pub mod Filing
 mod Sizes

@@ -3,7 +3,8 @@ use Rattle.std.proofs.Common.{◌≡◌, ◌≢◌, ℕ, List, [], ◌∷◌, �
 use Rattle.sg_kinds.specs.declared.spec.Spec.{Spec}
 use Rattle.sg_kinds.specs.declared.fault.SpecFault.{SpecFault as Fault}
 use Rattle.sg_kinds.specs.declared.fault.SpecFault.TheVariants as fault
-use Rattle.sg_replies.specs.Calls.{ShelfState, Served}
+use Rattle.sg_outside.specs.Shelf.{ShelfState}
+use Rattle.sg_replies.specs.Calls.{Served}
 use Rattle.sg_replies.specs.declared.reply.Reply.{Reply}
 use Rattle.sg_replies.specs.declared.reply.Reply.TheVariants.{Fetched, FetchFailed, Kept, KeepFailed}
 use Rattle.sg_replies.proofs.Laws.{served_one}
@@ -20,11 +21,13 @@ use Rattle.sg_told.specs.Job.{Job, job, spec_name}
 use Rattle.sg_told.specs.Told.{Told, before, text, asked}
 use Rattle.sg_told.specs.Output.{opened, judged, scanned, scripted, read_fault_text, script_missing_text, script_fault_text, whole_file, with_spec, with_script, job_told, told}
 use Rattle.sg_told.specs.Reading.{Reading, IsVerdictIn, IsTheVerdictIn, AreReadersOf, IsRight, IsTheReading, IsTheReadingFor}
-use Rattle.sg_told.specs.Job.Job.{Show, Check, Run, Load}
+use Rattle.sg_told.specs.Job.Job.{Show, Check, Run, Load, Report}
 use Rattle.sg_told.specs.Opening.{IsFetched, IsVerdictOf, IsTheVerdictOf, IsAdmitted, IsOpened, IsScriptOf, IsQuiet, IsKnown, IsKnownOf}
 use Rattle.sg_told.specs.Causes.{Unjudged, IsUnjudged, IsReadOf, IsRead}
-use Rattle.sg_told.specs.World.{SinkState, World, world}
-use Rattle.sg_told.specs.Parts.{Ends, Passed, Played, Finished}
+use Rattle.sg_outside.specs.Sink.{SinkState}
+use Rattle.sg_told.specs.World.{World, world}
+use Rattle.sg_told.specs.Ran.{Ends}
+use Rattle.sg_told.specs.Parts.{Passed, Played, Finished}
 use Rattle.sg_told.proofs.Endings.{ends_as, ends_text}
 use Rattle.sg_told.proofs.Requests.{passed_fetched, played_after}
 
@@ -114,11 +117,11 @@ passed_into f g h rb ra old new same p = record {
 
 -- the commands of the script that was fetched
 pub opening_ok : (next : List Command → List Reply → Told) (name : List ℕ) (rb ra : List Reply) (shelf shelf' : ShelfState) (old new : SinkState) (n : ℕ) (commands : List Command)
-    (f : IsFetched name rb ra shelf shelf') → (bytes : List ℕ) → f.reply ≡ Fetched bytes → script_of bytes ≡ Ok commands → new ≡ old
+    (f : IsFetched (whole_file name) rb ra shelf shelf') → (bytes : List ℕ) → f.reply ≡ Fetched bytes → script_of bytes ≡ Ok commands → new ≡ old
     → Passed (with_script next name) (next commands) rb ra (world shelf old n) (world shelf' new n)
 opening_ok next name rb ra shelf shelf' old new n commands f bytes e is same =
     passed_into (with_script next name) (scripted next f.reply) (next commands) rb ra (world shelf old n) (world shelf' new n) (script_read next f.reply bytes commands e is)
-    (passed_fetched name (scripted next) rb ra shelf shelf' old new n f same)
+    (passed_fetched (whole_file name) (scripted next) rb ra shelf shelf' old new n f same)
 
 -- the readers of a specification with a fault, of which none is asked
 pub no_readers : (f : Fault) (readers : Readers) → AreReadersOf (Refused f) readers
@@ -134,7 +137,7 @@ verdict_of replies reply v alone right bytes is = right bytes [] (alone ∙ ap (
 
 -- what is known of the one reply to the fetch of the specification, where the run ended by it
 pub read_of : (name : List ℕ) (rb ra : List Reply) (shelf shelf' : ShelfState) (old new : SinkState) (n : ℕ) (status : Status) (readers : Readers) → rb ≡ []
-    → (f : IsFetched name rb ra shelf shelf') → IsKnownOf f.reply status old new → IsReadOf name (world shelf old n) ra status (world shelf' new n)
+    → (f : IsFetched (whole_file name) rb ra shelf shelf') → IsKnownOf f.reply status old new → IsReadOf name (world shelf old n) ra status (world shelf' new n)
 read_of name rb ra shelf shelf' old new n status readers none f (inl k) =
     let alone : ra ≡ f.reply ∷ [] = f.last ∙ ap (λ (rs : List Reply). rs ++ f.reply ∷ []) none in
     inl (
@@ -164,7 +167,7 @@ the_reading_of_nothing replies readers none = record {
 
 -- the specification is accepted, and the run ends in what follows: there is a reading
 pub read_admitted : (name : List ℕ) (rb rm ra : List Reply) (shelf shelf' : ShelfState) (spec : Spec) (g : List Reply → Told) (old between new : World) (status : Status) → rb ≡ []
-    → (f : IsFetched name rb rm shelf shelf') → (a : IsAdmitted f.reply spec) → Played g rm ra status between new → IsReadOf name old ra status new
+    → (f : IsFetched (whole_file name) rb rm shelf shelf') → (a : IsAdmitted f.reply spec) → Played g rm ra status between new → IsReadOf name old ra status new
 read_admitted name rb rm ra shelf shelf' spec g old between new status none f a p =
     let all : ra ≡ f.reply ∷ p.got = p.replies ∙ ap (λ (rs : List Reply). rs ++ p.got) (f.last ∙ ap (λ (rs : List Reply). rs ++ f.reply ∷ []) none) in
     inl (
@@ -177,14 +180,14 @@ read_admitted name rb rm ra shelf shelf' spec g old between new status none f a 
 
 -- and each right reading is of it
 pub reads_admitted : (name : List ℕ) (rb rm ra : List Reply) (shelf shelf' : ShelfState) (spec : Spec) (g : List Reply → Told) (between new : World) (status : Status) (r : Reading) → rb ≡ []
-    → (f : IsFetched name rb rm shelf shelf') → (a : IsAdmitted f.reply spec) → Played g rm ra status between new → IsRight ra r → r.verdict ≡ Accepted spec
+    → (f : IsFetched (whole_file name) rb rm shelf shelf') → (a : IsAdmitted f.reply spec) → Played g rm ra status between new → IsRight ra r → r.verdict ≡ Accepted spec
 reads_admitted name rb rm ra shelf shelf' spec g between new status r none f a p right =
     let all : ra ≡ f.reply ∷ p.got = p.replies ∙ ap (λ (rs : List Reply). rs ++ p.got) (f.last ∙ ap (λ (rs : List Reply). rs ++ f.reply ∷ []) none) in
     a.verdict.only r.verdict (right.verdict a.bytes p.got (all ∙ ap (λ (x : Reply). x ∷ p.got) a.brought))
 
 -- the run went on past the fetch, and ends in what follows
 pub played_admitted : (name : List ℕ) (rb rm ra : List Reply) (shelf shelf' : ShelfState) (sink sink' : SinkState) (n : ℕ) (spec : Spec) (follow : Readers → Spec → List Reply → Told) (new : World) (status : Status)
-    → rb ≡ [] → (f : IsFetched name rb rm shelf shelf') → (a : IsAdmitted f.reply spec) → sink' ≡ sink
+    → rb ≡ [] → (f : IsFetched (whole_file name) rb rm shelf shelf') → (a : IsAdmitted f.reply spec) → sink' ≡ sink
     → ((readers : Readers) → AreReaders spec readers → Played (follow readers spec) rm ra status (world shelf' sink' n) new)
     → (r : Reading) → IsRight ra r → Played (with_spec (follow r.readers) name r.verdict) rb ra status (world shelf sink n) new
 played_admitted name rb rm ra shelf shelf' sink sink' n spec follow new status none f a same p r right =
@@ -194,7 +197,7 @@ played_admitted name rb rm ra shelf shelf' sink sink' n spec follow new status n
     ∙ ap (λ (x : Reply). opened (follow r.readers) (Accepted spec) x more) a.brought in
     let passed : Passed (with_spec (follow r.readers) name r.verdict) (follow r.readers spec) rb rm (world shelf sink n) (world shelf' sink' n) =
     passed_into (with_spec (follow r.readers) name r.verdict) (opened (follow r.readers) r.verdict f.reply) (follow r.readers spec) rb rm (world shelf sink n) (world shelf' sink' n) is
-    (passed_fetched name (opened (follow r.readers) r.verdict) rb rm shelf shelf' sink sink' n f same) in
+    (passed_fetched (whole_file name) (opened (follow r.readers) r.verdict) rb rm shelf shelf' sink sink' n f same) in
     played_after (with_spec (follow r.readers) name r.verdict) (follow r.readers spec) rb rm ra (world shelf sink n) (world shelf' sink' n) new status passed (p r.readers (right.readers spec accepted))
 
 -- a job whose specification is fetched
@@ -207,12 +210,14 @@ fetched_reading (Load n) replies r fetches the = absurd fetches
 fetched_reading (Show name) replies r is the = the
 fetched_reading (Check name) replies r is the = the
 fetched_reading (Run name script w h) replies r is the = the
+fetched_reading (Report name file word) replies r is the = the
 
 fetched_unjudged : (job : Job) (old : World) (replies : List Reply) (status : Status) (new : World) → Fetches job → Unjudged (spec_name job) old replies status new → IsUnjudged job old replies status new
 fetched_unjudged (Load n) old replies status new fetches u = absurd fetches
 fetched_unjudged (Show name) old replies status new is u = u
 fetched_unjudged (Check name) old replies status new is u = u
 fetched_unjudged (Run name script w h) old replies status new is u = u
+fetched_unjudged (Report name file word) old replies status new is u = u
 
 pub read_job : (asked : Option Job) (job : Job) (name : List ℕ) (old new : World) (replies : List Reply) (status : Status) → Fetches job → asked ≡ Some job → spec_name job ≡ name
     → IsReadOf name old replies status new → IsRead asked old replies status new
@@ -239,6 +244,7 @@ reading_of asked old new replies status (inr q) other = absurd (other (unjudged_
     unjudged_memory (Show name) old replies status new u = u.memory
     unjudged_memory (Check name) old replies status new u = u.memory
     unjudged_memory (Run name script w h) old replies status new u = u.memory
+    unjudged_memory (Report name file word) old replies status new u = u.memory
 
 -- the only reading is right
 pub the_reading_is_right : (replies : List Reply) (r : Reading) → IsTheReading replies r → IsRight replies r

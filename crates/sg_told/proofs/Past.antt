@@ -5,7 +5,7 @@ use Rattle.sg_replies.specs.declared.reply.Reply.{Reply}
 use Rattle.sg_told.specs.declared.status.Status.{Status}
 use Rattle.sg_told.specs.Told.{Told, before}
 use Rattle.sg_told.specs.World.{World, WroteCounted}
-use Rattle.sg_told.specs.Parts.{NonePast, Stopped}
+use Rattle.sg_told.specs.Ran.{NonePast, Stopped}
 use Rattle.sg_replies.specs.Counts.{CallsOrOneMore}
 use Rattle.sg_replies.proofs.Laws.{calls_or_one_more_then}
 

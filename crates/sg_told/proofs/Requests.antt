@@ -4,17 +4,18 @@ use Rattle.sg_outside.specs.Count.{Calls, unanswered_once}
 use Rattle.sg_outside.proofs.Tally.{answered_by-zero, tallied-zero}
 use Rattle.sg_replies.specs.declared.reply.Reply.{Reply}
 use Rattle.sg_replies.specs.Requests.{Request}
-use Rattle.sg_replies.specs.Calls.{ShelfState, Replied, Unanswered}
+use Rattle.sg_outside.specs.Shelf.{ShelfState}
+use Rattle.sg_replies.specs.Calls.{Replied, Unanswered}
 use Rattle.sg_replies.specs.Counts.{CallsOrOneMore}
 use Rattle.sg_replies.proofs.Laws.{served_one, none_or_one_more, unanswered_one_more}
 use Rattle.sg_told.specs.declared.status.Status.{Status}
 use Rattle.sg_told.specs.declared.status.Status.TheVariants.{Memory}
-use Rattle.sg_told.specs.Statuses.{IsCut}
 use Rattle.sg_told.specs.Told.{Told, before, unfinished, taking, asked}
-use Rattle.sg_told.specs.Output.{whole_file}
 use Rattle.sg_told.specs.Opening.{IsFetched}
-use Rattle.sg_told.specs.World.{SinkState, World, world}
-use Rattle.sg_told.specs.Parts.{Ends, NonePast, Stopped, Passed, Played}
+use Rattle.sg_outside.specs.Sink.{SinkState}
+use Rattle.sg_told.specs.World.{World, world}
+use Rattle.sg_told.specs.Ran.{Ends, NonePast, Ran}
+use Rattle.sg_told.specs.Parts.{Passed, Played}
 use Rattle.sg_told.proofs.Laws.{appended-nil, goes_on, goes_and_ends, wrote_counted_after, before-before, before_nothing, nothing}
 use Rattle.sg_told.proofs.Past.{past_nothing, past_one, past_after, calls_after, stopped_as}
 use Rattle.sg_told.proofs.Endings.{ends_memory}
@@ -125,18 +126,18 @@ not_asked q next rb ra shelf sink n e =
     (ends_memory shelf shelf sink n n (unfinished q) [] refl (none_or_one_more (q ∷ []) shelf (omega arith)) (omega arith) (omega arith)) refl
 
 -- the one reply more to the fetch of a file, and what follows it
-pub passed_fetched : (name : List ℕ) (next : Reply → List Reply → Told) (rb ra : List Reply) (shelf shelf' : ShelfState) (sink sink' : SinkState) (n : ℕ) (f : IsFetched name rb ra shelf shelf')
-    → sink' ≡ sink → Passed (asked (whole_file name) next) (next f.reply) rb ra (world shelf sink n) (world shelf' sink' n)
-passed_fetched name next rb ra shelf shelf' sink sink' n f same =
-    subst (λ (s : SinkState). Passed (asked (whole_file name) next) (next f.reply) rb ra (world shelf sink n) (world shelf' s n)) (sym same)
-    (passed_reply (whole_file name) next f.reply rb ra shelf shelf' sink n f.replied f.last)
+pub passed_fetched : (q : Request) (next : Reply → List Reply → Told) (rb ra : List Reply) (shelf shelf' : ShelfState) (sink sink' : SinkState) (n : ℕ) (f : IsFetched q rb ra shelf shelf')
+    → sink' ≡ sink → Passed (asked q next) (next f.reply) rb ra (world shelf sink n) (world shelf' sink' n)
+passed_fetched q next rb ra shelf shelf' sink sink' n f same =
+    subst (λ (s : SinkState). Passed (asked q next) (next f.reply) rb ra (world shelf sink n) (world shelf' s n)) (sym same)
+    (passed_reply q next f.reply rb ra shelf shelf' sink n f.replied f.last)
 
-pub played_fetched : (name : List ℕ) (next : Reply → List Reply → Told) (rb ra : List Reply) (shelf shelf' : ShelfState) (old new : SinkState) (n m : ℕ) (status : Status)
-    (f : IsFetched name rb ra shelf shelf') → Ends (world shelf' old n) (next f.reply []) [] status (world shelf' new m)
-    → Played (asked (whole_file name) next) rb ra status (world shelf old n) (world shelf' new m)
-played_fetched name next rb ra shelf shelf' old new n m status f ends =
-    played_after (asked (whole_file name) next) (next f.reply) rb ra ra (world shelf old n) (world shelf' old n) (world shelf' new m) status
-    (passed_fetched name next rb ra shelf shelf' old old n f refl)
+pub played_fetched : (q : Request) (next : Reply → List Reply → Told) (rb ra : List Reply) (shelf shelf' : ShelfState) (old new : SinkState) (n m : ℕ) (status : Status)
+    (f : IsFetched q rb ra shelf shelf') → Ends (world shelf' old n) (next f.reply []) [] status (world shelf' new m)
+    → Played (asked q next) rb ra status (world shelf old n) (world shelf' new m)
+played_fetched q next rb ra shelf shelf' old new n m status f ends =
+    played_after (asked q next) (next f.reply) rb ra ra (world shelf old n) (world shelf' old n) (world shelf' new m) status
+    (passed_fetched q next rb ra shelf shelf' old old n f refl)
     (played_at (next f.reply) ra status (world shelf' old n) (world shelf' new m) ends refl)
 
 -- the same, with the status that it ended with; as what is told
@@ -144,14 +145,10 @@ pub played_as : (f : List Reply → Told) (rb ra : List Reply) (status other : S
 played_as f rb ra status other old new e p = subst (λ (s : Status). Played f rb ra s old new) (sym e) p
 
 -- all replies
-pub ends_whole : (f : List Reply → Told) (ra : List Reply) (status ended : Status) (old new : World) → Played f [] ra status old new → ended ≡ status → Ends old (f ra) ra ended new
-ends_whole f ra status ended old new p is =
-    subst (λ (s : Status). Ends old (f ra) ra s new) (sym is) (subst (λ (rs : List Reply). Ends old (f rs) rs status new) (sym p.replies) p.ends)
-
-pub stopped_whole : (f : List Reply → Told) (ra : List Reply) (status ended : Status) (old new : World) → Played f [] ra status old new → ended ≡ status → IsCut ended
-    → Stopped ended old new f ra
-stopped_whole f ra status ended old new p is =
-    subst (λ (s : Status). IsCut s → Stopped s old new f ra) (sym is) (subst (λ (rs : List Reply). IsCut status → Stopped status old new f rs) (sym p.replies) p.stopped)
+pub ran_whole : (f : List Reply → Told) (ra : List Reply) (status ended : Status) (old new : World) → Played f [] ra status old new → ended ≡ status → Ran f old ra ended new
+ran_whole f ra status ended old new p is =
+    let ran : Ran f old p.got status new = record { ends = p.ends; stopped = p.stopped } in
+    subst (λ (s : Status). Ran f old ra s new) (sym is) (subst (λ (rs : List Reply). Ran f old rs status new) (sym p.replies) ran)
 
 -- the same, after replies that are known
 pub played_from : (f : List Reply → Told) (rb rs ra : List Reply) (status : Status) (old new : World) → rb ≡ rs → Played f rb ra status old new → Played f rs ra status old new

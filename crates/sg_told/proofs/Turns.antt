@@ -1,10 +1,11 @@
 -- The commands of a session
 use Rattle.std.proofs.Common.{◌≡◌, ◌≤◌, ◌<◌, ◌⊎◌, ℕ, ◌+◌, zero, suc, List, [], ◌∷◌, ◌++◌, length, take, drop, get_or, sum, None, Bool, refl, sym, ap, ◌∙◌, subst, arith, if◌then◌else◌, append-nil, inl, inr, add-one, drop-cons}
 use Rattle.sg_outside.specs.Count.{Rose, tallied}
-use Rattle.sg_outside.specs.Sink.{CutShort, appended}
+use Rattle.sg_outside.specs.Sink.{SinkState, CutShort, appended}
 use Rattle.sg_replies.specs.declared.reply.Reply.{Reply}
 use Rattle.sg_replies.specs.Requests.{Request}
-use Rattle.sg_replies.specs.Calls.{ShelfState, Served, ServedOrOneMore}
+use Rattle.sg_outside.specs.Shelf.{ShelfState}
+use Rattle.sg_replies.specs.Calls.{Served, ServedOrOneMore}
 use Rattle.sg_replies.specs.Counts.{CallsOrOneMore}
 use Rattle.sg_replies.proofs.Laws.{none_or_one_more, served_then_or_one_more}
 use Rattle.sg_script.specs.declared.command.Command.{Command}
@@ -15,7 +16,7 @@ use Rattle.sg_editor.specs.Editing.{Editing, session_of}
 use Rattle.sg_editor.specs.Steps.{Comes, IsCutShort, Stepped, Interrupted, requests_of}
 use Rattle.sg_eval.specs.declared.journal.Instance.{Instance}
 use Rattle.sg_kinds.specs.declared.spec.Spec.{Spec}
-use Rattle.sg_screen.specs.declared.message.Message.{Message}
+use Rattle.sg_script.specs.declared.message.Message.{Message}
 use Rattle.sg_editor.specs.Screen.{screen}
 use Rattle.sg_told.specs.declared.status.Status.{Status}
 use Rattle.sg_told.specs.declared.status.Status.TheVariants.{Done, Memory, SinkFault}
@@ -23,8 +24,9 @@ use Rattle.sg_told.specs.Statuses.{IsCut}
 use Rattle.sg_told.specs.Opening.{IsQuiet}
 use Rattle.sg_told.specs.Told.{Told, before, unfinished, taking}
 use Rattle.sg_told.specs.Session.{Desk, telling, turn, asks, session}
-use Rattle.sg_told.specs.World.{SinkState, World, world}
-use Rattle.sg_told.specs.Parts.{Ends, NonePast, Passed, Played}
+use Rattle.sg_told.specs.World.{World, world}
+use Rattle.sg_told.specs.Ran.{Ends, NonePast}
+use Rattle.sg_told.specs.Parts.{Passed, Played}
 use Rattle.sg_told.proofs.Endings.{one_block, nothing_first, refused_whole, first_front, ends_memory, ends_unput, ends_done}
 use Rattle.sg_told.proofs.Past.{past_nothing, past_one, stopped_as}
 use Rattle.sg_told.proofs.Requests.{played_after, played_at}

@@ -8,7 +8,7 @@ use Rattle.sg_load.specs.Verdict.Verdict.{Refused, Accepted}
 use Rattle.sg_replies.specs.declared.reply.Reply.TheVariants.{Fetched, FetchFailed, Kept}
 use Rattle.sg_replies.specs.Requests.Request.{Fetch}
 use Rattle.sg_editor.specs.Ask.{Readers}
-use Rattle.sg_told.specs.declared.status.Status.TheVariants.{Done, Usage, ReadFault, SpecFault}
+use Rattle.sg_told.specs.declared.status.Status.TheVariants.{Done, Usage, ReadFault, SpecFault, ReportFault}
 use Rattle.sg_told.specs.Job.{job}
 use Rattle.sg_told.specs.Job.Job.{Run}
 use Rattle.sg_told.specs.Reading.{Reading}
@@ -24,11 +24,14 @@ check_a = codes "check" ∷ codes "a" ∷ []
 abbrev run_b : List (List ℕ)
 run_b = codes "run" ∷ codes "a" ∷ codes "b" ∷ []
 
+abbrev report_b : List (List ℕ)
+report_b = codes "report" ∷ codes "a" ∷ codes "b" ∷ codes "p" ∷ []
+
 abbrev in_window : List ℕ → List ℕ → List (List ℕ)
 in_window width height = codes "run" ∷ codes "a" ∷ codes "b" ∷ width ∷ height ∷ []
 
 -- words that are no job
-pub other_words : (r : Reading) → told (codes "run" ∷ codes "a" ∷ []) r [] ≡ text Usage (codes "usage: ssled show SPEC | run SPEC SCRIPT [W H] | check SPEC | load N" ++ 10 ∷ [])
+pub other_words : (r : Reading) → told (codes "run" ∷ codes "a" ∷ []) r [] ≡ text Usage (codes "usage: ssled show SPEC | run SPEC SCRIPT [W H] | check SPEC | load N | report SPEC FILE ATTR" ++ 10 ∷ [])
 other_words r = refl
 
 -- windows
@@ -78,3 +81,8 @@ accepted bytes spec readers = refl
 pub no_script : (bytes : List ℕ) (spec : Spec) (readers : Readers) → told run_b (record { verdict = Accepted spec; readers = readers }) (Fetched bytes ∷ FetchFailed ∷ [])
     ≡ record { blocks = (codes "read fault script" ++ 10 ∷ []) ∷ []; evs = []; status = Some ReadFault; requests = Fetch (codes "a") 1048577 ∷ Fetch (codes "b") 1048577 ∷ []; taken = 2 }
 no_script bytes spec readers = refl
+
+-- a word without a point names no attribute, and the file is not fetched
+pub no_attribute : (bytes : List ℕ) (spec : Spec) (readers : Readers) → told report_b (record { verdict = Accepted spec; readers = readers }) (Fetched bytes ∷ [])
+    ≡ record { blocks = (codes "report no attribute" ++ 10 ∷ []) ∷ []; evs = []; status = Some ReportFault; requests = Fetch (codes "a") 1048577 ∷ []; taken = 1 }
+no_attribute bytes spec readers = refl

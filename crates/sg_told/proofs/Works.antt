@@ -6,7 +6,7 @@ use Rattle.sg_load.specs.Only.{IsTheVerdict}
 use Rattle.sg_load.specs.Verdict.{Verdict, IsVerdict}
 use Rattle.sg_load.specs.Verdict.Verdict.{Refused, Accepted}
 use Rattle.sg_outside.proofs.Tally.{answered_by-zero}
-use Rattle.sg_replies.specs.Calls.{ShelfState}
+use Rattle.sg_outside.specs.Shelf.{ShelfState}
 use Rattle.sg_replies.proofs.Laws.{none_or_one_more}
 use Rattle.sg_workload.specs.Lines.{lines_text}
 use Rattle.sg_editor.specs.Ask.{Readers, AreReaders}
@@ -22,8 +22,10 @@ use Rattle.sg_told.specs.Job.Job.{Load}
 use Rattle.sg_told.specs.Causes.{IsRead}
 use Rattle.sg_told.specs.Reading.{Reading, AreReadersOf, IsRightLines, AreTheLines, IsRightFor, IsTheReadingFor}
 use Rattle.sg_told.specs.Work.{told_once, work_told, AreKnownLines}
-use Rattle.sg_told.specs.World.{SinkState, world}
-use Rattle.sg_told.specs.Parts.{Ends, Finished}
+use Rattle.sg_outside.specs.Sink.{SinkState}
+use Rattle.sg_told.specs.World.{world}
+use Rattle.sg_told.specs.Ran.{Ends}
+use Rattle.sg_told.specs.Parts.{Finished}
 use Rattle.sg_told.proofs.Blank.{blank_readers}
 use Rattle.sg_told.proofs.Endings.{one_block, refused_whole, first_front, ends_memory, ends_as, finished_as}
 use Rattle.sg_told.proofs.Opened.{judged_quiet, no_readers, told_by_verdict}

@@ -1,5 +1,5 @@
 -- The causes of a status, by the replies
-use Rattle.std.specs.Prelude.{◌≡◌, ◌⊎◌, ℕ, List, [], ◌∷◌, ◌++◌, Option, Some, Ok, Err, ⊤}
+use Rattle.std.specs.Prelude.{◌≡◌, ◌⊎◌, ℕ, List, [], ◌∷◌, ◌++◌, Option, Some, None, Ok, Err, ⊤}
 use Rattle.sg_kinds.specs.declared.spec.Spec.{Spec}
 use Rattle.sg_kinds.specs.declared.fault.SpecFault.{SpecFault}
 use Rattle.sg_replies.specs.declared.reply.Reply.{Reply}
@@ -13,10 +13,14 @@ use Rattle.sg_load.specs.Verdict.Verdict.{Refused, Accepted}
 use Rattle.sg_told.specs.declared.status.Status.{Status}
 use Rattle.sg_told.specs.declared.status.Status.TheVariants.{Memory}
 use Rattle.sg_workload.specs.Lines.{lines_text}
+use Rattle.sg_report.specs.Attrs.{attr_of}
+use Rattle.sg_report.specs.Reports.{report_of}
+use Rattle.sg_report.specs.declared.attrs.Named.{Named}
+use Rattle.sg_report.specs.declared.answers.ReportFault.{ReportFault as NoReport}
 use Rattle.sg_told.specs.Job.{Job, spec_name}
-use Rattle.sg_told.specs.Job.Job.{Run, Load}
+use Rattle.sg_told.specs.Job.Job.{Run, Load, Report}
 use Rattle.sg_told.specs.Output.{whole_file}
-use Rattle.sg_told.specs.Reading.{Reading, IsTheReading, IsTheReadingFor}
+use Rattle.sg_told.specs.Reading.{Reading, IsRight, IsTheReading, IsTheReadingFor}
 use Rattle.sg_told.specs.World.{World}
 
 -- memory was wanting before there was a verdict: the specification of that name was fetched, and nothing was written or
@@ -93,7 +97,25 @@ abbrev pub IsSpecAccepted : Option Job → List Reply → Type 0
 IsSpecAccepted (Some (Load n)) replies = HasNoFault lines_text
 IsSpecAccepted job replies = (bytes : List ℕ) (rest : List Reply) → replies ≡ Fetched bytes ∷ rest → HasNoFault bytes
 
--- both
+-- a file of which there is no report by a reading
+abbrev pub IsNoReport : Reading → Spec → Named → List ℕ → Type 0
+IsNoReport r spec a bytes = (f : NoReport) × (report_of spec r.readers.text r.readers.file a bytes ≡ Err f)
+
+-- by a reading there is no such attribute, or no report of the file that was fetched second
+abbrev pub IsReportRefused : Option Job → Reading → List Reply → Type 0
+IsReportRefused (Some (Report name file word)) r replies = (spec : Spec) × (r.verdict ≡ Accepted spec)
+    × ((attr_of spec word ≡ None)
+    ⊎ ((a : Named) × (attr_of spec word ≡ Some a) × SecondFetched replies (IsNoReport r spec a)))
+IsReportRefused job r replies = ⊥
+
+-- what is reported is refused by no right reading
+abbrev pub AreReports : Option Job → List Reply → Type 0
+AreReports (Some (Report name file word)) replies =
+    (r : Reading) → IsRight replies r → IsReportRefused (Some (Report name file word)) r replies → ⊥
+AreReports job replies = ⊤
+
+-- all three
 pub record IsAccepted (job : Option Job) (replies : List Reply) : Type 0 where
   pub spec : IsSpecAccepted job replies
   pub script : AreScripts job replies
+  pub report : AreReports job replies

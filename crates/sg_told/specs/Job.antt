@@ -5,12 +5,14 @@ use Rattle.std.specs.Str.{bytes_eq}
 
 -- to show the first screen of the specification of that name; to tell whether it has a fault; to perform the script of
 -- the second name on the specification of the first, in a window of that width and height; to perform the workload of so
--- many statements of the built-in language
+-- many statements of the built-in language; to report, by the specification of the first name, the attribute that the
+-- third word names of all nodes of the file of the second
 pub data Job : Type 0 where
   Show : List ℕ → Job
   Check : List ℕ → Job
   Run : List ℕ → List ℕ → ℕ → ℕ → Job
   Load : ℕ → Job
+  Report : List ℕ → List ℕ → List ℕ → Job
 
 -- the number that these digits go on with, up to 1,024
 abbrev pub number_from : ℕ → List ℕ → Option ℕ
@@ -49,11 +51,13 @@ spec_name (Show name) = name
 spec_name (Check name) = name
 spec_name (Run name script width height) = name
 spec_name (Load n) = []
+spec_name (Report name file word) = name
 
 -- the job of these words, if they are one; a window that is not named is 80 by 24
 abbrev pub job : List (List ℕ) → Option Job
 job (word ∷ name ∷ []) = job_of_name word name
 job (word ∷ name ∷ script ∷ []) = if bytes_eq word (codes "run") then Some (Run name script 80 24) else None
+job (word ∷ name ∷ file ∷ attr ∷ []) = if bytes_eq word (codes "report") then Some (Report name file attr) else None
 job (word ∷ name ∷ script ∷ width ∷ height ∷ []) =
     if bytes_eq word (codes "run") then sized name script (size_of width) (size_of height) else None
 job words = None

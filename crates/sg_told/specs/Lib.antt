@@ -4,9 +4,11 @@ pub mod Told
 pub mod Session
 pub mod Judged
 pub mod Work
+pub mod Filed
 pub mod Output
 pub mod Reading
 pub mod World
+pub mod Ran
 pub mod Parts
 pub mod Causes
 pub mod Opening

@@ -4,7 +4,9 @@ use Rattle.sg_kinds.specs.declared.fault.SpecFault.{SpecFault}
 use Rattle.sg_kinds.specs.declared.spec.Spec.{Spec}
 use Rattle.sg_replies.specs.declared.reply.Reply.{Reply}
 use Rattle.sg_replies.specs.declared.reply.Reply.TheVariants.{Fetched}
-use Rattle.sg_replies.specs.Calls.{ShelfState, Replied}
+use Rattle.sg_replies.specs.Requests.{Request}
+use Rattle.sg_outside.specs.Shelf.{ShelfState}
+use Rattle.sg_replies.specs.Calls.{Replied}
 use Rattle.sg_script.specs.declared.command.Command.{Command}
 use Rattle.sg_script.specs.Script.{script_of}
 use Rattle.sg_load.specs.Verdict.{Verdict, IsVerdict}
@@ -15,13 +17,13 @@ use Rattle.sg_told.specs.declared.status.Status.{Status}
 use Rattle.sg_told.specs.declared.status.Status.TheVariants.{Memory}
 use Rattle.sg_told.specs.Output.{whole_file}
 use Rattle.sg_told.specs.Told.{Told}
-use Rattle.sg_told.specs.World.{SinkState}
+use Rattle.sg_outside.specs.Sink.{SinkState}
 
--- the file of that name was fetched, and one reply came to those before
-pub record IsFetched (name : List ℕ) (before after : List Reply) (old new : ShelfState) : Type 0 where
+-- a file was fetched by this request, and one reply came to those before
+pub record IsFetched (q : Request) (before after : List Reply) (old new : ShelfState) : Type 0 where
   pub reply : Reply
   pub last : after ≡ before ++ reply ∷ []
-  pub replied : Replied (whole_file name) reply old new
+  pub replied : Replied q reply old new
 
 -- the verdict is that on what the reply brought, if it brought bytes; there is no other
 abbrev pub IsVerdictOf : Reply → Verdict → Type 0
@@ -40,7 +42,7 @@ pub record IsAdmitted (reply : Reply) (spec : Spec) : Type 0 where
 
 -- the specification of that name was fetched first, and has no fault
 pub record IsOpened (name : List ℕ) (spec : Spec) (replies : List Reply) (old new : ShelfState) : Type 0 where
-  pub fetched : IsFetched name [] replies old new
+  pub fetched : IsFetched (whole_file name) [] replies old new
   pub admitted : IsAdmitted fetched.reply spec
 
 -- the reply brought the script of these commands

@@ -16,16 +16,18 @@ use Rattle.sg_editor.specs.Ask.{Readers}
 use Rattle.sg_editor.specs.Session.{start}
 use Rattle.sg_told.specs.declared.status.Status.TheVariants.{Done, Usage, ReadFault, ScriptFault}
 use Rattle.sg_told.specs.Job.{Job, job}
-use Rattle.sg_told.specs.Job.Job.{Show, Check, Run, Load}
+use Rattle.sg_told.specs.Job.Job.{Show, Check, Run, Load, Report}
 use Rattle.sg_told.specs.Reading.{Reading}
 pub use Rattle.sg_told.specs.Judged.{fault_told, judged}
 use Rattle.sg_told.specs.Told.{Told, text, asked}
 use Rattle.sg_told.specs.Work.{work_told}
+use Rattle.sg_told.specs.Filed.{reported}
 use Rattle.sg_told.specs.Session.{desk, session}
 
 -- where the words are no job
 abbrev pub usage_text : List ℕ
-usage_text = codes "usage: ssled show SPEC | run SPEC SCRIPT [W H] | check SPEC | load N" ++ 10 ∷ []
+usage_text = codes "usage: ssled show SPEC | run SPEC SCRIPT [W H] | check SPEC | load N | report SPEC FILE ATTR"
+    ++ 10 ∷ []
 
 -- where the specification cannot be fetched; where the script cannot be
 abbrev pub read_fault_text : List ℕ
@@ -99,6 +101,7 @@ job_told (Some (Check name)) r replies = with_spec checked name r.verdict replie
 job_told (Some (Run name script width height)) r replies =
     with_spec (performed script width height r.readers) name r.verdict replies
 job_told (Some (Load n)) r replies = work_told n r
+job_told (Some (Report name file word)) r replies = with_spec (reported file word r.readers) name r.verdict replies
 
 -- what a run of these words tells where the shelf gives these replies, and the texts among them are read so
 abbrev pub told : List (List ℕ) → Reading → List Reply → Told

@@ -3,7 +3,7 @@ use Rattle.std.specs.Prelude.{ℕ, Result, Ok, Err}
 use Rattle.sg_outside.specs.declared.sink.SinkError.{SinkError}
 use Rattle.sg_outside.specs.declared.sink.SinkError.TheVariants.{Failed, NoMemory}
 use Rattle.sg_told.specs.declared.status.Status.{Status}
-use Rattle.sg_told.specs.declared.status.Status.TheVariants.{Done, Memory, Usage, ReadFault, SpecFault, ScriptFault, SinkFault}
+use Rattle.sg_told.specs.declared.status.Status.TheVariants.{Done, Memory, Usage, ReadFault, SpecFault, ScriptFault, SinkFault, ReportFault}
 
 -- the number with which the program ends
 abbrev pub number_of : Status → ℕ
@@ -14,6 +14,7 @@ number_of ReadFault = 3
 number_of SpecFault = 4
 number_of ScriptFault = 5
 number_of SinkFault = 6
+number_of ReportFault = 7
 
 -- the run came to an end of its own, neither by want of memory nor by a fault of the sink
 abbrev pub IsEnd : Status → Type 0
@@ -24,6 +25,7 @@ IsEnd Usage = Unit {0}
 IsEnd ReadFault = Unit {0}
 IsEnd SpecFault = Unit {0}
 IsEnd ScriptFault = Unit {0}
+IsEnd ReportFault = Unit {0}
 
 -- the run was cut short, by want of memory or by a fault of the sink
 abbrev pub IsCut : Status → Type 0
@@ -34,6 +36,7 @@ IsCut Usage = ⊥
 IsCut ReadFault = ⊥
 IsCut SpecFault = ⊥
 IsCut ScriptFault = ⊥
+IsCut ReportFault = ⊥
 
 -- the status after a put that was refused
 abbrev pub sink_status : SinkError → Status

@@ -7,7 +7,7 @@ use Rattle.sg_told.specs.declared.status.Status.TheVariants.{Done, Memory}
 use Rattle.sg_told.specs.Told.{Told}
 use Rattle.sg_told.specs.Judged.{judged}
 use Rattle.sg_told.specs.Reading.{Reading, AreTheLines}
-use Rattle.sg_told.specs.World.{SinkState}
+use Rattle.sg_outside.specs.Sink.{SinkState}
 
 -- one block, for which so many equations are evaluated, ends the run
 abbrev pub told_once : List ℕ → ℕ → Told

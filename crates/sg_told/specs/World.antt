@@ -1,21 +1,11 @@
 -- What a run finds and leaves: the shelf, the sink and the journal
 use Rattle.std.specs.Prelude.{◌≡◌, ◌⊎◌, ◌≤◌, ◌<◌, ℕ, ◌+◌, List, [], ◌++◌, length, take, get_or, sum, Option}
-use Rattle.sg_outside.specs.Shelf.{Files}
-use Rattle.sg_outside.specs.Count.{Calls, tallied}
-use Rattle.sg_outside.specs.Sink.{appended}
-use Rattle.sg_replies.specs.Calls.{ShelfState, shelf_state}
+use Rattle.sg_outside.specs.Shelf.{ShelfState}
+use Rattle.sg_outside.specs.Count.{tallied}
+use Rattle.sg_outside.specs.Sink.{SinkState, appended}
 use Rattle.sg_told.specs.declared.status.Status.{Status}
 use Rattle.sg_told.specs.declared.status.Status.TheVariants.{Memory, SinkFault}
 use Rattle.sg_told.specs.Told.{Told, joined}
-
--- what is known of a sink: its bytes, its count of failures, and how many puts there were
-pub record SinkState : Type 0 where
-  pub written : Option (List ℕ)
-  pub faults : ℕ
-  pub puts : Option ℕ
-
-abbrev pub sink_state : Option (List ℕ) → ℕ → Option ℕ → SinkState
-sink_state written faults puts = record { written = written; faults = faults; puts = puts }
 
 -- what is known of the shelf and of the sink, and how many entries the journal has in all
 pub record World : Type 0 where
@@ -25,13 +15,6 @@ pub record World : Type 0 where
 
 abbrev pub world : ShelfState → SinkState → ℕ → World
 world shelf sink counted = record { shelf = shelf; sink = sink; counted = counted }
-
--- the world of a shelf and of a sink, by what their types tell of them, and of a number of entries
-abbrev pub world_of : {S K : Type 0} → (S → Option Files) → (S → ℕ) → (S → Option Calls) → S → (K → Option (List ℕ))
-    → (K → ℕ) → (K → Option ℕ) → K → ℕ → World
-world_of files faults calls shelf written failed puts sink counted =
-    world (shelf_state (files shelf) (faults shelf) (calls shelf))
-    (sink_state (written sink) (failed sink) (puts sink)) counted
 
 -- there were so many puts, or, where More holds, one more
 abbrev pub PutsOrOneMore : Type 0 → ℕ → Option ℕ → Option ℕ → Type 0

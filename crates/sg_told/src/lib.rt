@@ -2,6 +2,7 @@
 //! its words and of the shelf's replies, with the laws by which the parts of a run are put together.
 #![tactic(auto)]
 
+pub mod runs;
 mod status;
 pub mod words;
 

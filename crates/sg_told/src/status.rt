@@ -14,7 +14,7 @@ pub enum Status {
     Memory,
     /// The words are no job.
     Usage,
-    /// The specification or the script could not be fetched.
+    /// The specification, the script or the file of a report could not be fetched.
     ReadFault,
     /// The specification has a fault.
     SpecFault,
@@ -22,6 +22,8 @@ pub enum Status {
     ScriptFault,
     /// A put failed.
     SinkFault,
+    /// What is to be reported cannot be.
+    ReportFault,
 }
 
 impl Status {
@@ -37,6 +39,7 @@ impl Status {
             Status::SpecFault => 4,
             Status::ScriptFault => 5,
             Status::SinkFault => 6,
+            Status::ReportFault => 7,
         }
     }
 }

@@ -3,7 +3,7 @@ use Rattle.sg_eval.specs.Journal.{counted}
 use Rattle.sg_editor.specs.Ask.{Readers, AreReaders}
 use Rattle.sg_editor.specs.Editing.{spec_in, session_of}
 use Rattle.sg_told.specs.Session.{session}
-use Rattle.sg_told.specs.World.{world_of}
+use Rattle.sg_told.specs.World.{world}
 use Rattle.sg_told.specs.Parts.{Passed}
 use Rattle.sg_run.specs.DeskView.{desk_in}
 use Rattle.sg_run.proofs.playing.perform.Given as goal
@@ -16,7 +16,7 @@ invariant-loop-command g l = record {
       → Passed (session (desk_in l.initial.editor r) (session_of l.initial.editor) l.commands)
       (session (desk_in l.initial.editor r) (session_of l.editor) (drop l.command-index l.commands))
       l.initial.replies.items l.replies.items
-      (world_of g.S.Shelf.files g.S.Shelf.faults g.S.Shelf.calls l.initial.shelf g.K.Sink.written g.K.Sink.faults g.K.Sink.puts l.initial.sink (counted l.initial.journal))
-      (world_of g.S.Shelf.files g.S.Shelf.faults g.S.Shelf.calls l.shelf g.K.Sink.written g.K.Sink.faults g.K.Sink.puts l.sink (counted l.journal));
+      (world (g.S.Shelf.state l.initial.shelf) (g.K.Sink.state l.initial.sink) (counted l.initial.journal))
+      (world (g.S.Shelf.state l.shelf) (g.K.Sink.state l.sink) (counted l.journal));
   room : counted l.journal ≤ counted l.initial.journal + 2 ^ 40 * l.command-index;
 }

@@ -29,7 +29,7 @@ returns-in_err-put-clause-played g c = λ r right.
     let counts : counted c.step.new.journal ≡ counted c.args.journal.now + length (now_of c.step.new.journal) = omega (arith, c.step.ensures.total) in
     let e = c.in_err-put.field-0.0 in
     let block = shown_at c.args.editor.now c.step.new.self _ _ _ _ (c.as_slice.ensures.value ∙ c.in_ok-block.ensures.printed) c.step.ensures.setting (ap (λ (es : List Instance). length es) c.now.ensures) in
-    let P : List ℕ → Type 0 = λ b. CutShort (g.K.Sink.written c.args.sink.now) (g.K.Sink.written c.put.new.self) b in
+    let P : List ℕ → Type 0 = λ b. CutShort (g.K.Sink.state c.args.sink.now).written (g.K.Sink.state c.put.new.self).written b in
     exits _ (sink_status e) _ c.from_residual-in_err-put.ensures.1
     (λ commands. command_unput (desk_in c.args.editor.now r) (session_of c.args.editor.now) c.args.command.now c.step.new.self c.in_ok-message.message (now_of c.step.new.journal)
     _ _ _ _ _ _ _ _ (sink_status e) (c.in_ok-message.ensures.ok r right) (is_cut e)
@@ -43,4 +43,4 @@ returns-clause-passed g c = λ r right.
     rw c.in_ok-block.ensures.same
     (λ commands. command_passed (desk_in c.args.editor.now r) (session_of c.args.editor.now) c.args.command.now c.step.new.self c.in_ok-message.message (now_of c.step.new.journal)
     _ _ _ _ _ _ _ _ (c.in_ok-message.ensures.ok r right)
-    (c.in_ok-put.ensures.ok ∙ ap (λ (b : List ℕ). appended (g.K.Sink.written c.args.sink.now) b) block) c.in_ok-put.ensures.counted c.in_ok-put.ensures.later counts commands)
+    (c.in_ok-put.ensures.ok ∙ ap (λ (b : List ℕ). appended (g.K.Sink.state c.args.sink.now).written b) block) c.in_ok-put.ensures.counted c.in_ok-put.ensures.later counts commands)

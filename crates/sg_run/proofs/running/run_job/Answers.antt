@@ -4,7 +4,7 @@ use Rattle.sg_run.specs.declared.words.Job.{Job as Words}
 use Rattle.sg_run.specs.JobView.{job_of}
 use Rattle.sg_told.specs.declared.status.Status.TheVariants.{Usage}
 use Rattle.sg_told.specs.Job.{job}
-use Rattle.sg_told.specs.Job.Job.{Show, Check, Run, Load}
+use Rattle.sg_told.specs.Job.Job.{Show, Check, Run, Load, Report}
 use Rattle.sg_told.specs.Output.{job_told}
 use Rattle.sg_told.proofs.Blank.{blank_readers}
 use Rattle.sg_told.proofs.Endings.{ends_text}
@@ -52,4 +52,13 @@ returns-in-Some-Run g c =
     record {
       known = read_job _ (Run j.name.now j.script_name.now j.width j.height) _ _ _ _ _ tt (sym is) refl c.run_script.ensures.known;
       played = λ r right. told_by (Some (Run j.name.now j.script_name.now j.width j.height)) r (map string_bytes c.args.words.now) _ _ _ _ _ is (c.run_script.ensures.played r (right_by _ _ _ r is right));
+    }
+
+pub returns-in-Some-Report : goal.returns-in-Some-Report
+returns-in-Some-Report g c =
+    let j = c.in-Some-Report in
+    let is : Some (Report j.name.now j.file.now j.word.now) ≡ job (map string_bytes c.args.words.now) = sym (ap (λ (j : Words). Some (job_of j)) j.field-0-is) ∙ j.ensures.job in
+    record {
+      known = read_job _ (Report j.name.now j.file.now j.word.now) _ _ _ _ _ tt (sym is) refl c.report_on.ensures.known;
+      played = λ r right. told_by (Some (Report j.name.now j.file.now j.word.now)) r (map string_bytes c.args.words.now) _ _ _ _ _ is (c.report_on.ensures.played r (right_by _ _ _ r is right));
     }

@@ -1,10 +1,12 @@
-use Rattle.std.proofs.Common.{◌≡◌, ◌≤◌, ℕ, zero, suc, List, [], ◌∷◌, refl, arith}
+use Rattle.std.proofs.Common.{◌≡◌, ◌≤◌, ℕ, zero, suc, List, [], ◌∷◌, map, string_bytes, refl, arith}
 use Rattle.std.specs.Prelude.{All}
 use Rattle.std.proofs.lemmas.List.Elements.{All-nil, All-cons, All-contains}
 use Rattle.sg_outside.specs.Count.{raised, raised_by}
 use Rattle.sg_replies.specs.declared.reply.Reply.{Reply}
 use Rattle.sg_replies.specs.Requests.{failure, failures}
 use Rattle.sg_replies.proofs.Laws.{≤-raised_by}
+use Rattle.sg_told.specs.Job.{job}
+use Rattle.sg_told.proofs.CauseLaws.{failures_counted}
 use Rattle.sg_run.proofs.sure.run_surely.Goals as goal
 
 -- a count that stayed at 0 was not raised
@@ -24,17 +26,12 @@ returns-clause-no_read_fault c = λ is. let rose = (c.run.ensures.read_fault is)
 
 pub returns-clause-no_failure : goal.returns-clause-no_failure
 returns-clause-no_failure c = λ reply there.
-    let all = none_failed c.run.result.replies.items (none (failures c.run.result.replies.items) c.run.ensures.failed_replies) in
+    let counted = failures_counted (job (map string_bytes c.args.words.now)) _ _ _ _ c.run.ensures.known (λ r right. (c.run.ensures.ran r right).ends) in
+    let all = none_failed c.run.result.replies.items (none (failures c.run.result.replies.items) counted) in
     All-contains (λ reply. failure reply ≡ 0) c.run.result.replies.items reply all there
+
+pub returns-clause-files : goal.returns-clause-files
+returns-clause-files c = λ r right. (c.run.ensures.ran r right).ends.served.files
 
 pub returns-clause-complete : goal.returns-clause-complete
 returns-clause-complete c = c.run.ensures.complete (λ rose. omega (arith, rose)) (λ rose. omega (arith, rose))
-
-pub returns-clause-output : goal.returns-clause-output
-returns-clause-output c = λ r right end. let is = c.run.ensures.output r right end in cc
-
-pub returns-clause-puts : goal.returns-clause-puts
-returns-clause-puts c = λ r right end. let is = c.run.ensures.puts r right end in cc
-
-pub returns-clause-calls : goal.returns-clause-calls
-returns-clause-calls c = λ other. let is = c.run.ensures.calls other in cc

@@ -1,6 +1,6 @@
 use Rattle.std.proofs.Common.{◌≡◌, drop}
 use Rattle.sg_told.specs.Job.{number_from}
-use Rattle.sg_run.proofs.words.size.Given as goal
+use Rattle.sg_told.proofs.words.size.Given as goal
 
 -- what is left decides
 abbrev pub invariant-loop-b : goal.invariant-loop-b
