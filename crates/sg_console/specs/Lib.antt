@@ -1,0 +1,4 @@
+pub mod Console
+pub mod Lines
+pub mod MemConsole
+pub mod Entry

@@ -1,0 +1,12 @@
+pub mod Lines
+pub mod Inputs
+pub mod Whole
+pub mod OneLine
+pub mod LineByLine
+pub mod Causes
+pub mod Scripts
+pub mod Fronts
+pub mod Runs
+pub mod TextLemmas
+pub mod OfferLemmas
+pub mod OfferLaws

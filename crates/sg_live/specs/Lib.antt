@@ -1,0 +1,12 @@
+pub mod Outside
+pub mod Texts
+pub mod Offers
+pub mod Turns
+pub mod Words
+pub mod Opening
+pub mod Lived
+pub mod Answers
+pub mod DeskView
+pub mod Turned
+pub mod JobView
+pub mod Laws
