@@ -10,8 +10,7 @@ use sg_eval::Journal;
 use sg_load::load;
 use sg_outside::MemShelf;
 use sg_replies::Reply;
-use sg_screen::Message;
-use sg_script::{Command, read};
+use sg_script::{Command, Message, read};
 use std::alloc::Global;
 use std::process::Abort;
 

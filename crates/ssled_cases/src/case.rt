@@ -16,6 +16,10 @@ pub struct Case {
     pub calls: Vec<u64>,
     /// The numbers of the sink's puts that fail, each with how many bytes it writes.
     pub puts: Vec<(u64, usize)>,
+    /// What is read, where the run answers line by line.
+    pub input: Option<Vec<u8>>,
+    /// The numbers of the console's calls that fail.
+    pub reads: Vec<u64>,
     pub status: u64,
     /// How many replies of the shelf there are.
     pub replies: u64,
@@ -32,6 +36,8 @@ fn empty(alloc: Global) -> Case {
         files: Vec::new(alloc),
         calls: Vec::new(alloc),
         puts: Vec::new(alloc),
+        input: None,
+        reads: Vec::new(alloc),
         status: 0,
         replies: 0,
         rise: 0,
@@ -57,6 +63,13 @@ fn add(alloc: Global, case: &mut Case, section: Text) -> Result<()> {
     match word {
         "run" if head.as_str() == "run" => {}
         "run" => case.words = words_of(alloc, rest)?,
+        "live" => {
+            case.input = Some(bytes);
+            if head.as_str() != "live" {
+                case.words = words_of(alloc, rest)?;
+            }
+        }
+        "console" => case.reads.push(number(words.next())?)?,
         "file" => case.files.push((String::from_str(alloc, rest)?, bytes))?,
         "call" => case.calls.push(number(words.next())?)?,
         "put" => case

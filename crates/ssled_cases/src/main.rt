@@ -4,14 +4,16 @@
 //! begins with `//` is a comment; the first one says how the table was made. The other blocks consist of lines of
 //! words, with one blank between two words, of which some are followed by the lines of a text.
 //!
-//! A block that begins with `text NAME` is a text for the blocks below it. A block that begins with `run` is a case:
+//! A block that begins with `text NAME` is a text for the blocks below it. A block that begins with `run` or `live` is a case:
 //!
 //! | Line | What it says |
 //! |---|---|
 //! | `run WORD WORD ..` | the words of the command line |
+//! | `live WORD WORD ..` and a text | the words of a session that answers line by line, and its input |
 //! | `file NAME` and a text | a file on the shelf |
 //! | `call N` | call N of the shelf fails, from 1 on |
 //! | `put N M` | put N into the sink fails after M bytes |
+//! | `console N` | call N of the console fails |
 //! | `gives STATUS REPLIES RISE` and a text | the number of the status, how many replies of the shelf there are, by how many entries the journal grows, and what is written |
 //! | `after NAME` and a text | that file afterwards; each other file is to be as before |
 //!
@@ -25,20 +27,34 @@
 //! | `*N BYTES` | the bytes N times |
 //! | `@NAME FROM TO` | the bytes of that text from place FROM to before place TO |
 //!
+//! Of the tables of sessions each script that is done to its end without a put that fails is also the input of a session
+//! that answers line by line, which is to write the same.
+//!
 //! For each table one line tells how many cases passed and how many did not, and before it stands each difference in
 //! full, with the table and the line of the case.
 #![tactic(auto)]
 
 mod case;
+mod living;
 mod running;
 mod table;
 
 use anyhow::{Context, Result, bail};
 use case::case_of;
+use living::{answers, gives_same};
 use running::passes;
 use sg_eval::Journal;
 use std::fs;
 use table::{Text, sections};
+
+// The tables whose scripts are also given line by line.
+const SESSIONS: [&str; 5] = [
+    "commands.cases",
+    "examples.cases",
+    "hostile.cases",
+    "sessions.cases",
+    "tutorial.cases",
+];
 
 // How many cases passed, and how many did not.
 #[derive(Clone, Copy)]
@@ -52,6 +68,7 @@ fn run_block(
     rt: &HostRuntime,
     place: &str,
     block: &str,
+    is_session: bool,
     texts: &mut Vec<Text>,
     journal: &mut Journal,
 ) -> Result<Option<bool>> {
@@ -64,11 +81,15 @@ fn run_block(
         texts.push(sections.pop().context("a text")?)?;
         return Ok(None);
     }
-    if !block.starts_with("run") {
+    if !block.starts_with("run") && !block.starts_with("live") {
         bail!("a block of another kind");
     }
     let case = case_of(alloc, sections)?;
-    Ok(Some(passes(rt, place, case, journal)?))
+    if case.input.is_some() {
+        return Ok(Some(answers(rt, place, &case, journal)?));
+    }
+    let same = !is_session || gives_same(rt, place, &case, journal)?;
+    Ok(Some(passes(rt, place, case, journal)? && same))
 }
 
 // Runs the cases of the table of that name.
@@ -80,11 +101,12 @@ fn run_table(rt: &HostRuntime, name: &str, journal: &mut Journal) -> Result<Tall
         passed: 0,
         failed: 0,
     };
+    let is_session = SESSIONS.iter().any(|table| *table == name);
     let mut line = 1usize;
     let table = table.as_str();
     for block in table.strip_suffix('\n').unwrap_or(table).split("\n\n") {
         let place = format!(in alloc; "{name}:{line}")?;
-        let outcome = run_block(rt, &place, block, &mut texts, journal);
+        let outcome = run_block(rt, &place, block, is_session, &mut texts, journal);
         match outcome.context(format_args!("{place}"))? {
             Some(true) => tally.passed = tally.passed.saturating_add(1),
             Some(false) => tally.failed = tally.failed.saturating_add(1),

@@ -13,13 +13,13 @@ use std::alloc::{AllocError, Global};
 const ROOM: u64 = 1 << 60;
 
 // How many entries the journal has in all.
-fn entries(journal: &Journal) -> u64
+pub fn entries(journal: &Journal) -> u64
     ensures { result < 2 ^ 60 → counted journal.now < 2 ^ 60 }
 {
     journal.total().saturating_add(journal.now().len() as u64)
 }
 
-fn copies(alloc: Global, files: &[File]) -> Result<Vec<File>, AllocError> {
+pub fn copies(alloc: Global, files: &[File]) -> Result<Vec<File>, AllocError> {
     let mut copies = Vec::new(alloc);
     for (name, bytes) in files {
         copies.push((name.clone()?, bytes.clone()?))?;
@@ -38,7 +38,7 @@ fn content(alloc: Global, shelf: &mut MemShelf, name: &str, fails: usize) -> Opt
 }
 
 // Whether these bytes came, which is told if not.
-fn came(rt: &HostRuntime, place: &str, what: &str, came: &[u8], wanted: &[u8]) -> Result<bool> {
+pub fn came(rt: &HostRuntime, place: &str, what: &str, came: &[u8], wanted: &[u8]) -> Result<bool> {
     if came == wanted {
         return Ok(true);
     }
@@ -68,7 +68,12 @@ fn stands(
 }
 
 // Whether each file is as before, or as is wanted.
-fn files_stand(rt: &HostRuntime, place: &str, case: &Case, shelf: &mut MemShelf) -> Result<bool> {
+pub fn files_stand(
+    rt: &HostRuntime,
+    place: &str,
+    case: &Case,
+    shelf: &mut MemShelf,
+) -> Result<bool> {
     let fails = case.calls.len();
     let mut all = true;
     for file in &case.kept {
