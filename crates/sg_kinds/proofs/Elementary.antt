@@ -1,9 +1,8 @@
 -- Small facts on tests, options and lists that several crates cite.
 -- What std has is cited from there: `and_parts`, `or_left`, `or_parts`, `eqb-true`, `leb-true`, `ltb-true` and the facts the other way round of `lemmas.Bool`, `slice_get-map`, `slice_get_within`, `slice_get_past`, `same_Some` of `lemmas.Option`.
-use Rattle.std.specs.Prelude.{◌≡◌, ◌≢◌, refl, ℕ, zero, suc, ◌+◌, ◌<◌, ◌≤◌, Bool, true, false, not, cond, ◌&&◌, ◌||◌, ◌⊎◌, List, [], ◌∷◌, ◌++◌, map, length, All, Contains, Option, Some, None, slice_get, option_map, nat_eq, nat_le, nat_lt, bytes_eq}
+use Rattle.std.specs.Prelude.{◌≡◌, ◌≢◌, refl, ℕ, zero, suc, ◌+◌, ◌<◌, ◌≤◌, Bool, true, false, not, ◌&&◌, ◌||◌, ◌⊎◌, List, [], ◌∷◌, ◌++◌, map, length, All, Contains, Option, Some, None, slice_get, option_map, nat_eq, nat_le, nat_lt, bytes_eq}
 use Rattle.std.specs.Option.{is_some}
-use Rattle.std.specs.List.{list_any, position}
-use Rattle.std.proofs.Common.{inl, inr, sym, ◌∙◌, ap, subst, arith, get_or}
+use Rattle.std.proofs.Common.{inl, inr, ap, subst, arith, get_or}
 use Rattle.std.proofs.lemmas.Bool.Decides.{nat_tests}
 use Rattle.std.proofs.lemmas.Slice.Eq.{bytes_eq-Decides}
 

@@ -14,10 +14,10 @@ use Rattle.sg_kinds.specs.declared.marks.Sign.TheVariants.{Add, Sub, Equal, Belo
 
 -- short forms
 abbrev pub syn : ℕ → Attr
-syn of = record { name = []; way = Synthesized; of = of }
+syn of = record { name = []; way = Synthesized; of = of; far = [] }
 
 abbrev pub inh : ℕ → Attr
-inh of = record { name = []; way = Inherited; of = of }
+inh of = record { name = []; way = Inherited; of = of; far = [] }
 
 abbrev pub phylum : Shape → List ℕ → List Attr → Phylum
 phylum shape ops attrs = record { name = []; shape = shape; ops = ops; attrs = attrs }
@@ -58,6 +58,8 @@ sums = record {
   productions = production 0 (Nonterminal 0 ∷ Quoted (43 ∷ []) ∷ Nonterminal 1 ∷ []) 4 ∷ production 0 (Nonterminal 1 ∷ []) 2
       ∷ production 1 (Lexical 5 ∷ []) 5 ∷ production 1 (Quoted (40 ∷ []) ∷ Nonterminal 0 ∷ Quoted (41 ∷ []) ∷ []) 2 ∷ [];
   entries = record { phylum = 4; nonterminal = 0 } ∷ [];
+  levels = [];
+  views = record { names = []; rows = [] };
   root = 3;
 }
 
@@ -84,6 +86,8 @@ lets = record {
   lexemes = Then (Class false ((97, 122) ∷ [])) (Many (Class false ((97, 122) ∷ (48, 57) ∷ []))) ∷ [];
   productions = [];
   entries = [];
+  levels = [];
+  views = record { names = []; rows = [] };
   root = 3;
 }
 
@@ -99,6 +103,8 @@ uses = record {
   lexemes = [];
   productions = [];
   entries = [];
+  levels = [];
+  views = record { names = []; rows = [] };
   root = 3;
 }
 
@@ -114,6 +120,8 @@ runaways = record {
   lexemes = [];
   productions = [];
   entries = [];
+  levels = [];
+  views = record { names = []; rows = [] };
   root = 0;
 }
 
@@ -130,5 +138,7 @@ meeting = record {
   lexemes = [];
   productions = [];
   entries = [];
+  levels = [];
+  views = record { names = []; rows = [] };
   root = 3;
 }

@@ -14,10 +14,8 @@ pub mod Options
 pub mod Forms
 pub mod Typed
 pub mod Parsed
-pub mod Orders
-pub mod NotOrdered
 pub mod Each
-pub mod UsesOrdered
 pub mod TwoVisits
 pub mod SoundSmall
 pub mod Postfix
+pub mod InView

@@ -1,13 +1,15 @@
 -- A language with one operator below its top is sound, so soundness asks nothing impossible.
-use Rattle.std.specs.Prelude.{◌≡◌, ◌≢◌, ◌⊎◌, ◌++◌, map, count_by, MatchOption, refl, ℕ, zero, suc, ◌+◌, ◌<◌, ◌≤◌, pos, true, false, not, List, [], ◌∷◌, length, All, Some, slice_get, IsTrue, bytes_eq}
+use Rattle.std.specs.Prelude.{◌≡◌, ◌≢◌, ◌⊎◌, ◌++◌, map, filter, count_by, MatchOption, refl, ℕ, zero, suc, ◌+◌, ◌<◌, ◌≤◌, pos, true, false, not, List, [], ◌∷◌, length, All, Some, slice_get, IsTrue, bytes_eq}
 use Rattle.std.proofs.Common.{arith, inl, inr}
 use Rattle.std.proofs.lemmas.Slice.Eq.{bytes_eq-Decides}
 use Rattle.sg_kinds.specs.Values.{Bytes, Number}
-use Rattle.sg_kinds.specs.Specification.{Spec, Phylum, Attr, Local, Operator, Rule, Function, Transform, Production, Entry}
+use Rattle.sg_kinds.specs.Specification.{Spec, Phylum, Attr, Local, Operator, Scheme, attrs_of, Rule, Function, Transform, Production, Entry}
 use Rattle.sg_kinds.specs.Expressions.{Constant}
 use Rattle.sg_kinds.specs.declared.spec.Item.TheVariants.{Child, Writes}
 use Rattle.sg_kinds.specs.declared.spec.Piece.TheVariants.{Written}
 use Rattle.sg_kinds.specs.Sound.{value_name, IsPhylum, HasShapes, HasNames, HasRules, IsTyped, HasSchemes, IsScheme, AreCounted, IsSound, IsFinite, IsNamed, AreDistinct, IsItem, builtin_names, is_owed, is_rule_typed, symbol_types, result_type}
+use Rattle.sg_kinds.specs.Far.{is_far, is_written, HasFar}
+use Rattle.sg_kinds.specs.InView.{schemes_in_view}
 use Rattle.sg_kinds.specs.Typing.{is_usable, is_typed, is_accepted, bound_types}
 use Rattle.sg_kinds.specs.Matches.{Matches}
 use Rattle.sg_kinds.specs.Instances.{defines}
@@ -18,7 +20,7 @@ use Rattle.sg_kinds.proofs.Each.{Each, EachPair, all_of, pairs_of}
 use Rattle.sg_kinds.proofs.Languages.{rule, at}
 
 abbrev value : ℕ → Attr
-value p = record { name = value_name; way = Synthesized; of = p }
+value p = record { name = value_name; way = Synthesized; of = p; far = [] }
 
 abbrev small : Spec
 small = record {
@@ -36,6 +38,8 @@ small = record {
   lexemes = [];
   productions = [];
   entries = [];
+  levels = [];
+  views = record { names = []; rows = [] };
   root = 3;
 }
 
@@ -45,7 +49,7 @@ counted = record {
   phyla = omega arith;
   ops = omega arith;
   args = all_of (λ (o : Operator). length o.args ≤ 16) small.ops (omega arith, (omega arith, tt));
-  attrs = all_of (λ (x : Phylum). length x.attrs ≤ 32) small.phyla (omega arith, (omega arith, (omega arith, (omega arith, (omega arith, tt)))));
+  attrs = all_of (λ (x : Phylum). (count_by is_written x.attrs ≤ 32) × (count_by is_far x.attrs ≤ 1048576)) small.phyla ((omega arith, omega arith), ((omega arith, omega arith), ((omega arith, omega arith), ((omega arith, omega arith), ((omega arith, omega arith), tt)))));
   locals = all_of (λ (o : Operator). length o.locals ≤ 32) small.ops (omega arith, (omega arith, tt));
   functions = omega arith;
   params = all_of (λ (f : Function). length f.params ≤ 16) small.functions tt;
@@ -53,6 +57,9 @@ counted = record {
   schemes = all_of (λ (o : Operator). length o.schemes ≤ 16) small.ops (omega arith, (omega arith, tt));
   productions = omega arith;
   symbols = all_of (λ (r : Production). length r.right ≤ 16) small.productions tt;
+  rules = omega arith;
+  views = omega arith;
+  rows = all_of (λ (row : List (List Scheme)). All (λ (ss : List Scheme). length ss ≤ 16) row) [] tt;
 }
 
 Differ : Bytes → Bytes → Type 0
@@ -73,8 +80,9 @@ names = record {
   nonterminals = all_of (IsNamed small) small.productions tt;
   numbered = λ n r is k l. cc is;
   callables = distinct (map (λ (o : Operator). o.name) small.ops ++ (map (λ (f : Function). f.name) small.functions ++ builtin_names)) ((refl, (refl, (refl, (refl, tt)))), ((refl, (refl, (refl, tt))), ((refl, (refl, tt)), ((refl, tt), (tt, tt)))));
-  attrs = all_of (λ (x : Phylum). AreDistinct (map (λ (a : Attr). a.name) x.attrs)) small.phyla (one, (one, (one, (none, (one, tt)))));
+  attrs = all_of (λ (x : Phylum). AreDistinct (map (λ (a : Attr). a.name) (filter is_written x.attrs))) small.phyla (one, (one, (one, (none, (one, tt)))));
   locals = all_of (λ (o : Operator). AreDistinct (map (λ (l : Local). l.name) o.locals)) small.ops (none, (none, tt));
+  views = none;
 }
   where
     one : AreDistinct (value_name ∷ [])
@@ -174,8 +182,16 @@ unfolding Each EachAt
 schemes = record {
   shown = λ op o is s. shown op o is;
   schemes = λ op o is. let e : 0 + op ≡ op = omega arith in rw e at (at_of (λ op (o : Operator). All (IsScheme small op) o.schemes) 0 small.ops every op o is);
+  views = λ v op low. none op (schemes_in_view small.views v op) (nothing v op);
 }
   where
+    nothing : (v op : ℕ) → schemes_in_view small.views v op ≡ []
+    nothing zero op = refl
+    nothing (suc v) op = refl
+
+    none : (op : ℕ) (ss : List Scheme) → ss ≡ [] → All (IsScheme small op) ss
+    none op ss is = rw is (all_of (IsScheme small op) [] tt)
+
     shown : (op : ℕ) (o : Operator) → slice_get small.ops op ≡ Some o → 1 ≤ length o.schemes
     shown op o is = at_of (λ k (o : Operator). 1 ≤ length o.schemes) 0 small.ops (omega arith, (omega arith, tt)) op o is
 
@@ -184,6 +200,28 @@ schemes = record {
       all_of (IsScheme small 0) (record { rests = true; editable = false; items = Child Resting ∷ [] } ∷ []) (record { places = refl; separators = refl; shown = all_of (IsItem small 0) (Child Resting ∷ []) (tt, tt) }, tt),
       (all_of (IsScheme small 1) (record { rests = true; editable = true; items = Writes (Written (101 ∷ []) ∷ []) ∷ [] } ∷ []) (record { places = refl; separators = refl; shown = all_of (IsItem small 1) (Writes (Written (101 ∷ []) ∷ []) ∷ []) (tt, tt) }, tt), tt),
     )
+
+-- no attribute of it is far
+of_value : (p s : ℕ) (a : Attr) → slice_get (value p ∷ []) s ≡ Some a → is_far a ≡ false
+of_value p zero a is = let e : value p ≡ a = cc is in rw (← e) refl
+of_value p (suc s) a is = cc is
+
+none_far : (p s : ℕ) (a : Attr) → slice_get (attrs_of small.phyla p) s ≡ Some a → is_far a ≡ false
+none_far zero s a is = of_value 0 s a is
+none_far (suc zero) s a is = of_value 1 s a is
+none_far (suc (suc zero)) s a is = of_value 2 s a is
+none_far (suc (suc (suc zero))) s a is = cc is
+none_far (suc (suc (suc (suc zero)))) s a is = of_value 1 s a is
+none_far (suc (suc (suc (suc (suc p))))) s a is = cc is
+
+far : HasFar small
+far = record {
+  inherited = λ p s a is b. cc (none_far p s a is, b);
+  named = λ p s a is b. cc (none_far p s a is, b);
+  listed = λ p s a is b. cc (none_far p s a is, b);
+  last = λ p i j a b l is it c. cc (none_far p i a is, c);
+  handed = λ op k p q s a left arg is b. cc (none_far q s a is, b);
+}
 
 pub small_is_sound : IsSound small
 unfolding Each EachPair
@@ -200,4 +238,6 @@ small_is_sound = record {
     usable = all_of (λ (x : Entry). IsTrue (is_usable small x.phylum)) [] tt;
     results = all_of (λ (x : Entry). MatchOption (result_type small x.nonterminal) ⊥ (λ p. IsTrue (is_accepted small p x.phylum))) [] tt;
   };
+  levels = distinct [] tt;
+  far = far;
 }

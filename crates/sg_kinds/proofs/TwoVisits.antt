@@ -16,7 +16,7 @@ visits = refl
 
 -- both arguments one after the other in P; i, s, j, t in X
 abbrev plans : List ℕ → Plans
-plans row = record { visits = [] ∷ [] ∷ [] ∷ [] ∷ row ∷ []; places = (0 ∷ 2 ∷ 1 ∷ 3 ∷ 4 ∷ 6 ∷ 5 ∷ 7 ∷ []) ∷ (0 ∷ 2 ∷ 1 ∷ 3 ∷ []) ∷ []; steps = []; readers = [] }
+plans row = record { visits = [] ∷ [] ∷ [] ∷ [] ∷ row ∷ []; places = (0 ∷ 2 ∷ 1 ∷ 3 ∷ 4 ∷ 6 ∷ 5 ∷ 7 ∷ []) ∷ (0 ∷ 2 ∷ 1 ∷ 3 ∷ []) ∷ []; steps = [] }
 
 positions_belong : map (belongs (rules_of meeting) (plans (1 ∷ 2 ∷ 1 ∷ 2 ∷ [])) 1) (0 ∷ 1 ∷ 2 ∷ 3 ∷ 4 ∷ []) ≡ 1 ∷ 1 ∷ 2 ∷ 2 ∷ 2 ∷ []
 positions_belong = refl

@@ -18,13 +18,14 @@ pub mod Instances
 pub mod FromScratch
 pub mod Dependencies
 pub mod Layers
-pub mod Ordered
 pub mod Visits
 pub mod ValidPlans
-pub mod Keys
-pub mod Derivation
+pub mod InputPieces
 pub mod Pieces
 pub mod Typing
+pub mod Far
+pub mod Enclosing
+pub mod InView
 pub mod Sound
 pub mod SameValue
 pub mod ValueCode

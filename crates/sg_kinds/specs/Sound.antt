@@ -1,13 +1,15 @@
 -- When a specification is sound: its numbers are in range, and it has none of the static faults that its record can
 -- show.
-use Rattle.std.specs.Prelude.{filter, flat_map, ◌≡◌, ◌≢◌, ◌↔◌, ◌⊎◌, ℕ, zero, suc, ◌<◌, ◌≤◌, Bool, true, false, cond, not, ◌&&◌, List, [], ◌∷◌, ◌++◌, map, take, length, nat_eq, nat_lt, count_by, find, All, AllPairs, Contains, Option, Some, None, slice_get, option_map, option_and_then, unwrap_or, is_some, IsTrue, MatchOption, ⊤}
+use Rattle.std.specs.Prelude.{filter, flat_map, ◌≡◌, ◌≢◌, ◌↔◌, ◌⊎◌, ℕ, zero, suc, ◌<◌, ◌≤◌, Bool, true, false, cond, not, ◌&&◌, ◌^◌, List, [], ◌∷◌, ◌++◌, map, take, length, nat_eq, nat_lt, count_by, find, All, AllPairs, Contains, Option, Some, None, slice_get, option_map, option_and_then, unwrap_or, is_some, IsTrue, MatchOption, ⊤}
 use Rattle.sg_kinds.specs.Terms.{Term, nodes_of, height_of}
-use Rattle.sg_kinds.specs.Specification.{Bytes, Spec, Phylum, Shape, Attr, Operator, Local, Scheme, Item, Rule, Function, Transform, Production, Symbol, Entry, truths, numbers, texts, args_of, phylum_of, has_shape, is_lexical_shape, is_list_shape, is_leaf_shape, rules_of}
+use Rattle.sg_kinds.specs.Specification.{Bytes, Spec, Phylum, Shape, Attr, Operator, Local, Scheme, Item, Rule, Function, Transform, Production, Symbol, Entry, LevelLine, truths, numbers, texts, args_of, phylum_of, has_shape, is_lexical_shape, is_list_shape, is_leaf_shape, rules_of}
 use Rattle.sg_kinds.specs.Matches.{Matches}
 use Rattle.sg_kinds.specs.Completing.{completing_within}
 use Rattle.sg_kinds.specs.Placeholder.{placeholder_within}
 use Rattle.sg_kinds.specs.Dependencies.{is_inherited_there}
 use Rattle.sg_kinds.specs.Instances.{defines, below}
+use Rattle.sg_kinds.specs.Far.{is_far, is_written, HasFar}
+use Rattle.sg_kinds.specs.InView.{schemes_in_view}
 use Rattle.sg_kinds.specs.Typing.{bound_types, is_accepted, is_usable, slot_type, types_at, is_typed}
 use Rattle.sg_kinds.specs.declared.marks.Shape.TheVariants.{Truths, Numbers, Texts, Lexemes, Ordinary, Optional, Listed, OptionalListed}
 use Rattle.sg_kinds.specs.declared.marks.Way.TheVariants.{Synthesized}
@@ -19,7 +21,7 @@ pub record AreCounted (spec : Spec) : Type 0 where
   pub phyla : length spec.phyla ≤ 515
   pub ops : length spec.ops ≤ 2048
   pub args : All (λ (o : Operator). length o.args ≤ 16) spec.ops
-  pub attrs : All (λ (x : Phylum). length x.attrs ≤ 32) spec.phyla
+  pub attrs : All (λ (x : Phylum). (count_by is_written x.attrs ≤ 32) × (count_by is_far x.attrs ≤ 1048576)) spec.phyla
   pub locals : All (λ (o : Operator). length o.locals ≤ 32) spec.ops
   pub functions : length spec.functions ≤ 1024
   pub params : All (λ (f : Function). length f.params ≤ 16) spec.functions
@@ -27,6 +29,9 @@ pub record AreCounted (spec : Spec) : Type 0 where
   pub schemes : All (λ (o : Operator). length o.schemes ≤ 16) spec.ops
   pub productions : length spec.productions ≤ 1024
   pub symbols : All (λ (r : Production). length r.right ≤ 16) spec.productions
+  pub rules : length spec.rules < 2 ^ 32
+  pub views : length spec.views.names ≤ 16
+  pub rows : All (λ (row : List (List Scheme)). All (λ (ss : List Scheme). length ss ≤ 16) row) spec.views.rows
 
 -- the first three phyla are the base phyla, and no other is one
 abbrev pub is_base_at : ℕ → Shape → Bool
@@ -41,7 +46,7 @@ value_name = 118 ∷ 97 ∷ 108 ∷ 117 ∷ 101 ∷ []
 
 -- a leaf's phylum has no operators and the one attribute `value`, of itself
 abbrev pub IsValue : ℕ → List Attr → Type 0
-IsValue p (a ∷ []) = (a ≡ record { name = value_name; way = Synthesized; of = p })
+IsValue p (a ∷ []) = (a ≡ record { name = value_name; way = Synthesized; of = p; far = [] })
 IsValue p attrs = ⊥
 
 abbrev pub args_count : Spec → Option ℕ → Option ℕ
@@ -128,8 +133,9 @@ pub record HasNames (spec : Spec) : Type 0 where
   pub numbered : IsNumbered spec.productions
   pub callables : AreDistinct (map (λ (o : Operator). o.name) spec.ops
       ++ (map (λ (f : Function). f.name) spec.functions ++ builtin_names))
-  pub attrs : All (λ (x : Phylum). AreDistinct (map (λ (a : Attr). a.name) x.attrs)) spec.phyla
+  pub attrs : All (λ (x : Phylum). AreDistinct (map (λ (a : Attr). a.name) (filter is_written x.attrs))) spec.phyla
   pub locals : All (λ (o : Operator). AreDistinct (map (λ (l : Local). l.name) o.locals)) spec.ops
+  pub views : AreDistinct spec.views.names
 
 -- whether an operator's equations define an occurrence: a synthesized attribute or local of the left side, an
 -- inherited one of an argument
@@ -212,6 +218,7 @@ pub record IsScheme (spec : Spec) (op : ℕ) (s : Scheme) : Type 0 where
 pub record HasSchemes (spec : Spec) : Type 0 where
   pub shown : (op : ℕ) (o : Operator) → slice_get spec.ops op ≡ Some o → IsShown spec o.phylum → 1 ≤ length o.schemes
   pub schemes : (op : ℕ) (o : Operator) → slice_get spec.ops op ≡ Some o → All (IsScheme spec op) o.schemes
+  pub views : (v op : ℕ) → op < length spec.ops → All (IsScheme spec op) (schemes_in_view spec.views v op)
 
 -- no lexeme pattern matches the empty text
 abbrev pub HasLexemes : Spec → Type 0
@@ -224,6 +231,10 @@ pub record HasEntries (spec : Spec) : Type 0 where
   pub results : All (λ (x : Entry). MatchOption (result_type spec x.nonterminal) ⊥
       (λ p. IsTrue (is_accepted spec p x.phylum))) spec.entries
 
+-- no literal stands twice in the precedence lines
+abbrev pub HasLevels : Spec → Type 0
+HasLevels spec = AreDistinct (flat_map (λ (l : LevelLine). l.literals) spec.levels)
+
 pub record IsSound (spec : Spec) : Type 0 where
   pub counted : AreCounted spec
   pub names : HasNames spec
@@ -233,3 +244,5 @@ pub record IsSound (spec : Spec) : Type 0 where
   pub schemes : HasSchemes spec
   pub lexemes : HasLexemes spec
   pub entries : HasEntries spec
+  pub levels : HasLevels spec
+  pub far : HasFar spec

@@ -3,6 +3,8 @@ use Rattle.std.specs.Prelude.{ℕ, Bool, true, false, List, [], Option, slice_ge
 pub use Rattle.sg_kinds.specs.Values.{Bytes}
 pub use Rattle.sg_kinds.specs.declared.marks.Shape.{Shape}
 pub use Rattle.sg_kinds.specs.declared.marks.Way.{Way}
+pub use Rattle.sg_kinds.specs.declared.marks.Group.{Group}
+pub use Rattle.sg_kinds.specs.declared.spec.Far.{Far}
 pub use Rattle.sg_kinds.specs.declared.spec.Attr.{Attr}
 pub use Rattle.sg_kinds.specs.declared.spec.Phylum.{Phylum}
 pub use Rattle.sg_kinds.specs.declared.spec.Local.{Local}
@@ -17,6 +19,8 @@ pub use Rattle.sg_kinds.specs.declared.spec.Transform.{Transform}
 pub use Rattle.sg_kinds.specs.declared.spec.Symbol.{Symbol}
 pub use Rattle.sg_kinds.specs.declared.spec.Production.{Production}
 pub use Rattle.sg_kinds.specs.declared.spec.Entry.{Entry}
+pub use Rattle.sg_kinds.specs.declared.spec.LevelLine.{LevelLine}
+pub use Rattle.sg_kinds.specs.declared.views.Views.{Views}
 pub use Rattle.sg_kinds.specs.declared.spec.Spec.{Spec}
 pub use Rattle.sg_kinds.specs.declared.spec.Rules.{Rules}
 use Rattle.sg_kinds.specs.declared.marks.Shape.TheVariants.{Truths, Numbers, Texts, Lexemes, Listed, OptionalListed}

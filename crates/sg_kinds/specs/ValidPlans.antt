@@ -1,9 +1,9 @@
 -- When plans are valid for attribute equations.
-use Rattle.std.specs.Prelude.{◌≡◌, ◌≢◌, ◌↔◌, ℕ, suc, ◌+◌, ◌-◌, ◌/◌, ◌<◌, ◌≤◌, Bool, false, ◌&&◌, max, map, filter, find, nat_eq, is_some, List, length, AllPairs, Contains, slice_get, option_map, unwrap_or, MatchOption}
-use Rattle.sg_kinds.specs.Specification.{Rules, Rule, Occurrence, attrs_of, args_of, locals_of, phylum_of, has_shape, is_leaf_shape}
+use Rattle.std.specs.Prelude.{◌≡◌, ◌≢◌, ◌↔◌, ℕ, suc, ◌+◌, ◌-◌, ◌/◌, ◌<◌, ◌≤◌, false, max, map, List, length, AllPairs, Contains, slice_get, MatchOption}
+use Rattle.sg_kinds.specs.Specification.{Rules, Occurrence, attrs_of, args_of, locals_of, phylum_of, has_shape, is_leaf_shape}
 use Rattle.sg_kinds.specs.Instances.{below}
 use Rattle.sg_kinds.specs.Layers.{IsLayering, Extended}
-use Rattle.sg_kinds.specs.Visits.{Plans, row_at, greatest, attrs_before, vertex, position_in, visit_count, belongs, seat}
+use Rattle.sg_kinds.specs.Visits.{Plans, row_at, greatest, attrs_before, position_in, visit_count, belongs, seat}
 use Rattle.sg_kinds.specs.declared.plans.PlanStep.{PlanStep}
 use Rattle.sg_kinds.specs.declared.plans.PlanStep.TheVariants.{Eval, Visit}
 
@@ -53,23 +53,11 @@ pub record AreSteps (rules : Rules) (p : ℕ) (plans : Plans) : Type 0 where
   pub each : (j : ℕ) → j < length (row_at plans.steps p)
       → AreStepsOf rules plans p (suc j) (row_at (row_at plans.steps p) j)
 
--- the equations of p that name a vertex, in source order
-abbrev pub names : Rules → ℕ → ℕ → Rule → Bool
-names rules p v r = nat_eq r.op p && is_some (find (λ o. nat_eq (vertex rules p o) v) r.args)
-
-abbrev pub readers_of : Rules → ℕ → ℕ → List ℕ
-readers_of rules p v = filter (λ r. unwrap_or (option_map (names rules p v) (slice_get rules.rules r)) false)
-    (below (length rules.rules))
-
-abbrev pub AreReaders : Rules → ℕ → Plans → Type 0
-AreReaders rules p plans = row_at plans.readers p ≡ map (readers_of rules p) (below (vertices rules p))
-
--- a row of visits for each phylum; rows of positions, steps and readers for each operator
+-- a row of visits for each phylum; rows of positions and of steps for each operator
 pub record HaveRows (rules : Rules) (plans : Plans) : Type 0 where
   pub visits : length plans.visits ≡ length rules.phyla
   pub places : length plans.places ≡ length rules.ops
   pub steps : length plans.steps ≡ length rules.ops
-  pub readers : length plans.readers ≡ length rules.ops
 
 pub record AreValid (rules : Rules) (plans : Plans) : Type 0 where
   pub rows : HaveRows rules plans
@@ -77,4 +65,3 @@ pub record AreValid (rules : Rules) (plans : Plans) : Type 0 where
   pub visits : (X : ℕ) → X < length rules.phyla → AreVisits rules X (layer X) plans
   pub positions : (p : ℕ) → p < length rules.ops → ArePositions rules p layer plans
   pub steps : (p : ℕ) → p < length rules.ops → AreSteps rules p plans
-  pub readers : (p : ℕ) → p < length rules.ops → AreReaders rules p plans

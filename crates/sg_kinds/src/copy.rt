@@ -1,14 +1,13 @@
 // Copies of records.
 ghost use Rattle.std.specs.Prelude.{◌≡◌, IfOk};
 
-use crate::ids::RuleId;
 use crate::lexeme::{Lexeme, LexemeStep};
 use crate::memory::NoMemory;
 use crate::plans::{PlanStep, Plans};
 use crate::row::Row;
 use crate::spec::{
-    Attr, Function, Item, Local, Operator, Phylum, Piece, Production, Rule, Scheme, Spec, Symbol,
-    Transform,
+    Attr, Function, Item, LevelLine, Local, Operator, Phylum, Piece, Production, Rule, Scheme,
+    Spec, Symbol, Transform,
 };
 use crate::text::Text;
 use std::alloc::Global;
@@ -22,12 +21,6 @@ pub trait TryCopy: Sized {
 
 impl TryCopy for u32 {
     fn try_copy(&self, _alloc: Global) -> Result<u32, NoMemory> {
-        Ok(*self)
-    }
-}
-
-impl TryCopy for RuleId {
-    fn try_copy(&self, _alloc: Global) -> Result<RuleId, NoMemory> {
         Ok(*self)
     }
 }
@@ -60,6 +53,7 @@ impl TryCopy for Attr {
             name: self.name.copy(alloc)?,
             way: self.way,
             of: self.of,
+            far: self.far.copy(alloc)?,
         })
     }
 }
@@ -209,6 +203,15 @@ impl TryCopy for Production {
     }
 }
 
+impl TryCopy for LevelLine {
+    fn try_copy(&self, alloc: Global) -> Result<LevelLine, NoMemory> {
+        Ok(LevelLine {
+            group: self.group,
+            literals: self.literals.try_copy(alloc)?,
+        })
+    }
+}
+
 impl Spec {
     /// An equal specification.
     pub fn copy(&self, alloc: Global) -> Result<Spec, NoMemory>
@@ -224,6 +227,8 @@ impl Spec {
             lexemes: self.lexemes.try_copy(alloc)?,
             productions: self.productions.try_copy(alloc)?,
             entries: self.entries.copy(alloc)?,
+            levels: self.levels.try_copy(alloc)?,
+            views: self.views.try_copy(alloc)?,
             root: self.root,
         })
     }
@@ -238,7 +243,6 @@ impl Plans {
             visits: self.visits.try_copy(alloc)?,
             places: self.places.try_copy(alloc)?,
             steps: self.steps.try_copy(alloc)?,
-            readers: self.readers.try_copy(alloc)?,
         })
     }
 }

@@ -27,6 +27,7 @@ pub enum Counted {
     Schemes,
     Productions,
     Symbols,
+    Views,
 }
 
 /// A symbol of the grammar as a conflict prints it: the end, the marker of an entry's phylum, a literal, or the name
@@ -92,6 +93,7 @@ pub enum SpecFault {
     NotDefinedHere(Position),
     Twice(Position),
     Missing(Position, Text),
+    NoEnclosing(Position),
     NoScheme(Position, Text),
     SchemeKids(Position, Text),
     SchemeText(Position),

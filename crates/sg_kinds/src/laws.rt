@@ -1,5 +1,5 @@
 // Laws of the definitions, each as the contract of a function without code.
-ghost use Rattle.std.specs.Prelude.{◌≡◌, ◌<◌, ◌≤◌, ◌++◌, ℕ, List, Some, length, true};
+ghost use Rattle.std.specs.Prelude.{◌≡◌, ◌<◌, ◌≤◌, ◌++◌, ℕ, List, Some, All, slice_get, option_map, length, true};
 ghost use Rattle.sg_kinds.specs.Completing.{completing};
 ghost use Rattle.sg_kinds.specs.Evaluation.{outcome_in, value_within};
 ghost use Rattle.sg_kinds.specs.Expressions.{Expr};
@@ -7,8 +7,9 @@ ghost use Rattle.sg_kinds.specs.Fits.{Fits};
 ghost use Rattle.sg_kinds.specs.Placeholder.{placeholder};
 ghost use Rattle.sg_kinds.specs.Places.{Place, put, sub};
 ghost use Rattle.sg_kinds.specs.Plain.{plain};
-ghost use Rattle.sg_kinds.specs.Sound.{HasShapes};
-ghost use Rattle.sg_kinds.specs.Specification.{Spec};
+ghost use Rattle.sg_kinds.specs.InView.{in_view, own_or, schemes_in_view};
+ghost use Rattle.sg_kinds.specs.Sound.{AreCounted, HasSchemes, HasShapes};
+ghost use Rattle.sg_kinds.specs.Specification.{Operator, Spec};
 ghost use Rattle.sg_kinds.specs.Terms.{Term, nodes_of, height_of};
 ghost use Rattle.sg_kinds.specs.ValueOf.{value_of};
 ghost use Rattle.sg_kinds.specs.Values.{is_within, same_value, Value, size_of, depth_of};
@@ -57,4 +58,17 @@ pub fn counts_of_terms()
     ensures depth { (spec : Spec) (t : Term) (p : ℕ) → Fits spec t p → depth_of (value_of t) ≡ height_of t }
     ensures nodes { (t : Term) → nodes_of t ≤ size_of (value_of t) }
     ensures height { (t : Term) → height_of t ≤ nodes_of t }
+{}
+
+/// In a view a specification differs in the schemes of its operators alone: each has its own of the view, or else the
+/// ordinary ones. It is as sound there, and view 0 is the specification itself.
+#[tactic(auto, using(crate::proofs::InView::ordinary_view, crate::proofs::InView::op_in_view, crate::proofs::InView::schemes_in_views, crate::proofs::InView::few_in_views))]
+pub fn views_change_schemes_alone()
+    ensures ordinary { (spec : Spec) → in_view spec 0 ≡ spec }
+    ensures operators { (spec : Spec) (v op : ℕ) → slice_get (in_view spec v).ops op
+        ≡ option_map (λ (o : Operator). record o { schemes = own_or o.schemes (schemes_in_view spec.views v op) })
+        (slice_get spec.ops op) }
+    ensures schemes { (spec : Spec) (v : ℕ) → HasSchemes spec → HasSchemes (in_view spec v) }
+    ensures few { (spec : Spec) (v : ℕ) → AreCounted spec
+        → All (λ (o : Operator). length o.schemes ≤ 16) (in_view spec v).ops }
 {}

@@ -2,11 +2,13 @@
 #![tactic(auto)]
 
 pub mod copy;
+pub mod decimal;
 pub mod expr;
 pub mod fault;
 pub mod ids;
 pub mod laws;
 pub mod lexeme;
+pub mod limits;
 pub mod made;
 pub mod marks;
 pub mod memory;
@@ -18,3 +20,4 @@ pub mod term;
 pub mod text;
 pub mod trees;
 pub mod value;
+pub mod views;

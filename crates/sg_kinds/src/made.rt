@@ -1,13 +1,14 @@
 // Completing terms, placeholders and plain terms.
 ghost use Rattle.std.specs.Prelude.{◌≡◌, ◌<◌, false, IfOk, MatchOption, Some, None, slice_get, unwrap_or};
 ghost use Rattle.sg_kinds.specs.Terms.{Leaf, Node, kids_of};
-ghost use Rattle.sg_kinds.specs.Values.{Truth, Number, Chars, Tree, row_of};
+ghost use Rattle.sg_kinds.specs.Values.{Tree, row_of};
 ghost use Rattle.sg_kinds.specs.Completing.{all_made, over, one_element, completing, completing_within};
 ghost use Rattle.sg_kinds.specs.Placeholder.{placeholder, placeholder_within};
 ghost use Rattle.sg_kinds.specs.Plain.{plain, plain_all};
 ghost use Rattle.sg_kinds.specs.Specification.{args_of};
 
 use crate::ids::{OpId, PhylumId};
+use crate::limits::DEPTH;
 use crate::marks::Shape;
 use crate::memory::NoMemory;
 use crate::row::Row;
@@ -16,9 +17,6 @@ use crate::term::{Term, TermNode, Terms0};
 use crate::text::Text;
 use crate::value::{Value, ValueNode};
 use std::alloc::Global;
-
-/// The greatest depth of a completing term.
-const COMPLETING_DEPTH: u32 = 1024;
 
 impl Term {
     /// A leaf of a phylum.
@@ -46,7 +44,7 @@ impl Spec {
     pub fn completing(&self, alloc: Global, p: PhylumId) -> Result<Term, NoMemory>
         ensures { IfOk result (λ t. t ≡ completing self.now p) }
     {
-        match self.complete(alloc, p, COMPLETING_DEPTH)? {
+        match self.complete(alloc, p, DEPTH as u32)? {
             Some(t) => Ok(t),
             None => Ok(Term::leaf(p, Value::truth(false))),
         }
@@ -148,7 +146,7 @@ impl Spec {
     pub fn placeholder(&self, alloc: Global, p: PhylumId) -> Result<Term, NoMemory>
         ensures { IfOk result (λ t. t ≡ placeholder self.now p) }
     {
-        match self.hold(alloc, p, COMPLETING_DEPTH - 1)? {
+        match self.hold(alloc, p, DEPTH as u32 - 1)? {
             Some(t) => Ok(t),
             None => Ok(Term::leaf(p, Value::truth(false))),
         }

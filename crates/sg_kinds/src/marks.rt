@@ -89,3 +89,11 @@ pub enum Connective {
     Both,
     Either,
 }
+
+/// How infix literals of one precedence line group: to the left, to the right, not at all.
+#[derive(Clone, Copy, Debug, PartialEq, Eq)]
+pub enum Group {
+    Left,
+    Right,
+    NonAssoc,
+}

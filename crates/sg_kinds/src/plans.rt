@@ -19,6 +19,4 @@ pub struct Plans {
     pub places: Row<Row<u32>>,
     /// of each operator, what each of its visits does, in rising order of position
     pub steps: Row<Row<Row<PlanStep>>>,
-    /// of each operator, the equations that name each of its vertices
-    pub readers: Row<Row<Row<RuleId>>>,
 }

@@ -2,17 +2,27 @@
 use crate::expr::Expr;
 use crate::ids::{ExprId, OpId, PhylumId};
 use crate::lexeme::Lexeme;
-use crate::marks::{ChildPlace, Shape, Way};
+use crate::marks::{ChildPlace, Group, Shape, Way};
 use crate::pattern::Pattern;
 use crate::row::Row;
 use crate::text::Text;
+use crate::views::Views;
 
-/// An attribute of a phylum, with the phylum of its values.
+/// An attribute of a phylum, by its place in that phylum's attributes.
+#[derive(Clone, Copy, PartialEq, Eq)]
+pub struct Far {
+    pub phylum: PhylumId,
+    pub slot: u32,
+}
+
+/// An attribute of a phylum, with the phylum of its values. A far attribute hands down the one of `far` that the
+/// nearest enclosing node of a listed phylum has; `far` is empty for an attribute that is written.
 #[derive(Drop)]
 pub struct Attr {
     pub name: Text,
     pub way: Way,
     pub of: PhylumId,
+    pub far: Row<Far>,
 }
 
 /// A phylum, with its operators in source order. A leaf's phylum has the one attribute `value`.
@@ -130,6 +140,13 @@ pub struct Entry {
     pub nonterminal: u32,
 }
 
+/// A precedence line: infix literals that group alike. Of two lines the later one binds more tightly.
+#[derive(Drop)]
+pub struct LevelLine {
+    pub group: Group,
+    pub literals: Row<Text>,
+}
+
 /// A specification. The phyla 0, 1 and 2 are BOOL, INT and STR.
 #[derive(Drop)]
 pub struct Spec {
@@ -142,6 +159,8 @@ pub struct Spec {
     pub lexemes: Row<Lexeme>,
     pub productions: Row<Production>,
     pub entries: Row<Entry>,
+    pub levels: Row<LevelLine>,
+    pub views: Views,
     pub root: PhylumId,
 }
 

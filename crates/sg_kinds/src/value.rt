@@ -1,19 +1,14 @@
 // Values of attributes and of terms.
-ghost use Rattle.std.specs.Prelude.{◌≡◌, ◌+◌, ◌<◌, ◌≤◌, ◌↔◌, IsTrue, IfOk, min, length};
+ghost use Rattle.std.specs.Prelude.{◌≡◌, ◌+◌, ◌<◌, ◌↔◌, IsTrue, IfOk, min};
 ghost use Rattle.sg_kinds.specs.Values.{row_of, Truth, Number, Chars, Tree, Fault, size_of, sizes_of, depth_of, depths_of, is_within};
 
 use crate::ids::OpId;
+use crate::limits::{VALUE_DEPTH, VALUE_SIZE};
 use crate::marks::FaultKind;
 use crate::memory::NoMemory;
 use crate::text::Text;
 use std::alloc::Global;
 use std::marker::Model;
-
-/// The greatest size of a value.
-pub const SIZE_LIMIT: u32 = 65536;
-
-/// The greatest depth of a value.
-pub const DEPTH_LIMIT: u32 = 1024;
 
 /// A value: a truth value, a number, a text, a tree, or why there is none. Its size and depth are kept beside it, as
 /// far as one past their limits.
@@ -129,7 +124,7 @@ impl Value {
     pub fn is_within(&self) -> bool
         ensures { result ≡ is_within self.now }
     {
-        self.size <= SIZE_LIMIT && self.depth <= DEPTH_LIMIT
+        self.size <= VALUE_SIZE && self.depth <= VALUE_DEPTH
     }
 
     /// Whether both are the same value.
@@ -211,8 +206,8 @@ fn measures(kids: &[Value]) -> (u32, u32)
     let mut depth: u32 = 1;
     for kid in kids {
         let (kid_size, kid_depth) = kid.measure();
-        size = (size + kid_size).min(SIZE_LIMIT + 1);
-        depth = depth.max((kid_depth + 1).min(DEPTH_LIMIT + 1));
+        size = (size + kid_size).min(VALUE_SIZE + 1);
+        depth = depth.max((kid_depth + 1).min(VALUE_DEPTH + 1));
     }
     (size, depth)
 }
