@@ -72,9 +72,9 @@ module _ (R : ℕ → ℕ → Type 0) (goal : ℕ) where
         subst (λ s. IsLayer R goal width (suc k) s) (sym (get_or_push layers layer [] k (sym same))) (subst (λ j. IsLayer R goal width (suc j) layer) (sym same) is)
   ]
 
-  -- whatever is the least way on from v by way of m others makes, behind what is there, the least way from the goal round to it
-  abbrev pub GoesOn : ℕ → ℕ → ℕ → List ℕ → Type 0
-  GoesOn v m total way = (via : List ℕ) → IsLeastWay R goal v m via → (all : List ℕ) × (way ++ via ≡ goal ∷ all) × IsLeastWay R goal goal total all
+  -- whatever is the least way on from v by way of m others makes, behind what is there, the least way from the start
+  abbrev pub GoesOn : ℕ → ℕ → ℕ → ℕ → List ℕ → Type 0
+  GoesOn start v m total way = (via : List ℕ) → IsLeastWay R goal v m via → (all : List ℕ) × (way ++ via ≡ start ∷ all) × IsLeastWay R goal start total all
 
   -- a vertex of the layer that v is related to
   abbrev pub IsNext : ℕ → List Bool → ℕ → Type 0
@@ -117,14 +117,14 @@ module _ (R : ℕ → ℕ → Type 0) (goal : ℕ) where
                 inr (same, way.least other (subst (λ u. Leads R u other goal) (sym same) leads.1) l)
           ]
 
-  pub goes_on-next : (v m total width b : ℕ) (way : List ℕ) (set : List Bool) → IsLayer R goal width (suc m) set → IsNext v set b → ((a : ℕ) → IsNext v set a → b ≤ a) → GoesOn v (suc m) total way → GoesOn b m total (way ++ b ∷ [])
-  goes_on-next v m total width b way set is next least on via l =
+  pub goes_on-next : (start v m total width b : ℕ) (way : List ℕ) (set : List Bool) → IsLayer R goal width (suc m) set → IsNext v set b → ((a : ℕ) → IsNext v set a → b ≤ a) → GoesOn start v (suc m) total way → GoesOn start b m total (way ++ b ∷ [])
+  goes_on-next start v m total width b way set is next least on via l =
       let all = on (b ∷ via) (least-next v m width b via set is next least l) in
       (all.0, append_assoc way (b ∷ []) via ∙ all.1, all.2)
 
   -- the goal is at the end of the way
-  pub goes_on-end : (v total : ℕ) (way : List ℕ) → IsApart R goal v 0 → GoesOn v 0 total way → (all : List ℕ) × (way ≡ goal ∷ all) × IsLeastWay R goal goal total all
-  goes_on-end v total way apart on =
+  pub goes_on-end : (start v total : ℕ) (way : List ℕ) → IsApart R goal v 0 → GoesOn start v 0 total way → (all : List ℕ) × (way ≡ start ∷ all) × IsLeastWay R goal start total all
+  goes_on-end start v total way apart on =
       let all = on [] record { leads = by apart.reached.0 apart.reached.1 apart.reached.2; long = refl; least = λ other leads long. tt } in
       (all.0, sym (append-nil way) ∙ all.1, all.2)
     where

@@ -8,4 +8,5 @@ pub mod MembersLemmas
 pub mod OptionLemmas
 pub mod PathsLemmas
 pub mod RowsLemmas
+pub mod WaysLemmas
 pub mod WordsLemmas

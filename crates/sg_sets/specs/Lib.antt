@@ -5,4 +5,5 @@ pub mod Members
 pub mod Paths
 pub mod Relations
 pub mod Rows
+pub mod Ways
 pub mod Words

@@ -1,10 +1,11 @@
-//! The least shortest cycle of a relation.
+//! The least shortest cycle of a relation, and the least shortest way from one vertex to another.
 ghost use Rattle.std.specs.Prelude.{◌≡◌, ℕ, ◌<◌, ◌≤◌, ◌↔◌, List, ◌∷◌, length, IfOk, IfSome, IfNone};
 ghost use Rattle.sg_sets.specs.Cycles.{IsCycle, HasNoCycle, StartsLeast, IsShortest, IsLeast};
 ghost use Rattle.sg_sets.specs.Layers.{AreLayers, IsApart, IsLeastWay};
 ghost use Rattle.sg_sets.specs.Members.{Has};
 ghost use Rattle.sg_sets.specs.Paths.{Path};
 ghost use Rattle.sg_sets.specs.Rows.{Holds};
+ghost use Rattle.sg_sets.specs.Ways.{IsWay, IsShortestWay, IsFirstWay};
 
 use crate::{BitSet, Relation};
 use std::alloc::{AllocError, Global};
@@ -25,9 +26,33 @@ impl Relation {
         let Some(start) = self.first_on_cycle(alloc)? else {
             return Ok(None);
         };
-        let layers = self.layers(alloc, start)?;
-        let cycle = self.least_way(alloc, start, layers)?;
+        let layers = self.layers(alloc, start, start)?;
+        let cycle = self.least_way(alloc, start, start, layers)?;
         Ok(Some(cycle))
+    }
+
+    /// Returns a shortest way from `a` to `b`, of one step at least, and of those the least sequence
+    /// of numbers, or `None` where none leads there.
+    ///
+    /// A way is written as its vertices, both ends with it: each is related to the next.
+    pub fn way(&self, alloc: Global, a: usize, b: usize) -> Result<Option<Vec<usize>>, AllocError>
+        ensures none { IfOk result (λ found. IfNone found (¬ (Path (Holds self.now) a b))) }
+        ensures way { IfOk result (λ found. IfSome found (λ w. IsWay (Holds self.now) a b w.items)) }
+        ensures shortest { IfOk result (λ found. IfSome found (λ w. IsShortestWay (Holds self.now) a b w.items)) }
+        ensures least { IfOk result (λ found. IfSome found (λ w. IsFirstWay (Holds self.now) a b w.items)) }
+    {
+        if a >= self.size() {
+            return Ok(None);
+        }
+        let mut closed = self.copy(alloc)?;
+        closed.close();
+        if !closed.successors(a).contains(b) {
+            return Ok(None);
+        }
+        let layers = self.layers(alloc, a, b)?;
+        let mut way = self.least_way(alloc, a, b, layers)?;
+        way.push(b)?;
+        Ok(Some(way))
     }
 
     /// Returns the least vertex that leads to itself.
@@ -61,17 +86,18 @@ impl Relation {
         Ok(found)
     }
 
-    /// Returns the layers round the goal that lack the goal itself, from the innermost on.
-    fn layers(&self, alloc: Global, goal: usize) -> Result<Vec<BitSet>, AllocError>
-        requires { Path (Holds self.now) goal goal }
+    /// Returns the layers round the goal that lack the start, from the innermost on.
+    fn layers(&self, alloc: Global, start: usize, goal: usize) -> Result<Vec<BitSet>, AllocError>
+        requires path { Path (Holds self.now) start goal }
+        requires goal { goal < length self.now }
         ensures layers { IfOk result (λ layers. AreLayers (Holds self.now) goal (length self.now) layers.items) }
-        ensures apart { IfOk result (λ layers. IsApart (Holds self.now) goal goal (length layers.items)) }
+        ensures apart { IfOk result (λ layers. IsApart (Holds self.now) goal start (length layers.items)) }
     {
         let mut target = BitSet::new(alloc, self.size())?;
         target.insert(goal);
         let mut layer = self.before(alloc, &target)?;
         let mut layers = Vec::new(alloc);
-        while !layer.contains(goal) {
+        while !layer.contains(start) {
             let mut next = self.before(alloc, &layer)?;
             next.union(&layer);
             layers.push(layer)?;
@@ -80,18 +106,19 @@ impl Relation {
         Ok(layers)
     }
 
-    /// Returns the start and the least way back to it through the layers round it, from the outermost
-    /// on.
+    /// Returns the start and the least way from it to the goal, without the goal, through the layers
+    /// round the goal, from the outermost on.
     fn least_way(
         &self,
         alloc: Global,
         start: usize,
+        goal: usize,
         mut layers: Vec<BitSet>,
     ) -> Result<Vec<usize>, AllocError>
-        requires layers { AreLayers (Holds self.now) start (length self.now) layers.items }
-        requires apart { IsApart (Holds self.now) start start (length layers.items) }
+        requires layers { AreLayers (Holds self.now) goal (length self.now) layers.items }
+        requires apart { IsApart (Holds self.now) goal start (length layers.items) }
         ensures { IfOk result (λ c. (via : List ℕ) × (c.items ≡ start ∷ via)
-            × IsLeastWay (Holds self.now) start start (length layers.items) via) }
+            × IsLeastWay (Holds self.now) goal start (length layers.items) via) }
     {
         let mut way = Vec::new(alloc);
         way.push(start)?;

@@ -1,5 +1,5 @@
 //! `Relation`, a relation on the numbers below its size, with its closure.
-ghost use Rattle.std.specs.Prelude.{◌≡◌, ℕ, ◌+◌, ◌<◌, ◌≤◌, ◌↔◌, ◌⊎◌, Bool, false, true, not, if◌then◌else◌, length, replicate, IfOk, IsTrue};
+ghost use Rattle.std.specs.Prelude.{◌≡◌, ℕ, ◌+◌, ◌<◌, ◌↔◌, ◌⊎◌, Bool, false, not, if◌then◌else◌, length, replicate, IfOk, IsTrue};
 ghost use Rattle.std.specs.Bool.{OnTrue, OnFalse};
 ghost use Rattle.sg_sets.specs.Members.{has};
 ghost use Rattle.sg_sets.specs.Rows.{row_of, Holds, all_missing};

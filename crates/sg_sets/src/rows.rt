@@ -1,5 +1,5 @@
 //! `Rows`, sets of numbers of one width, which flow along links.
-ghost use Rattle.std.specs.Prelude.{◌≡◌, ℕ, ◌+◌, ◌*◌, ◌<◌, ◌≤◌, ◌↔◌, ◌⊎◌, Bool, false, true, not, if◌then◌else◌, List, [], length, replicate, slice_set, All, IfOk, IsTrue};
+ghost use Rattle.std.specs.Prelude.{◌≡◌, ℕ, ◌+◌, ◌*◌, ◌<◌, ◌↔◌, ◌⊎◌, false, true, not, if◌then◌else◌, [], length, replicate, All, IfOk, IsTrue};
 ghost use Rattle.std.specs.Bool.{OnTrue, OnFalse};
 ghost use Rattle.sg_sets.specs.Members.{has, Has};
 ghost use Rattle.sg_sets.specs.Flags.{IsFresh, HasPassed, AreFlagged, Flows};

@@ -9,7 +9,7 @@ abbrev pub invariant-loop-alloc : goal.invariant-loop-alloc
 invariant-loop-alloc l = record {
   layer : IsLayer (Holds l.self) l.goal (length l.self) (suc (length l.layers.items)) l.layer;
   layers : AreLayers (Holds l.self) l.goal (length l.self) l.layers.items;
-  shortest : (via : List ℕ) → Leads (Holds l.self) l.goal via l.goal → length l.layers.items ≤ length via;
+  shortest : (via : List ℕ) → Leads (Holds l.self) l.start via l.goal → length l.layers.items ≤ length via;
 }
 
 abbrev pub decreases-loop-alloc : goal.decreases-loop-alloc

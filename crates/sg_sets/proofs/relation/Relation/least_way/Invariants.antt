@@ -6,9 +6,9 @@ use Rattle.sg_sets.proofs.relation.Relation.least_way.Given as goal
 
 abbrev pub invariant-loop-layer : goal.invariant-loop-layer
 invariant-loop-layer l = record {
-  layers : AreLayers (Holds l.self) l.start (length l.self) l.layers.items;
-  apart : IsApart (Holds l.self) l.start l.at (length l.layers.items);
-  goes_on : GoesOn (Holds l.self) l.start l.at (length l.layers.items) (length l.fn.layers.items) l.way.items;
+  layers : AreLayers (Holds l.self) l.goal (length l.self) l.layers.items;
+  apart : IsApart (Holds l.self) l.goal l.at (length l.layers.items);
+  goes_on : GoesOn (Holds l.self) l.goal l.start l.at (length l.layers.items) (length l.fn.layers.items) l.way.items;
 }
 
 abbrev pub decreases-loop-layer : goal.decreases-loop-layer
