@@ -16,7 +16,7 @@ use Rattle.sg_ast.specs.declared.expr.Prefix.TheVariants.{Minus, Not}
 use Rattle.sg_ast.specs.Levels.{symbol_of, level, choice_level, prefix_level, atom_level, groups_left, left_by, right_by, next_by}
 use Rattle.sg_ast.specs.Patterns.{Pattern}
 use Rattle.sg_ast.specs.Patterns as p
-use Rattle.sg_ast.specs.Expressions.{Expr, Exprs, Cases, Amount, Chars, Truth, Variable, Attribute, MadeOf, Paren, Single, Binary, Choice, Call, Let, With, NoExpr, AndExpr, NoCase, Default, Case}
+use Rattle.sg_ast.specs.Expressions.{Expr, Exprs, Cases, Amount, Chars, Truth, Variable, Attribute, Remote, MadeOf, Paren, Single, Binary, Choice, Call, Let, With, NoExpr, AndExpr, NoCase, Default, Case}
 use Rattle.sg_ast.specs.Spelling.{Mark, Piece, Free, Takes, none, free, kept, sign, word, named, comma, spell_number, spell_occurrence, spell_reference, spell_pattern, spell_expr, spell_exprs, spell_more_exprs, spell_cases}
 use Rattle.sg_ast.specs.Grouped.{max_depth, depth, exprs_depth, cases_depth, level_of, IsPattern, IsGrouped, AreGrouped, HasGrouped, IsOccurrence}
 use Rattle.sg_ast.specs.Chains.{exprs_chain, cases_chain}
@@ -140,6 +140,7 @@ begins (Chars s) (kept t) = refl
 begins (Truth b place) (kept t) = refl
 begins (Variable n) (kept t) = refl
 begins (Attribute r) t = begins_occurrence r.of (sign Dot ∷ named r.attr ∷ []) t
+begins (Remote r) (kept t) = refl
 begins (MadeOf Completing n place) (kept t) = refl
 begins (MadeOf Placeholder n place) (kept t) = refl
 begins (Paren a place) (kept t) = refl
@@ -330,6 +331,7 @@ operand_reads d w (Truth true place) grouped within high (kept none) end = refl
 operand_reads d w (Truth false place) grouped within high (kept none) end = refl
 operand_reads d w (Variable n) {rest = rest} grouped within high (kept none) end = rw (no_call rest end, no_reference rest end) refl
 operand_reads d w (Attribute r) grouped within high t end = attribute_reads d r.of r.attr grouped t
+operand_reads d w (Remote r) grouped within high t end = absurd grouped
 operand_reads d w (MadeOf Completing n place) grouped within high (kept t) end = patterns.completing_reads MadeOf n place (kept t)
 operand_reads d w (MadeOf Placeholder n place) grouped within high (kept t) end = patterns.placeholder_reads MadeOf n place (kept t)
 operand_reads d w (Paren a place) grouped within high (kept t) end = paren_reads d w a place grouped (omega arith) (kept t)

@@ -5,7 +5,7 @@ use Rattle.sg_kinds.specs.declared.fault.Position.{Position}
 use Rattle.sg_text.specs.declared.tokens.Token.{Token}
 use Rattle.sg_text.specs.Cut.{cut}
 use Rattle.sg_ast.specs.Declarations.{Decl}
-use Rattle.sg_ast.specs.Spelling.{Mark, Piece, Free, Kept, Takes, none, free, kept, spell}
+use Rattle.sg_ast.specs.Spelling.{Mark, Piece, Free, Kept, Takes, none, free, kept}
 use Rattle.sg_ast.specs.Spells.{Spells, EachSpells, marks_from, marked_from, declarations}
 use Rattle.sg_ast.specs.Rising.{kept_places, places_of, RiseFrom, SomeOf, nothing, passed, taken}
 

@@ -5,7 +5,7 @@ use Rattle.sg_ast.specs.declared.name.Occurrence.{Occurrence}
 use Rattle.sg_ast.specs.declared.name.Occurrence.TheVariants.{Own, Named}
 use Rattle.sg_ast.specs.Patterns.{Pattern, Patterns, NoPattern, AndPattern}
 use Rattle.sg_ast.specs.Patterns as p
-use Rattle.sg_ast.specs.Expressions.{Expr, Exprs, Cases, Amount, Chars, Truth, Variable, Attribute, MadeOf, Paren, Single, Binary, Choice, Call, Let, With, NoExpr, AndExpr, NoCase, Default, Case}
+use Rattle.sg_ast.specs.Expressions.{Expr, Exprs, Cases, Amount, Chars, Truth, Variable, Attribute, Remote, MadeOf, Paren, Single, Binary, Choice, Call, Let, With, NoExpr, AndExpr, NoCase, Default, Case}
 
 abbrev pub chain_of : List Pattern → Patterns
 chain_of [] = NoPattern
@@ -41,6 +41,7 @@ expr_place (Chars s) = s.place
 expr_place (Truth b place) = place
 expr_place (Variable n) = n.place
 expr_place (Attribute r) = occurrence_place r.of
+expr_place (Remote r) = r.place
 expr_place (MadeOf made n place) = place
 expr_place (Paren a place) = place
 expr_place (Single f a place) = place

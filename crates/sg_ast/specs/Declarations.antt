@@ -1,6 +1,7 @@
 -- Declarations as trees.
 use Rattle.std.specs.Prelude.{Bool, List, Option}
 use Rattle.sg_kinds.specs.declared.fault.Position.{Position}
+use Rattle.sg_kinds.specs.declared.marks.Group.{Group}
 use Rattle.sg_ast.specs.declared.name.Name.{Name}
 use Rattle.sg_ast.specs.declared.name.Quoted.{Quoted}
 use Rattle.sg_ast.specs.declared.name.Typed.{Typed}
@@ -9,7 +10,6 @@ use Rattle.sg_ast.specs.declared.decl.AttrDecl.{AttrDecl}
 use Rattle.sg_ast.specs.declared.decl.Target.{Target}
 use Rattle.sg_ast.specs.declared.decl.SchemeDecl.{SchemeDecl}
 use Rattle.sg_ast.specs.declared.decl.Part.{Part}
-use Rattle.sg_ast.specs.declared.decl.Group.{Group}
 use Rattle.sg_ast.specs.Patterns.{Pattern}
 use Rattle.sg_ast.specs.Expressions.{Expr}
 

@@ -12,7 +12,7 @@ use Rattle.sg_ast.specs.declared.decl.SchemeDecl.{SchemeDecl}
 use Rattle.sg_ast.specs.Levels.{level, choice_level, prefix_level, atom_level, left_by, right_by}
 use Rattle.sg_ast.specs.Patterns.{Pattern, Patterns, Applied, NoPattern, AndPattern}
 use Rattle.sg_ast.specs.Patterns as p
-use Rattle.sg_ast.specs.Expressions.{Expr, Exprs, Cases, Amount, Attribute, Paren, Single, Binary, Choice, Call, Let, With, NoExpr, AndExpr, NoCase, Default, Case}
+use Rattle.sg_ast.specs.Expressions.{Expr, Exprs, Cases, Amount, Attribute, Remote, Paren, Single, Binary, Choice, Call, Let, With, NoExpr, AndExpr, NoCase, Default, Case}
 use Rattle.sg_ast.specs.Declarations.{Equation, Right, Decl, Operators, Equations, Schemes, Function, Transform, Productions, Precedence}
 
 -- how many nodes deep an expression may be, and a pattern
@@ -93,11 +93,12 @@ level_of (Binary s a b) = level s
 level_of (Single f a place) = prefix_level
 level_of _ = atom_level
 
--- the operands of each operator are of the levels that it takes
+-- the operands of each operator are of the levels that it takes; attributes of enclosing nodes are not read yet
 abbrev mutual
   pub IsGrouped : Expr → Type 0
   IsGrouped (Amount n place) = InRange n
   IsGrouped (Attribute r) = IsReference r
+  IsGrouped (Remote r) = ⊥
   IsGrouped (Paren a place) = IsGrouped a
   IsGrouped (Single f a place) = (prefix_level ≤ level_of a) × IsGrouped a
   IsGrouped (Binary s a b) =

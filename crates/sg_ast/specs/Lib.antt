@@ -12,4 +12,5 @@ pub mod Spells
 pub mod FirstFault
 pub mod Written
 pub mod Parts
+pub mod Remotes
 pub mod Rising

@@ -13,11 +13,14 @@ use Rattle.sg_kinds.specs.declared.marks.Way.{Way}
 use Rattle.sg_kinds.specs.declared.marks.Way.TheVariants.{Synthesized, Inherited}
 use Rattle.sg_kinds.specs.declared.marks.ChildPlace.{ChildPlace}
 use Rattle.sg_kinds.specs.declared.marks.ChildPlace.TheVariants.{Resting, Passed, Hidden}
+use Rattle.sg_kinds.specs.declared.marks.Group.{Group}
+use Rattle.sg_kinds.specs.declared.marks.Group.TheVariants as group
 use Rattle.sg_ast.specs.declared.name.Name.{Name}
 use Rattle.sg_ast.specs.declared.name.Quoted.{Quoted}
 use Rattle.sg_ast.specs.declared.name.Occurrence.{Occurrence}
 use Rattle.sg_ast.specs.declared.name.Occurrence.TheVariants.{Own, Named}
 use Rattle.sg_ast.specs.declared.name.Reference.{Reference}
+use Rattle.sg_ast.specs.declared.name.Pair.{Pair}
 use Rattle.sg_ast.specs.declared.name.Typed.{Typed}
 use Rattle.sg_ast.specs.declared.decl.Alt.{Alt}
 use Rattle.sg_ast.specs.declared.decl.AttrDecl.{AttrDecl}
@@ -28,12 +31,10 @@ use Rattle.sg_ast.specs.declared.decl.Item.TheVariants as item
 use Rattle.sg_ast.specs.declared.decl.SchemeDecl.{SchemeDecl}
 use Rattle.sg_ast.specs.declared.decl.Part.{Part}
 use Rattle.sg_ast.specs.declared.decl.Part.TheVariants as part
-use Rattle.sg_ast.specs.declared.decl.Group.{Group}
-use Rattle.sg_ast.specs.declared.decl.Group.TheVariants as group
 use Rattle.sg_ast.specs.Levels.{symbol_of, prefix_symbol}
 use Rattle.sg_ast.specs.Patterns.{Pattern, Patterns, NoPattern, AndPattern}
 use Rattle.sg_ast.specs.Patterns as p
-use Rattle.sg_ast.specs.Expressions.{Expr, Exprs, Cases, Amount, Chars, Truth, Variable, Attribute, MadeOf, Paren, Single, Binary, Choice, Call, Let, With, NoExpr, AndExpr, NoCase, Default, Case}
+use Rattle.sg_ast.specs.Expressions.{Expr, Exprs, Cases, Amount, Chars, Truth, Variable, Attribute, Remote, MadeOf, Paren, Single, Binary, Choice, Call, Let, With, NoExpr, AndExpr, NoCase, Default, Case}
 use Rattle.sg_ast.specs.Declarations.{Equation, Right, Decl, Root, Listed, Optional, Operators, LexemeOf, Attributes, Equations, Schemes, Function, Transform, Productions, Entry, Precedence}
 
 -- a token's lexeme and place
@@ -106,6 +107,17 @@ spell_occurrence (Named n number) = named n ∷ spell_number number
 abbrev pub spell_reference : Reference → List Piece
 spell_reference r = spell_occurrence r.of ++ sign Dot ∷ named r.attr ∷ []
 
+-- what stands between alternatives, and between parameters
+abbrev pub bar : List Piece
+bar = sign Bar ∷ []
+
+abbrev pub comma : List Piece
+comma = sign Comma ∷ []
+
+-- name '.' name
+abbrev pub spell_pair : Pair → List Piece
+spell_pair p = named p.phylum ∷ sign Dot ∷ named p.attr ∷ []
+
 -- [ '-' ] number, with the place of the first token
 abbrev pub spell_amount : Bool → ℕ → Position → List Piece
 spell_amount false n place = Kept (Numeral n) place ∷ []
@@ -138,6 +150,7 @@ abbrev mutual
   spell_expr (Truth b place) = Kept (Reserved (truth_word b)) place ∷ []
   spell_expr (Variable n) = named n ∷ []
   spell_expr (Attribute r) = spell_reference r
+  spell_expr (Remote r) = sign_at LeftBrace r.place ∷ join_by spell_pair comma r.pairs ++ sign RightBrace ∷ []
   spell_expr (MadeOf made n place) = sign_at (opening made) place ∷ named n ∷ sign (closing made) ∷ []
   spell_expr (Paren a place) = sign_at LeftParenthesis place ∷ spell_expr a ++ sign RightParenthesis ∷ []
   spell_expr (Single f a place) = sign_at (prefix_symbol f) place ∷ spell_expr a
@@ -242,13 +255,6 @@ group_word group.NonAssoc = codes "nonassoc"
 abbrev pub spell_view : Option Name → List Piece
 spell_view None = []
 spell_view (Some v) = word keyword.In ∷ named v ∷ []
-
--- what stands between alternatives, and between parameters
-abbrev pub bar : List Piece
-bar = sign Bar ∷ []
-
-abbrev pub comma : List Piece
-comma = sign Comma ∷ []
 
 -- [ 'list' ]
 abbrev pub spell_listed : Bool → List Piece

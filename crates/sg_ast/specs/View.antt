@@ -39,6 +39,7 @@ abbrev mutual
   expr_of (expr.Truth b p) = plain_expr.Truth b p
   expr_of (expr.Variable n) = plain_expr.Variable n
   expr_of (expr.Attribute r) = plain_expr.Attribute r.value
+  expr_of (expr.Remote r) = plain_expr.Remote r.value
   expr_of (expr.Made made n p) = plain_expr.MadeOf made n.value p
   expr_of (expr.Paren' a x p) = plain_expr.Paren (expr_of x) p
   expr_of (expr.Prefix' f a x p) = plain_expr.Single f (expr_of x) p

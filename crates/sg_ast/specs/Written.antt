@@ -30,6 +30,7 @@ abbrev mutual
   AreWritten (e.Truth b place) = ⊤
   AreWritten (e.Variable n) = ⊤
   AreWritten (e.Attribute r) = ⊤
+  AreWritten (e.Remote r) = ⊤
   AreWritten (e.MadeOf made n place) = ⊤
   AreWritten (e.Paren a place) = AreWritten a
   AreWritten (e.Single f a place) = AreWritten a

@@ -126,6 +126,7 @@ impl Expr {
             Expr::Variable(name) => name.place,
             Expr::Call(name, _) => name.place,
             Expr::Attribute(reference) => reference.of.place(),
+            Expr::Remote(remote) => remote.place,
             Expr::Binary(_, left, _) | Expr::Choice(left, _, _) => left.place(),
         }
     }

@@ -3,7 +3,7 @@ use crate::expr::Expr;
 use crate::name::{Name, Quoted, Reference, Typed};
 use crate::pattern::Pattern;
 use sg_kinds::fault::Position;
-use sg_kinds::marks::{ChildPlace, Way};
+use sg_kinds::marks::{ChildPlace, Group, Way};
 use sg_kinds::row::Row;
 
 /// An operator of a phylum, with the phyla of its arguments.
@@ -70,14 +70,6 @@ pub struct Right {
     pub place: Position,
     pub parts: Row<Part>,
     pub expr: Expr,
-}
-
-/// How the literals of a precedence line group.
-#[derive(Clone, Copy, Debug, PartialEq, Eq)]
-pub enum Group {
-    Left,
-    Right,
-    NonAssoc,
 }
 
 /// A declaration.

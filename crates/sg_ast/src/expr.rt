@@ -1,5 +1,5 @@
 //! Expressions.
-use crate::name::{Name, Quoted, Reference};
+use crate::name::{Name, Quoted, Reference, Remote};
 use crate::number::Number;
 use crate::pattern::Pattern;
 use sg_kinds::fault::Position;
@@ -66,6 +66,8 @@ pub enum Expr {
     Truth(bool, Position),
     Variable(Name),
     Attribute(Box<Reference>),
+    /// `{p.a, q.b}`
+    Remote(Box<Remote>),
     /// `<p>` or `[p]`
     Made(Made, Box<Name>, Position),
     Paren(Box<Expr>, Position),

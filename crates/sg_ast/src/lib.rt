@@ -9,3 +9,4 @@ pub mod laws;
 pub mod name;
 pub mod number;
 pub mod pattern;
+pub mod remotes;

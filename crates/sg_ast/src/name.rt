@@ -1,6 +1,7 @@
 //! Names, strings and references, with the places that faults print.
 use crate::number::Number;
 use sg_kinds::fault::Position;
+use sg_kinds::row::Row;
 use sg_kinds::text::Text;
 
 /// A name and its token.
@@ -31,6 +32,20 @@ pub enum Occurrence {
 pub struct Reference {
     pub of: Occurrence,
     pub attr: Name,
+}
+
+/// An attribute of a phylum, that of an enclosing node.
+#[derive(Drop)]
+pub struct Pair {
+    pub phylum: Name,
+    pub attr: Name,
+}
+
+/// `{p.a, q.b}`: the attribute of the nearest enclosing node of the phyla, and the place of its `{`.
+#[derive(Drop)]
+pub struct Remote {
+    pub pairs: Row<Pair>,
+    pub place: Position,
 }
 
 /// A parameter or a local: its type and its name.

@@ -21,15 +21,13 @@ use sg_cursor::{
     right_by, truth,
 };
 use sg_kinds::fault::Position;
+use sg_kinds::limits::EXPRESSION_DEPTH;
 use sg_kinds::marks::Made;
 use sg_kinds::memory::NoMemory;
 use sg_term_patterns::read_pattern;
 use sg_text::{Keyword, Symbol};
 use std::alloc::Global;
 use std::boxed::Box;
-
-/// How many nodes deep an expression may be.
-const MAX_DEPTH: u8 = 128;
 
 /// `'<' name '>'`
 #[tactic(auto, unfolding(sg_ast::specs::Reading::placeholder))]
@@ -590,6 +588,6 @@ fn expr_within(
 pub fn read_expr(alloc: Global, tokens: &mut Tokens<'_>) -> Result<Expr, Refusal>
     ensures { Reads expr_of (spec.expr (left_of tokens.old)) result (left_of tokens.new) }
 {
-    let node = expr_within(alloc, tokens, MAX_DEPTH, CHOICE)?;
+    let node = expr_within(alloc, tokens, EXPRESSION_DEPTH, CHOICE)?;
     Ok(node.expr)
 }

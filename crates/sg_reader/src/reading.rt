@@ -1,6 +1,5 @@
 //! The trees of a text.
 ghost use Rattle.std.specs.Prelude.{◌≡◌, ◌+◌, ◌<◌, ◌^◌, ℕ, List, length, IfOk, Err};
-ghost use Rattle.sg_text.specs.Cut.{cut};
 ghost use Rattle.sg_ast.specs.Declarations.{Decl};
 ghost use Rattle.sg_ast.specs.Reading.{decl_of};
 ghost use Rattle.sg_ast.specs.Spells.{marks_from, declarations, EachSpells};

@@ -1,5 +1,5 @@
 //! Patterns.
-ghost use Rattle.std.specs.Prelude.{map, [], ◌∷◌};
+ghost use Rattle.std.specs.Prelude.{map};
 ghost use Rattle.sg_text.specs.declared.symbols.Symbol.TheVariants as sign;
 ghost use Rattle.sg_ast.specs.Patterns as plain;
 ghost use Rattle.sg_ast.specs.Reading as spec;
@@ -11,12 +11,10 @@ ghost use Rattle.sg_term_patterns.specs.PatternNests.{Nests};
 use sg_ast::name::Name;
 use sg_ast::pattern::{Pattern, Patterns};
 use sg_cursor::{Refusal, Tokens, truth};
+use sg_kinds::limits::EXPRESSION_DEPTH;
 use sg_kinds::marks::Made;
 use sg_text::Symbol;
 use std::alloc::Global;
-
-/// How many nodes deep a pattern may be.
-const MAX_DEPTH: u8 = 128;
 
 /// `'<' name '>'`
 #[tactic(auto, unfolding(sg_ast::specs::Reading::placeholder))]
@@ -214,5 +212,5 @@ fn pattern_within(alloc: Global, tokens: &mut Tokens<'_>, depth: u8) -> Result<P
 pub fn read_pattern(alloc: Global, tokens: &mut Tokens<'_>) -> Result<Pattern, Refusal>
     ensures { Reads pattern_of (spec.pattern (left_of tokens.old)) result (left_of tokens.new) }
 {
-    pattern_within(alloc, tokens, MAX_DEPTH)
+    pattern_within(alloc, tokens, EXPRESSION_DEPTH)
 }

@@ -1,6 +1,6 @@
 -- The longest symbol is the longest form where a sign stands.
 use Rattle.std.proofs.Common.{◌≡◌, ℕ, zero, suc, ◌<◌, ◌≤◌, true, false, List, [], ◌∷◌, length, get_or, take, drop, refl, ap, arith, Option, Some, None}
-use Rattle.std.specs.Prelude.{◌==◌, option_map}
+use Rattle.std.specs.Prelude.{option_map}
 use Rattle.std.specs.Option.{option_or, option_map_or}
 use Rattle.std.proofs.lemmas.Bool.Decides.{nat_tests}
 use Rattle.sg_text.specs.declared.tokens.Kind.{Kind}
@@ -8,7 +8,7 @@ use Rattle.sg_text.specs.declared.tokens.Kind.TheVariants.{Symbol}
 use Rattle.sg_text.specs.declared.symbols.Symbol as declared
 use Rattle.sg_text.specs.declared.tokens.LexFault.TheVariants.{Byte}
 use Rattle.sg_text.specs.declared.forms.Form.TheVariants.{Gap, Found, Fault}
-use Rattle.sg_text.specs.Bytes.{is_sign, is_blank, double_quote, single_quote}
+use Rattle.sg_text.specs.Bytes.{is_sign, is_blank}
 use Rattle.sg_text.specs.Symbols.{symbol_of, longest_symbol, sized}
 use Rattle.sg_text.specs.Forms.{longest_form, longest_within}
 use Rattle.sg_text.specs.Tokens.{form_at, token_at, longest_at, fault_at, opens_comment, comment_form, comment_end}

@@ -1,5 +1,5 @@
 //! The declarations of a list of tokens.
-ghost use Rattle.std.specs.Prelude.{◌≡◌, ◌<◌, length, []};
+ghost use Rattle.std.specs.Prelude.{◌≡◌, ◌<◌, length};
 ghost use Rattle.sg_text.specs.Cut.{declaration_len, CutsFirst};
 
 use crate::symbols::Symbol;

@@ -1,5 +1,5 @@
 //! What may stand at a place of a text.
-ghost use Rattle.std.specs.Prelude.{◌≡◌, ◌∷◌, ◌+◌, ◌-◌, ◌^◌, ◌≤◌, ◌<◌, length, slice_index, IfSome, IsTrue, drop, take, Option, None, Some, false, pos, nat_le, IsFalse, ◌==◌};
+ghost use Rattle.std.specs.Prelude.{◌≡◌, ◌∷◌, ◌+◌, ◌-◌, ◌^◌, ◌≤◌, ◌<◌, length, slice_index, IfSome, IsTrue, take, Option, None, Some, false, pos, IsFalse, ◌==◌};
 ghost use Rattle.std.specs.List.{list_all, prefix_len};
 ghost use Rattle.std.specs.Char.{is_ascii_digit};
 ghost use Rattle.sg_text.specs.Bytes as spec;

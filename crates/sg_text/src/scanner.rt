@@ -1,5 +1,5 @@
 //! The scanner.
-ghost use Rattle.std.specs.Prelude.{◌≡◌, ◌≢◌, ◌≤◌, ◌<◌, ◌+◌, ◌^◌, ◌==◌, length, count_by, IfOk, IfErr, OnOk, Ok, Err, All, AllPairs};
+ghost use Rattle.std.specs.Prelude.{◌≡◌, ◌≢◌, ◌<◌, ◌+◌, ◌^◌, length, IfOk, IfErr, OnOk, Ok, Err, All, AllPairs};
 ghost use Rattle.sg_text.specs.Placed.{IsTokenOf, EndsBefore};
 ghost use Rattle.sg_text.specs.Tokens.{tokens_of, form_len, form_tokens, followed_by};
 

@@ -1,7 +1,6 @@
 //! Tokens and the faults of texts that have none.
 
 use crate::symbols::Symbol;
-use std::alloc::AllocFailed;
 use thiserror::Error;
 
 /// The form that a token has.
