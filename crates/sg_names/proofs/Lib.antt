@@ -9,3 +9,5 @@ pub mod TableMade
 pub mod SeenLaws
 pub mod DraftedLaws
 pub mod OpPlaces
+pub mod MoreLaws
+pub mod FarLaws

@@ -1,4 +1,4 @@
--- The record as far as names give it: its phyla, operators and functions.
+-- The record as far as names give it: its phyla, operators and functions. It has no views.
 use Rattle.std.specs.Prelude.{◌≡◌, [], map}
 use Rattle.sg_kinds.specs.declared.spec.Function.{Function}
 use Rattle.sg_kinds.specs.declared.spec.Operator.{Operator}
@@ -21,6 +21,8 @@ drafted t = record {
   lexemes = [];
   productions = [];
   entries = [];
+  levels = [];
+  views = record { names = []; rows = [] };
   root = t.root;
 }
 

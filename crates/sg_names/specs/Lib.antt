@@ -3,6 +3,7 @@ pub mod Lookups
 pub mod Meaning
 pub mod Indexed
 pub mod Rows
+pub mod More
 pub mod Heads
 pub mod Callables
 pub mod Uses

@@ -1,21 +1,25 @@
 -- What a name means by a table: look-ups in its lists by position.
-use Rattle.std.specs.Prelude.{ℕ, zero, suc, ◌-◌, Bool, false, ◌&&◌, if◌then◌else◌, List, [], ◌∷◌, find, nat_eq, bytes_eq, codes, Option, Some, None, slice_get, option_map, option_and_then, unwrap_or}
-use Rattle.std.specs.List.{position}
+use Rattle.std.specs.Prelude.{ℕ, suc, ◌-◌, Bool, false, ◌&&◌, if◌then◌else◌, List, [], ◌∷◌, length, map, find, nat_eq, bytes_eq, codes, Option, Some, None, slice_get, option_map, option_and_then, unwrap_or}
+use Rattle.std.specs.List.{list_all, position}
 use Rattle.sg_kinds.specs.Values.{Bytes}
 use Rattle.sg_kinds.specs.declared.spec.Phylum.{Phylum}
 use Rattle.sg_kinds.specs.declared.spec.Attr.{Attr}
+use Rattle.sg_kinds.specs.declared.spec.Far.{Far}
 use Rattle.sg_kinds.specs.declared.spec.Operator.{Operator}
 use Rattle.sg_kinds.specs.declared.spec.Local.{Local}
 use Rattle.sg_kinds.specs.declared.spec.Occurrence.{Occurrence}
 use Rattle.sg_kinds.specs.Specification.{texts, numbers, attrs_of, args_of, locals_of, phylum_of, has_shape, is_lexical_shape}
 use Rattle.sg_kinds.specs.Dependencies.{phylum_there}
+use Rattle.sg_kinds.specs.Far.{slot_of_far}
 use Rattle.sg_kinds.specs.Typing.{whitespace}
 use Rattle.sg_kinds.specs.declared.marks.Unary.{Unary}
 use Rattle.sg_kinds.specs.declared.marks.Unary.TheVariants.{TextToNumber, NumberToText, TextLength}
 use Rattle.sg_ast.specs.declared.name.Name.{Name}
 use Rattle.sg_ast.specs.declared.name.Occurrence.{Occurrence as Written}
 use Rattle.sg_ast.specs.declared.name.Occurrence.TheVariants.{Own, Named}
+use Rattle.sg_ast.specs.declared.name.Pair.{Pair}
 use Rattle.sg_ast.specs.declared.name.Reference.{Reference}
+use Rattle.sg_ast.specs.declared.name.Remote.{Remote}
 use Rattle.sg_ast.specs.declared.decl.Part.{Part}
 use Rattle.sg_ast.specs.declared.decl.Part.TheVariants as part
 use Rattle.sg_ast.specs.FirstFault.{or_else}
@@ -166,3 +170,33 @@ name_of (Named q k) = q.text
 abbrev pub operand : Table → Bytes → List Part → Reference → Option Operand
 operand t left parts r = option_and_then (λ at. option_map (λ p. record { at = at; of = p })
     (symbol_type t (name_of r.of) r.attr.text)) (symbol left parts r.of)
+
+-- what a pair of a reference to enclosing nodes lists: the number past the last where its phylum is unknown, and the
+-- slot 0 where its attribute is
+abbrev pub far_at : Table → ℕ → Bytes → Far
+far_at t p a = record { phylum = p; slot = unwrap_or (attribute t p a) 0 }
+
+abbrev pub far_of : Table → Pair → Far
+far_of t q = far_at t (unwrap_or (phylum_named t q.phylum.text) (length t.phyla)) q.attr.text
+
+abbrev pub far_list : Table → Remote → List Far
+far_list t r = map (far_of t) r.pairs
+
+-- the slot that the phylum of an operator has for the same list
+abbrev pub far_slot : Table → ℕ → Remote → Option ℕ
+far_slot t op r = option_and_then (λ p. slot_of_far (attrs_of t.phyla p) (far_list t r)) (phylum_of t.ops op)
+
+-- the type of the attribute that a pair lists
+abbrev pub pair_type : Table → Pair → Option ℕ
+pair_type t q = option_and_then (λ p. attr_type (attrs_of t.phyla p) q.attr.text) (phylum_named t q.phylum.text)
+
+-- whether a pair lists an attribute of this type, and whether all pairs of a reference list attributes of one type
+abbrev pub lists_type : Table → ℕ → Pair → Bool
+lists_type t p q = unwrap_or (option_map (nat_eq p) (pair_type t q)) false
+
+abbrev pub first_type : Table → List Pair → Option ℕ
+first_type t [] = None
+first_type t (q ∷ qs) = pair_type t q
+
+abbrev pub are_alike : Table → Remote → Bool
+are_alike t r = unwrap_or (option_map (λ p. list_all (lists_type t p) r.pairs) (first_type t r.pairs)) false

@@ -97,7 +97,8 @@ with_locals locals ops = map_from (with_local locals) 0 ops
 
 -- the attributes of phyla or nonterminals, each with the number of its owner
 abbrev pub attribute : List Head → ℕ → AttrDecl → ℕ × Attr
-attribute phyla owner a = (owner, record { name = a.name.text; way = a.way; of = number_in phyla a.of.text })
+attribute phyla owner a =
+    (owner, record { name = a.name.text; way = a.way; of = number_in phyla a.of.text; far = [] })
 
 abbrev pub attributes_at : List Head → List Head → Decl → List (ℕ × Attr)
 attributes_at owners phyla (Attributes n attrs) = map (attribute phyla (number_in owners n.text)) attrs
@@ -125,7 +126,7 @@ shape_of lexemes listings k h =
 
 -- the attribute of a leaf
 abbrev pub value_attr : ℕ → Attr
-value_attr k = record { name = codes "value"; way = Synthesized; of = k }
+value_attr k = record { name = codes "value"; way = Synthesized; of = k; far = [] }
 
 abbrev pub attrs_there : List Attr → ℕ → Shape → List Attr
 attrs_there attrs k shape = if is_leaf_shape shape then value_attr k ∷ [] else attrs

@@ -7,13 +7,14 @@ use Rattle.sg_kinds.specs.declared.fault.SpecFault.TheVariants as fault
 use Rattle.sg_ast.specs.declared.name.Name.{Name}
 use Rattle.sg_ast.specs.declared.name.Occurrence.TheVariants.{Own, Named}
 use Rattle.sg_ast.specs.declared.name.Occurrence.{Occurrence}
+use Rattle.sg_ast.specs.declared.name.Pair.{Pair}
 use Rattle.sg_ast.specs.declared.name.Reference.{Reference}
 use Rattle.sg_ast.specs.Declarations.{Decl}
 use Rattle.sg_ast.specs.FirstFault.{first}
 use Rattle.sg_names.specs.declared.table.Table.{Table}
-use Rattle.sg_names.specs.Lookups.{phylum_named, usable_named, operator_at, nonterminal_named, callable, occurrence, reference, symbol, operand, symbol_type}
+use Rattle.sg_names.specs.Lookups.{attribute, phylum_named, usable_named, operator_at, nonterminal_named, callable, occurrence, reference, symbol, operand, symbol_type}
 use Rattle.sg_names.specs.Names.{op_named}
-use Rattle.sg_names.specs.Uses.{Site, Use, InOperator, InProduction, Elsewhere, UsesPhylum, HasOperators, HasAttributes, UsesOperator, UsesSymbol, UsesResult, Refers, UsesVariable, Calls, Matches, is_visible, uses}
+use Rattle.sg_names.specs.Uses.{Site, Use, InOperator, InProduction, Elsewhere, UsesPhylum, HasOperators, HasAttributes, UsesOperator, UsesSymbol, UsesResult, Refers, Encloses, UsesVariable, Calls, Matches, is_visible, uses}
 
 -- the fault of a name that does not mean what it must
 abbrev pub unless_known : Bool → Name → Option SpecFault
@@ -54,6 +55,20 @@ is_known t Elsewhere r = false
 abbrev pub unknown_reference : Table → Site → Reference → Option SpecFault
 unknown_reference t site r = reference_fault (is_there t site r.of) (is_known t site r) r
 
+-- a listed attribute of an enclosing node: its phylum, which has operators and of which only an equation may speak,
+-- else the attribute
+abbrev pub is_attribute : Table → Bytes → Bytes → Bool
+is_attribute t n a = is_some (option_and_then (λ p. attribute t p a) (phylum_named t n))
+
+abbrev pub may_enclose : Table → Site → Bytes → Bool
+may_enclose t (InOperator op) n = has_operators t n
+may_enclose t (InProduction left parts) n = false
+may_enclose t Elsewhere n = false
+
+abbrev pub unknown_enclosing : Table → Site → Pair → Option SpecFault
+unknown_enclosing t site q = if may_enclose t site q.phylum.text then unless_known
+    (is_attribute t q.phylum.text q.attr.text) q.attr else unless_known false q.phylum
+
 abbrev pub unknown_at : Table → Use → Option SpecFault
 unknown_at t (UsesPhylum n) = unless_known (is_some (usable_named t n.text)) n
 unknown_at t (HasOperators n) = unless_known (has_operators t n.text) n
@@ -64,6 +79,7 @@ unknown_at t (UsesSymbol n) = unless_known (is_lexeme t n.text || is_nonterminal
 unknown_at t (UsesResult n a) = if is_nonterminal t n.text then unless_known
     (is_some (symbol_type t n.text a.text)) a else unless_known false n
 unknown_at t (Refers site r) = unknown_reference t site r
+unknown_at t (Encloses site q) = unknown_enclosing t site q
 unknown_at t (UsesVariable scope n) = unless_known (is_visible scope n.text) n
 unknown_at t (Calls n parts) = unless_known (is_some (callable t n.text)) n
 unknown_at t (Matches n parts) = unless_known (is_some (op_named t.ops n.text)) n

@@ -1,11 +1,12 @@
 -- The uses of names in declarations, in the order of the text, each with what it must mean.
-use Rattle.std.specs.Prelude.{ℕ, suc, Bool, if◌then◌else◌, List, [], ◌∷◌, ◌++◌, map, flat_map, fold, bytes_eq, Option, Some, None, option_and_then}
+use Rattle.std.specs.Prelude.{ℕ, suc, Bool, if◌then◌else◌, List, [], ◌∷◌, ◌++◌, map, flat_map, fold, bytes_eq, Option, Some, None}
 use Rattle.std.specs.List.{list_any}
 use Rattle.sg_kinds.specs.Values.{Bytes}
 use Rattle.sg_kinds.specs.Specification.{locals_of}
 use Rattle.sg_kinds.specs.declared.spec.Local.{Local}
 use Rattle.sg_ast.specs.declared.name.Name.{Name}
 use Rattle.sg_ast.specs.declared.name.Typed.{Typed}
+use Rattle.sg_ast.specs.declared.name.Pair.{Pair}
 use Rattle.sg_ast.specs.declared.name.Reference.{Reference}
 use Rattle.sg_ast.specs.declared.decl.Alt.{Alt}
 use Rattle.sg_ast.specs.declared.decl.AttrDecl.{AttrDecl}
@@ -32,8 +33,9 @@ pub data Site : Type 0 where
   Elsewhere : Site
 
 -- a use: of a phylum; of a phylum that has operators; of one, or of a nonterminal, that has attributes; of an
--- operator of a phylum; of a symbol of a production; of a nonterminal's result; of a reference; of a variable among
--- those that are visible; a binding where these are visible; and a call or an operator pattern over so many parts
+-- operator of a phylum; of a symbol of a production; of a nonterminal's result; of a reference; of an attribute of an
+-- enclosing node; of a variable among those that are visible; a binding where these are visible; and a call or an
+-- operator pattern over so many parts
 pub data Use : Type 0 where
   UsesPhylum : Name → Use
   HasOperators : Name → Use
@@ -42,6 +44,7 @@ pub data Use : Type 0 where
   UsesSymbol : Name → Use
   UsesResult : Name → Name → Use
   Refers : Site → Reference → Use
+  Encloses : Site → Pair → Use
   UsesVariable : List Bytes → Name → Use
   Binds : List Bytes → Name → Use
   Calls : Name → ℕ → Use
@@ -92,6 +95,7 @@ abbrev mutual
   expr_uses site scope (e.Truth b place) = []
   expr_uses site scope (e.Variable n) = UsesVariable scope n ∷ []
   expr_uses site scope (e.Attribute r) = Refers site r ∷ []
+  expr_uses site scope (e.Remote r) = map (Encloses site) r.pairs
   expr_uses site scope (e.MadeOf made n place) = UsesPhylum n ∷ []
   expr_uses site scope (e.Paren a place) = expr_uses site scope a
   expr_uses site scope (e.Single f a place) = expr_uses site scope a

@@ -1,12 +1,13 @@
 //! Laws of what names mean, and of a specification whose names are those of a table, each as the contract of a function
 //! without code.
-ghost use Rattle.std.specs.Prelude.{◌≡◌, ℕ, List, length};
+ghost use Rattle.std.specs.Prelude.{◌≡◌, ℕ, List, filter, length};
 ghost use Rattle.sg_ast.specs.Declarations.{Decl};
 ghost use Rattle.sg_kinds.specs.Completing.{completing_within};
 ghost use Rattle.sg_kinds.specs.Expressions.{Expr, Pattern};
+ghost use Rattle.sg_kinds.specs.Far.{is_written};
 ghost use Rattle.sg_kinds.specs.Placeholder.{placeholder_within};
 ghost use Rattle.sg_kinds.specs.Sound.{IsFinite, is_owed};
-ghost use Rattle.sg_kinds.specs.Specification.{args_of, locals_of, phylum_of};
+ghost use Rattle.sg_kinds.specs.Specification.{args_of, attrs_of, locals_of, phylum_of};
 ghost use Rattle.sg_kinds.specs.Typing.{bound_types, is_accepted, is_usable, slots_there, slot_type, type_of, types_at};
 ghost use Rattle.sg_kinds.specs.declared.spec.Occurrence.{Occurrence};
 ghost use Rattle.sg_kinds.specs.declared.spec.Spec.{Spec};
@@ -17,6 +18,12 @@ ghost use Rattle.sg_names.specs.declared.table.Table.{Table};
 /// Each operator that the declarations define has the place of its name.
 pub fn operators_have_places()
     ensures { (ds : List Decl) → length (names_of ds).op_places ≡ length (names_of ds).ops }
+{}
+
+/// The declarations give each phylum written attributes alone.
+pub fn attributes_are_written()
+    ensures { (ds : List Decl) (p : ℕ) → filter is_written (attrs_of (names_of ds).phyla p)
+        ≡ attrs_of (names_of ds).phyla p }
 {}
 
 /// The operators of a specification with the names of a table are those of the table.

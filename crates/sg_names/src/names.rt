@@ -1,6 +1,7 @@
 //! The tables of names.
-ghost use Rattle.std.specs.Prelude.{◌≡◌, ◌<◌, ◌≤◌, ◌&&◌, ℕ, List, length, slice_get, bytes_eq, position, IfOk, IfSome};
+ghost use Rattle.std.specs.Prelude.{◌≡◌, ◌<◌, ◌≤◌, ◌&&◌, ℕ, List, length, bytes_eq, position, IfOk, IfSome, OnOk};
 ghost use Rattle.sg_kinds.specs.Dependencies.{phylum_there};
+ghost use Rattle.sg_kinds.specs.Far as far;
 ghost use Rattle.sg_kinds.specs.Specification.{attrs_of, args_of, locals_of, has_shape, is_lexical_shape, is_leaf_shape};
 ghost use Rattle.std.specs.List.{list_all};
 ghost use Rattle.sg_kinds.specs.declared.spec.Local.{Local};
@@ -9,35 +10,31 @@ ghost use Rattle.sg_kinds.specs.declared.spec.Operator.{Operator};
 ghost use Rattle.sg_names.specs.Indexed as indexed;
 ghost use Rattle.sg_names.specs.Lookups as spec;
 ghost use Rattle.sg_names.specs.Meaning.{meaning};
-ghost use Rattle.sg_names.specs.Names.{op_named};
+ghost use Rattle.sg_names.specs.More.{and_attrs, behind, with_more};
+ghost use Rattle.sg_names.specs.Names.{map_from, op_named};
+ghost use Rattle.sg_names.specs.Rows.{row_at, row_in};
 
 use crate::callables;
+use crate::groups::Groups;
 use crate::index::Index;
 use crate::occurrences::{IsNamed, IsPhylum, chosen};
 use crate::table::{Callable, Operand, Table};
 use sg_ast::decl::Part;
-use sg_ast::name::{Name, Occurrence as Written, Reference};
+use sg_ast::name::{Name, Occurrence as Written, Pair, Reference, Remote};
 use sg_ast::number::Number;
 use sg_kinds::ids::{OpId, PhylumId};
 use sg_kinds::marks::{Shape, Unary};
 use sg_kinds::memory::NoMemory;
-use sg_kinds::spec::{Attr, Local, Occurrence, Operator, Phylum};
+use sg_kinds::row::Row;
+use sg_kinds::spec::{Attr, Far, Local, Occurrence, Operator, Phylum};
 use sg_kinds::text::Text;
 use std::alloc::Global;
 use std::marker::Model;
+use std::mem;
 
 const INT: PhylumId = PhylumId { number: 1 };
 
 const STR: PhylumId = PhylumId { number: 2 };
-
-fn param_of(builtin: Unary) -> PhylumId
-    ensures { result ≡ spec.builtin_param builtin }
-{
-    match builtin {
-        Unary::NumberToText => INT,
-        _ => STR,
-    }
-}
 
 fn result_of(builtin: Unary) -> PhylumId
     ensures { result ≡ spec.builtin_result builtin }
@@ -103,6 +100,59 @@ fn slot_of(attrs: &[Attr], name: &Text) -> Option<u32>
         }
     }
     None
+}
+
+fn same_far(a: &[Far], b: &[Far]) -> bool
+    ensures { result ≡ far.same_far a.now b.now }
+{
+    a == b
+}
+
+/// The place of the attribute with a list.
+#[tactic(auto, using(crate::proofs::Firsts::from_zero, crate::proofs::Firsts::passes, crate::proofs::Firsts::fails, crate::proofs::Firsts::ends))]
+fn slot_of_far(attrs: &[Attr], list: &[Far]) -> Option<u32>
+    requires { length attrs.now < 4294967295 }
+    ensures { result ≡ far.slot_of_far attrs.now list.now }
+{
+    for (place, attr) in attrs.iter().enumerate() {
+        if same_far(attr.far.as_slice(), list) {
+            return Some(place as u32);
+        }
+    }
+    None
+}
+
+/// Puts attributes behind those of a phylum.
+fn put_behind(alloc: Global, phylum: &mut Phylum, more: Row<Attr>) -> Result<(), NoMemory>
+    ensures { OnOk result (phylum.new ≡ behind more phylum.old) }
+{
+    let own = mem::replace(&mut phylum.attrs, Row::new(Vec::new(alloc)));
+    let mut attrs = own.into_vec();
+    attrs.append(&mut more.into_vec())?;
+    phylum.attrs = Row::new(attrs);
+    Ok(())
+}
+
+/// Phyla with further attributes behind their own.
+fn and_more(
+    alloc: Global,
+    mut phyla: Vec<Phylum>,
+    mut more: Groups<Attr>,
+) -> Result<Vec<Phylum>, NoMemory>
+    ensures { IfOk result (λ v. v.items ≡ map_from (and_attrs (row_at more)) 0 phyla.items) }
+{
+    for place in 0..phyla.len() {
+        put_behind(alloc, &mut phyla[place], more.take(alloc, place))?;
+    }
+    Ok(phyla)
+}
+
+fn longer(alloc: Global, mut table: Table, more: Vec<Vec<Attr>>) -> Result<Table, NoMemory>
+    ensures { IfOk result (λ t. t ≡ with_more table (row_in more.items)) }
+{
+    let own = mem::replace(&mut table.phyla, Row::new(Vec::new(alloc)));
+    table.phyla = Row::new(and_more(alloc, own.into_vec(), Groups { rows: more })?);
+    Ok(table)
 }
 
 /// The occurrence of a phylum with a number, or the only one.
@@ -172,6 +222,28 @@ impl Names {
             return Err(NoMemory);
         }
         let callables = callables::all(alloc, table.ops.as_slice(), table.functions.as_slice())?;
+        Ok(Names {
+            table,
+            phyla,
+            nonterminals,
+            callables,
+        })
+    }
+
+    /// The same names, each phylum with these attributes behind its own.
+    pub fn with_more(self, alloc: Global, more: Vec<Vec<Attr>>) -> Result<Names, NoMemory>
+        ensures { IfOk result (λ n. n ≡ with_more self (row_in more.items)) }
+    {
+        let Names {
+            table,
+            phyla,
+            nonterminals,
+            callables,
+        } = self;
+        let table = longer(alloc, table, more)?;
+        if !is_numbered(&table) {
+            return Err(NoMemory);
+        }
         Ok(Names {
             table,
             phyla,
@@ -251,24 +323,6 @@ impl Names {
                 .place(place)
                 .map_or(0, |function| function.params.len()),
             Callable::Builtin(_) => 1,
-        }
-    }
-
-    /// The phylum of a part, by its place counted from 0.
-    pub fn param(&self, called: Callable, k: u32) -> Option<PhylumId>
-        ensures { result ≡ slice_get (spec.params_of self.now called) k }
-    {
-        match called {
-            Callable::Operator(op) => self.table.ops.place(op.number)?.args.place(k).copied(),
-            Callable::Function(place) => self
-                .table
-                .functions
-                .place(place)?
-                .params
-                .place(k)
-                .copied(),
-            Callable::Builtin(builtin) if k == 0 => Some(param_of(builtin)),
-            Callable::Builtin(_) => None,
         }
     }
 
@@ -437,6 +491,92 @@ impl Names {
     {
         let at = self.occurrence(op, &reference.of)?;
         self.attribute_at(op, at, &reference.attr.text)
+    }
+
+    /// What a pair of a reference to enclosing nodes lists: the number past the last where its phylum is unknown, and
+    /// the slot 0 where its attribute is.
+    fn far_of(&self, pair: &Pair) -> Result<Far, NoMemory>
+        ensures { IfOk result (λ f. f ≡ spec.far_of self.now pair.now) }
+    {
+        let phylum = match self.phylum_named(&pair.phylum.text) {
+            Some(phylum) => phylum,
+            None => PhylumId {
+                number: callables::number(self.table.phyla.len())?,
+            },
+        };
+        let slot = self.attribute(phylum, &pair.attr.text).unwrap_or(0);
+        Ok(Far { phylum, slot })
+    }
+
+    /// What a reference to enclosing nodes lists.
+    pub fn far_list(&self, alloc: Global, remote: &Remote) -> Result<Vec<Far>, NoMemory>
+        ensures { IfOk result (λ v. v.items ≡ spec.far_list self.now remote.now) }
+    {
+        let mut list = Vec::new(alloc);
+        let pairs = remote.pairs.as_slice();
+        for pair in pairs {
+            list.push(self.far_of(pair)?)?;
+        }
+        Ok(list)
+    }
+
+    /// The slot that the phylum of an operator has for what a reference to enclosing nodes lists.
+    pub fn far_slot(
+        &self,
+        alloc: Global,
+        op: OpId,
+        remote: &Remote,
+    ) -> Result<Option<u32>, NoMemory>
+        ensures { IfOk result (λ s. s ≡ spec.far_slot self.now op remote.now) }
+    {
+        let Some(operator) = self.table.ops.place(op.number) else {
+            return Ok(None);
+        };
+        let list = self.far_list(alloc, remote)?;
+        Ok(slot_of_far(self.attrs(operator.phylum), &list))
+    }
+
+    /// The type of the attribute that a pair lists.
+    pub fn pair_type(&self, pair: &Pair) -> Option<PhylumId>
+        ensures { result ≡ spec.pair_type self.now pair.now }
+    {
+        let phylum = self.phylum_named(&pair.phylum.text)?;
+        type_of(self.attrs(phylum), &pair.attr.text)
+    }
+
+    fn first_type(&self, pairs: &[Pair]) -> Option<PhylumId>
+        ensures { result ≡ spec.first_type self.now pairs.now }
+    {
+        match pairs {
+            [first, ..] => self.pair_type(first),
+            [] => None,
+        }
+    }
+
+    fn lists_type(&self, of: PhylumId, pair: &Pair) -> bool
+        ensures { result ≡ spec.lists_type self.now of pair.now }
+    {
+        match self.pair_type(pair) {
+            Some(found) => of.number == found.number,
+            None => false,
+        }
+    }
+
+    fn list_type(&self, of: PhylumId, pairs: &[Pair]) -> bool
+        ensures { result ≡ list_all (spec.lists_type self.now of) pairs.now }
+    {
+        pairs.iter().all(|pair| self.lists_type(of, pair))
+    }
+
+    /// Whether the attributes that a reference to enclosing nodes lists have one type.
+    pub fn are_alike(&self, remote: &Remote) -> bool
+        ensures { result ≡ spec.are_alike self.now remote.now }
+    {
+        let pairs = remote.pairs.as_slice();
+        match self.first_type(pairs) {
+            Some(of) => self.list_type(of, pairs),
+            None => false,
+        }
     }
 
     /// The type of an attribute of the nonterminal, or else of the phylum, of a name.

@@ -10,7 +10,6 @@ use Rattle.sg_kinds.specs.Specification.{args_of}
 use Rattle.sg_kinds.specs.declared.marks.Shape.TheVariants.{Truths, Numbers, Texts, Lexemes, Ordinary, Optional, Listed, OptionalListed}
 use Rattle.sg_kinds.specs.Completing.{all_made, completing_within}
 use Rattle.sg_kinds.specs.Completing as term
-use Rattle.sg_kinds.specs.Placeholder.{placeholder_within}
 use Rattle.sg_kinds.specs.Placeholder as held
 use Rattle.sg_shapes.specs.Counts.{capped, count_of, look, total, over, one_element, completed, placeheld, next_counts, deepened, no_counts}
 

@@ -4,13 +4,14 @@ ghost use Rattle.sg_kinds.specs.Specification.{args_of};
 ghost use Rattle.sg_shapes.specs.Counts.{capped, look, total, over, one_element, completed, placeheld, next_counts, deepened, no_counts, fits, both_fit};
 
 use sg_kinds::ids::{OpId, PhylumId};
+use sg_kinds::limits::NODES;
 use sg_kinds::marks::Shape;
 use sg_kinds::memory::NoMemory;
 use sg_kinds::spec::{Operator, Phylum};
 use std::alloc::Global;
 
 /// The nodes that a made term may have, and the count that stands for more.
-const MAX_NODES: u32 = 65_536;
+const MAX_NODES: u32 = NODES as u32;
 
 const TOO_MANY: u32 = 65_537;
 

@@ -4,12 +4,13 @@ ghost use Rattle.sg_shapes.specs.Counts.{deepened, no_counts};
 ghost use Rattle.sg_shapes.specs.Unfinished.{unfinished};
 
 use crate::counts::{both_fit, counts};
+use sg_kinds::limits::DEPTH;
 use sg_kinds::memory::NoMemory;
 use sg_names::table::Table;
 use std::alloc::Global;
 
 /// The greatest depth of the terms below a made term.
-const DEPTH_BELOW: u32 = 1023;
+const DEPTH_BELOW: u32 = DEPTH as u32 - 1;
 
 /// The place of the first phylum that is not finished, by the counts of completing terms.
 fn first(table: &Table, counts: &[Option<u32>]) -> Option<usize>

@@ -1,5 +1,5 @@
 -- First definitions with one more.
-use Rattle.std.proofs.Common.{◌≡◌, ℕ, ◌+◌, Bool, true, false, cond, List, [], ◌∷◌, ◌++◌, length, Option, Some, None, is_some, unwrap_or, if◌then◌else◌, bytes_eq, refl, sym, ap, ◌∙◌, arith, nat_lt, ◌≤◌, not, length-append}
+use Rattle.std.proofs.Common.{◌≡◌, ℕ, ◌+◌, Bool, true, false, cond, List, [], ◌∷◌, ◌++◌, length, Some, None, is_some, unwrap_or, if◌then◌else◌, bytes_eq, refl, sym, ap, ◌∙◌, arith, nat_lt, ◌≤◌, not, length-append}
 use Rattle.std.specs.List.{position, position_or_len}
 use Rattle.std.proofs.lemmas.Bool.Decides.{nat_tests}
 use Rattle.std.proofs.lemmas.List.Sums.{prefix_len-le-length}

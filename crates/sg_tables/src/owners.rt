@@ -1,5 +1,5 @@
 //! What phyla, nonterminals and operators own by the declarations.
-ghost use Rattle.std.specs.Prelude.{◌≡◌, ◌++◌, ℕ, List, option_map, length, map, flat_map, unwrap_or, IfOk, OnOk};
+ghost use Rattle.std.specs.Prelude.{◌≡◌, ◌++◌, ℕ, List, option_map, length, map, unwrap_or, IfOk, OnOk};
 ghost use Rattle.sg_ast.specs.View.{tree_of, trees_of};
 ghost use Rattle.sg_names.specs.Heads as head;
 ghost use Rattle.sg_names.specs.Meaning.{meaning};
@@ -13,6 +13,7 @@ use sg_ast::name::{Name, Typed};
 use sg_kinds::ids::{OpId, PhylumId};
 use sg_kinds::marks::Shape;
 use sg_kinds::memory::NoMemory;
+use sg_kinds::row::Row;
 use sg_kinds::spec::{Attr, Local, Operator};
 use sg_kinds::text::Text;
 use sg_names::callables::number;
@@ -38,6 +39,7 @@ fn add_attributes(
             of: PhylumId {
                 number: phyla.number(&decl.of.text),
             },
+            far: Row::new(Vec::new(alloc)),
         };
         found.put(alloc, owner, attr)?;
     }

@@ -47,6 +47,7 @@ fn value_attrs(alloc: Global, number: u32) -> Result<Row<Attr>, NoMemory>
         name: Text::from_slice(alloc, b"value")?,
         way: Way::Synthesized,
         of: PhylumId { number },
+        far: Row::new(Vec::new(alloc)),
     })?;
     Ok(Row::new(attrs))
 }

@@ -1,7 +1,6 @@
 -- The first fault of a row stands before all others of the row.
 use Rattle.std.proofs.Common.{◌≡◌, ℕ, ◌+◌, ◌≤◌, Bool, true, false, List, [], ◌∷◌, ◌++◌, if◌then◌else◌, Option, Some, None, ◌⊎◌, inl, inr, refl, sym, ap, ◌∙◌, subst, arith}
-use Rattle.std.specs.Prelude.{flat_map, option_and_then, is_some, ◌||◌, nat_eq, length}
-use Rattle.std.specs.List.{AllByRecursion}
+use Rattle.std.specs.Prelude.{option_and_then, is_some, ◌||◌, nat_eq, length}
 use Rattle.sg_kinds.specs.Specification.{args_of}
 use Rattle.sg_kinds.specs.declared.fault.Position.{Position}
 use Rattle.sg_kinds.specs.declared.fault.SpecFault.{SpecFault}
@@ -10,11 +9,10 @@ use Rattle.sg_text.specs.declared.tokens.Token.{Token}
 use Rattle.sg_ast.specs.declared.name.Name.{Name}
 use Rattle.sg_ast.specs.declared.name.Occurrence.{Occurrence}
 use Rattle.sg_ast.specs.declared.name.Occurrence.TheVariants.{Own, Named}
-use Rattle.sg_ast.specs.declared.name.Reference.{Reference}
 use Rattle.sg_ast.specs.Declarations.{Decl}
 use Rattle.sg_ast.specs.Chains.{occurrence_place}
 use Rattle.sg_ast.specs.FirstFault.{or_else, first}
-use Rattle.sg_ast.specs.Rising.{places_of, RiseFrom}
+use Rattle.sg_ast.specs.Rising.{RiseFrom}
 use Rattle.sg_ast.specs.Spells.{EachSpells, declarations}
 use Rattle.sg_ast.proofs.RisingLaws.{all_rise, some_rise, later, whole}
 use Rattle.sg_names.specs.declared.table.Table.{Table}
@@ -23,8 +21,8 @@ use Rattle.sg_names.specs.Lookups.{usable_named, operator_at, callable, params_o
 use Rattle.sg_names.specs.Names.{op_named}
 use Rattle.sg_names.specs.Arity.{arity, arity_at, unless_many}
 use Rattle.sg_names.specs.TwiceBound.{twice_bound, twice_at, twice_if}
-use Rattle.sg_names.specs.UnknownName.{unknown_name, unknown_at, unless_known, has_operators, is_lexeme, is_nonterminal, occurrence_name, reference_fault, is_there, is_known}
-use Rattle.sg_names.specs.Uses.{Site, Use, UsesPhylum, HasOperators, HasAttributes, UsesOperator, UsesSymbol, UsesResult, Refers, UsesVariable, Binds, Calls, Matches, is_visible, uses}
+use Rattle.sg_names.specs.UnknownName.{unknown_name, unknown_at, unless_known, has_operators, is_attribute, is_lexeme, is_nonterminal, may_enclose, reference_fault, is_there, is_known}
+use Rattle.sg_names.specs.Uses.{Use, UsesPhylum, HasOperators, HasAttributes, UsesOperator, UsesSymbol, UsesResult, Refers, Encloses, UsesVariable, Binds, Calls, Matches, is_visible, uses}
 use Rattle.sg_uses.specs.UsePlaces.{use_places, walked_places, fault_place, IsFirst}
 use Rattle.sg_uses.proofs.Order.{uses_in}
 
@@ -96,6 +94,8 @@ unknown_stands t (UsesOperator n op) p e = second_stands (is_some (usable_named 
 unknown_stands t (UsesSymbol n) p e = name_stands (is_lexeme t n.text || is_nonterminal t n.text) n p e
 unknown_stands t (UsesResult n a) p e = second_stands (is_nonterminal t n.text) (is_some (symbol_type t n.text a.text)) n a p e
 unknown_stands t (Refers site r) p e = reference_stands (is_there t site r.of) (is_known t site r) r.of r.attr p e
+unknown_stands t (Encloses site q) p e =
+    second_stands (may_enclose t site q.phylum.text) (is_attribute t q.phylum.text q.attr.text) q.phylum q.attr p e
 unknown_stands t (UsesVariable scope n) p e = name_stands (is_visible scope n.text) n p e
 unknown_stands t (Binds scope n) p e = absurd (cc)
 unknown_stands t (Calls n parts) p e = name_stands (is_some (callable t n.text)) n p e

@@ -1,5 +1,5 @@
 -- First faults of a walk over joined uses.
-use Rattle.std.proofs.Common.{◌≡◌, ℕ, Bool, true, false, if◌then◌else◌, length, ◌+◌, ◌<◌, ◌≤◌, map, flat_map, drop, get_or, take, append_assoc, append-nil, List, [], ◌∷◌, ◌++◌, Option, Some, None, fold, refl, sym, ap, ◌∙◌}
+use Rattle.std.proofs.Common.{◌≡◌, ℕ, Bool, true, false, if◌then◌else◌, length, ◌+◌, ◌<◌, ◌≤◌, map, flat_map, drop, get_or, take, append_assoc, append-nil, List, [], ◌∷◌, ◌++◌, Option, fold, refl, sym, ap, ◌∙◌}
 use Rattle.std.proofs.Math.Seq.{take-append_seam, take-length}
 use Rattle.std.proofs.lemmas.Grind.{fold-append}
 use Rattle.std.proofs.lemmas.List.{at_drop_more, at_drop_all}

@@ -1,5 +1,5 @@
 -- Uses stand in the order of the text.
-use Rattle.std.proofs.Common.{◌≡◌, ℕ, Bool, true, false, List, [], ◌∷◌, ◌++◌, map, Option, Some, None, sym, subst}
+use Rattle.std.proofs.Common.{ℕ, true, false, List, [], ◌∷◌, ◌++◌, map, Option, Some, None, sym, subst}
 use Rattle.std.specs.Prelude.{flat_map}
 use Rattle.std.specs.List.{join_by}
 use Rattle.std.proofs.lemmas.Grind.{flat_map-append}
@@ -10,7 +10,7 @@ use Rattle.sg_ast.specs.declared.name.Name.{Name}
 use Rattle.sg_ast.specs.declared.name.Typed.{Typed}
 use Rattle.sg_ast.specs.declared.name.Occurrence.{Occurrence}
 use Rattle.sg_ast.specs.declared.name.Occurrence.TheVariants.{Own, Named}
-use Rattle.sg_ast.specs.declared.name.Reference.{Reference}
+use Rattle.sg_ast.specs.declared.name.Pair.{Pair}
 use Rattle.sg_ast.specs.declared.decl.Alt.{Alt}
 use Rattle.sg_ast.specs.declared.decl.AttrDecl.{AttrDecl}
 use Rattle.sg_ast.specs.declared.decl.Target.{Target}
@@ -26,12 +26,12 @@ use Rattle.sg_ast.specs.Expressions as e
 use Rattle.sg_ast.specs.Expressions.{Expr, Exprs, Cases, NoExpr, AndExpr, NoCase, Default, Case}
 use Rattle.sg_ast.specs.Declarations.{Decl, Equation, Right, Root, Listed, Optional, Operators, Attributes, Equations, Schemes, Function, Transform, Productions, Entry}
 use Rattle.sg_ast.specs.Chains.{occurrence_place}
-use Rattle.sg_ast.specs.Spelling.{Piece, sign, named, comma, bar, spell_name, spell_occurrence, spell_pattern, spell_patterns, spell_more_patterns, spell_expr, spell_exprs, spell_more_exprs, spell_cases, spell_target, spell_equation, spell_alt, spell_attr, spell_local, spell_param, spell_item, spell_scheme, spell_part, spell_right, spell_view}
+use Rattle.sg_ast.specs.Spelling.{Piece, sign, named, comma, bar, spell_name, spell_occurrence, spell_pair, spell_pattern, spell_patterns, spell_more_patterns, spell_expr, spell_exprs, spell_more_exprs, spell_cases, spell_target, spell_equation, spell_alt, spell_attr, spell_local, spell_param, spell_item, spell_scheme, spell_part, spell_right, spell_view}
 use Rattle.sg_ast.specs.Rising.{kept_places, places_of, SomeOf, nothing, passed, taken}
 use Rattle.sg_ast.proofs.RisingLaws.{some_then, in_front, in_back, in_both}
 use Rattle.sg_names.specs.declared.table.Table.{Table}
 use Rattle.sg_names.specs.Lookups.{operator_at}
-use Rattle.sg_names.specs.Uses.{Site, InOperator, InProduction, Elsewhere, Use, UsesPhylum, HasOperators, HasAttributes, UsesOperator, UsesSymbol, UsesResult, Refers, UsesVariable, Binds, Calls, Matches, with_variable, pattern_scope, pattern_uses, patterns_uses, expr_uses, exprs_uses, cases_uses, case_uses, local_scope, target_uses, equation_uses, item_uses, scheme_uses, equations_uses, schemes_uses, within, params_scope, params_uses, part_uses, right_uses, decl_uses, uses}
+use Rattle.sg_names.specs.Uses.{Site, InOperator, InProduction, Elsewhere, Use, UsesPhylum, Encloses, with_variable, pattern_scope, pattern_uses, patterns_uses, expr_uses, exprs_uses, cases_uses, local_scope, target_uses, equation_uses, item_uses, scheme_uses, equations_uses, schemes_uses, within, params_scope, params_uses, part_uses, right_uses, decl_uses, uses}
 use Rattle.sg_uses.specs.UsePlaces.{use_places, walked_places}
 
 -- these uses stand among these tokens, in their order
@@ -85,6 +85,15 @@ reference_in (Own place) attr = taken (taken nothing)
 reference_in (Named n None) attr = taken (taken nothing)
 reference_in (Named n (Some k)) attr = taken (taken nothing)
 
+-- the pairs of a reference to enclosing nodes
+more_pairs_in : (site : Site) (qs : List Pair) → In (map (Encloses site) qs) (flat_map (λ q. comma ++ spell_pair q) qs)
+more_pairs_in site [] = nothing
+more_pairs_in site (q ∷ qs) = taken (taken (more_pairs_in site qs))
+
+pairs_in : (site : Site) (qs : List Pair) → In (map (Encloses site) qs) (join_by spell_pair comma qs)
+pairs_in site [] = nothing
+pairs_in site (q ∷ qs) = taken (taken (more_pairs_in site qs))
+
 mutual
   expr_in : (site : Site) (scope : List Bytes) (x : Expr) → In (expr_uses site scope x) (spell_expr x)
   expr_in site scope (e.Amount n place) = nothing
@@ -92,6 +101,7 @@ mutual
   expr_in site scope (e.Truth b place) = nothing
   expr_in site scope (e.Variable n) = taken nothing
   expr_in site scope (e.Attribute r) = reference_in r.of r.attr
+  expr_in site scope (e.Remote r) = passed (closed (map (Encloses site) r.pairs) (join_by spell_pair comma r.pairs) _ (pairs_in site r.pairs))
   expr_in site scope (e.MadeOf made n place) = passed (taken nothing)
   expr_in site scope (e.Paren a place) = passed (closed (expr_uses site scope a) (spell_expr a) _ (expr_in site scope a))
   expr_in site scope (e.Single f a place) = passed (expr_in site scope a)

@@ -5,7 +5,7 @@ use Rattle.sg_kinds.specs.declared.fault.Position.{Position}
 use Rattle.sg_kinds.specs.declared.fault.SpecFault.{SpecFault}
 use Rattle.sg_kinds.specs.declared.fault.SpecFault.TheVariants.{UnknownName, TwiceBound, Arity}
 use Rattle.sg_ast.specs.Chains.{occurrence_place}
-use Rattle.sg_names.specs.Uses.{Use, UsesPhylum, HasOperators, HasAttributes, UsesOperator, UsesSymbol, UsesResult, Refers, UsesVariable, Binds, Calls, Matches}
+use Rattle.sg_names.specs.Uses.{Use, UsesPhylum, HasOperators, HasAttributes, UsesOperator, UsesSymbol, UsesResult, Refers, Encloses, UsesVariable, Binds, Calls, Matches}
 
 -- the tokens of a use at which a fault of it can stand, in their order
 abbrev pub use_places : Use → List Position
@@ -16,6 +16,7 @@ use_places (UsesOperator n op) = n.place ∷ op.place ∷ []
 use_places (UsesSymbol n) = n.place ∷ []
 use_places (UsesResult n a) = n.place ∷ a.place ∷ []
 use_places (Refers site r) = occurrence_place r.of ∷ r.attr.place ∷ []
+use_places (Encloses site q) = q.phylum.place ∷ q.attr.place ∷ []
 use_places (UsesVariable scope n) = n.place ∷ []
 use_places (Binds scope n) = n.place ∷ []
 use_places (Calls n parts) = n.place ∷ []

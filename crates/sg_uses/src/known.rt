@@ -1,6 +1,5 @@
 //! The tests of what a name means where it stands.
 ghost use Rattle.std.specs.Prelude.{◌≡◌, is_some, OnOk};
-ghost use Rattle.sg_names.specs.Lookups as lookups;
 ghost use Rattle.sg_uses.specs.Noted as noted;
 ghost use Rattle.sg_uses.specs.SiteView.{site_of};
 ghost use Rattle.sg_names.specs.UnknownName as spec;
@@ -9,7 +8,7 @@ ghost use Rattle.sg_names.specs.Uses as uses;
 use crate::found::Found;
 use crate::scope::Scope;
 use sg_ast::decl::Part;
-use sg_ast::name::{Name, Occurrence, Reference};
+use sg_ast::name::{Name, Occurrence, Pair, Reference};
 use sg_kinds::ids::OpId;
 use sg_kinds::memory::NoMemory;
 use sg_kinds::text::Text;
@@ -48,6 +47,15 @@ fn is_lexeme(names: &Names, name: &Text) -> bool
 {
     match names.usable_named(name) {
         Some(phylum) => names.is_lexical(phylum),
+        None => false,
+    }
+}
+
+fn is_attribute(names: &Names, pair: &Pair) -> bool
+    ensures { result ≡ spec.is_attribute names.now pair.now.phylum.text pair.now.attr.text }
+{
+    match names.phylum_named(&pair.phylum.text) {
+        Some(phylum) => names.attribute(phylum, &pair.attr.text).is_some(),
         None => false,
     }
 }
@@ -150,6 +158,27 @@ impl Context<'_> {
             Occurrence::Own(_) => found.note_unknown(self.alloc, false, &reference.attr),
             Occurrence::Named(name, _) => found.note_unknown(self.alloc, false, name),
         }
+    }
+
+    /// Whether nodes of a phylum may enclose where this expression stands.
+    fn may_enclose(&self, name: &Text) -> bool
+        ensures { result ≡ spec.may_enclose self.now.names.now (site_of self.now.site) name.now }
+    {
+        match self.site {
+            Site::Operator(_) => has_operators(self.names, name),
+            Site::Production(_, _) | Site::Elsewhere => false,
+        }
+    }
+
+    pub fn encloses(&self, found: &mut Found, pair: &Pair) -> Result<(), NoMemory>
+        ensures { OnOk result (found.new ≡ noted.noted_at self.now.names.now found.old
+            (uses.Encloses (site_of self.now.site) pair.now)) }
+    {
+        if !self.may_enclose(&pair.phylum.text) {
+            return found.note_unknown(self.alloc, false, &pair.phylum);
+        }
+        let known = is_attribute(self.names, pair);
+        found.note_unknown(self.alloc, known, &pair.attr)
     }
 
     pub fn variable(&self, scope: &Scope, found: &mut Found, name: &Name) -> Result<(), NoMemory>

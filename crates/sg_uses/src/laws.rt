@@ -1,5 +1,5 @@
 //! Laws of the walk along uses, each as the contract of a function without code.
-ghost use Rattle.std.specs.Prelude.{◌≡◌, ℕ, List, flat_map, Option, Some};
+ghost use Rattle.std.specs.Prelude.{◌≡◌, ℕ, List, flat_map, Some};
 ghost use Rattle.sg_text.specs.declared.tokens.Token.{Token};
 ghost use Rattle.sg_kinds.specs.declared.fault.Position.{Position};
 ghost use Rattle.sg_ast.specs.Declarations.{Decl};

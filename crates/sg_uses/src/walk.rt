@@ -1,5 +1,5 @@
 //! The walk along patterns and expressions.
-ghost use Rattle.std.specs.Prelude.{◌≡◌, OnOk, IfOk};
+ghost use Rattle.std.specs.Prelude.{◌≡◌, map, OnOk, IfOk};
 ghost use Rattle.sg_ast.specs.View.{pattern_of, patterns_of, expr_of, exprs_of, cases_of};
 ghost use Rattle.sg_uses.specs.Noted.{noted};
 ghost use Rattle.sg_uses.specs.SiteView.{site_of};
@@ -9,6 +9,7 @@ use crate::found::Found;
 use crate::known::Context;
 use crate::scope::Scope;
 use sg_ast::expr::{Cases, Expr, Exprs};
+use sg_ast::name::Pair;
 use sg_ast::pattern::{Pattern, Patterns};
 use sg_kinds::memory::NoMemory;
 
@@ -92,6 +93,18 @@ fn patterns(
     Ok(())
 }
 
+/// Notes the uses of attributes of enclosing nodes.
+#[tactic(auto, using(crate::proofs::NotedLaws::map_more, crate::proofs::NotedLaws::map_all))]
+fn pairs(context: &Context, found: &mut Found, pairs: &[Pair]) -> Result<(), NoMemory>
+    ensures { OnOk result (found.new ≡ noted context.now.names.now found.old
+        (map (uses.Encloses (site_of context.now.site)) pairs.now)) }
+{
+    for pair in pairs {
+        context.encloses(found, pair)?;
+    }
+    Ok(())
+}
+
 /// Notes the uses of an expression.
 #[cycle(exprs)]
 #[tactic(auto, using(crate::proofs::NotedLaws::noted_append, crate::proofs::NotedLaws::back_from_one))]
@@ -109,6 +122,7 @@ pub(crate) fn expr(
         Expr::Number(_, _) | Expr::Text(_) | Expr::Truth(_, _) => Ok(()),
         Expr::Variable(name) => context.variable(scope, found, name),
         Expr::Attribute(reference) => context.reference(found, reference),
+        Expr::Remote(remote) => pairs(context, found, remote.pairs.as_slice()),
         Expr::Made(_, name, _) => context.phylum(found, name),
         Expr::Paren(inner, _) | Expr::Prefix(_, inner, _) => {
             self::expr(context, scope, found, inner)
