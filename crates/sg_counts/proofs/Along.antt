@@ -1,19 +1,18 @@
 -- What is counted stands in the order of the text.
-use Rattle.std.proofs.Common.{◌≡◌, List, [], ◌∷◌, ◌++◌, length, map, refl, sym, ◌∙◌}
+use Rattle.std.proofs.Common.{◌≡◌, List, [], ◌∷◌, ◌++◌, length, map, Some, refl, sym, ◌∙◌}
 use Rattle.std.specs.Prelude.{flat_map}
 use Rattle.std.specs.List.{join_by}
 use Rattle.std.proofs.lemmas.List.{length-map}
-use Rattle.sg_kinds.specs.Values.{Bytes}
 use Rattle.sg_kinds.specs.declared.fault.Position.{Position}
 use Rattle.sg_ast.specs.declared.name.Typed.{Typed}
 use Rattle.sg_ast.specs.declared.decl.Alt.{Alt}
 use Rattle.sg_ast.specs.declared.decl.AttrDecl.{AttrDecl}
 use Rattle.sg_ast.specs.Declarations.{Decl, Right, Operators, Attributes, Equations, Schemes, Function, Productions}
 use Rattle.sg_ast.specs.Parts.{op_places_at}
-use Rattle.sg_ast.specs.Spelling.{Piece, bar, spell_name, spell_part, spell_alt, spell_attr, spell_local, spell_right}
+use Rattle.sg_ast.specs.Spelling.{bar, spell_name, spell_part, spell_alt, spell_attr, spell_local, spell_right}
 use Rattle.sg_ast.specs.Rising.{kept_places, places_of, SomeOf, nothing, passed, taken}
 use Rattle.sg_ast.proofs.RisingLaws.{some_of_each, in_back, in_front}
-use Rattle.sg_counts.specs.Limits.{arities_of, attributes_of, locals_of, parameters_of, schemes_of, symbols_of, attribute_places, local_places, parameter_places, scheme_places, symbol_places, GoesAlong}
+use Rattle.sg_counts.specs.Limits.{arities_of, attributes_of, locals_of, parameters_of, schemes_of, symbols_of, views_in, attribute_places, local_places, parameter_places, scheme_places, symbol_places, view_places, GoesAlong}
 
 -- operators
 more_alts_in : (alts : List Alt) → SomeOf (map (λ (a : Alt). a.name.place) alts) (kept_places (flat_map (λ (a : Alt). bar ++ spell_alt a) alts))
@@ -94,6 +93,14 @@ symbols_in : (d : Decl) → SomeOf (symbol_places d) (places_of d)
 symbols_in (Productions n rights) = passed (in_front _ (join_by spell_right bar rights) _ (rights_in rights))
 symbols_in d = nothing
 
+views_one : (d : Decl) → length (views_in d) ≡ length (view_places d)
+views_one (Schemes p op (Some v) schemes) = refl
+views_one d = refl
+
+views_there : (d : Decl) → SomeOf (view_places d) (places_of d)
+views_there (Schemes p op (Some v) schemes) = passed (passed (taken nothing))
+views_there d = nothing
+
 along : {X : Type 0} (things : Decl → List X) (places : Decl → List Position) → ((d : Decl) → length (things d) ≡ length (places d)) → ((d : Decl) → SomeOf (places d) (places_of d)) → GoesAlong things places
 along things places one there = record { one_each = one; in_order = some_of_each places places_of there }
 
@@ -114,3 +121,6 @@ schemes_along = along schemes_of scheme_places schemes_one schemes_in
 
 pub symbols_along : GoesAlong symbols_of symbol_places
 symbols_along = along symbols_of symbol_places symbols_one symbols_in
+
+pub views_along : GoesAlong views_in view_places
+views_along = along views_in view_places views_one views_there

@@ -5,3 +5,4 @@ pub mod Clashing
 pub mod SameKeys
 pub mod Along
 pub mod Order
+pub mod Distinct

@@ -1,11 +1,12 @@
 -- Names that are equal by their order are equal byte by byte.
-use Rattle.std.proofs.Common.{◌≡◌, ℕ, ◌&&◌, List, length, arith, bytes_eq, Result, Ok, Err, IfOk, refl, ap, ◌∙◌}
+use Rattle.std.proofs.Common.{◌≡◌, ℕ, Bool, true, false, cond, ◌&&◌, List, length, nat_eq, nat_lt, bytes_eq, Result, Ok, Err, IfOk, refl, ap, ◌∙◌, arith}
 use Rattle.std.specs.Borrow.{Bor}
 use Rattle.std.specs.BTreeMap.{is_at}
 use Rattle.std.specs.Cmp.Lexicographic.{slice_cmp}
 use Rattle.std.specs.Ordering.{nat_cmp, is_eq, ordering_then}
 use Rattle.std.specs.declared.cmp.Ordering.{Ordering}
 use Rattle.std.specs.declared.cmp.Ordering.TheVariants.{Less, Equal, Greater}
+use Rattle.std.proofs.lemmas.Bool.Decides.{nat_tests}
 use Rattle.std.proofs.lemmas.Map.Text.{is_eq-slice_cmp}
 use Rattle.sg_counts.specs.Crowds.{different, crowd}
 use Rattle.sg_counts.specs.Limits.{is_same_operator}
@@ -16,6 +17,15 @@ pub both_equal : (o p : Ordering) → is_eq (ordering_then o p) ≡ (is_eq o && 
 both_equal Less p = refl
 both_equal Equal p = refl
 both_equal Greater p = refl
+
+pub same_number : (m n : ℕ) → is_eq (nat_cmp m n) ≡ nat_eq m n
+same_number m n = by (nat_lt m n) (nat_eq m n) refl refl
+  where
+    by : (l e : Bool) → nat_lt m n ≡ l → nat_eq m n ≡ e → is_eq (cond l Less (cond e Equal Greater)) ≡ e
+    by true true h k = grind (arith, nat_tests)
+    by true false h k = refl
+    by false true h k = refl
+    by false false h k = refl
 
 -- an answer that is one value is one that equals it
 pub told : {A E : Type 0} {x y : A} (r : Result A E) → IfOk r (λ n. n ≡ x) → x ≡ y → IfOk r (λ n. n ≡ y)

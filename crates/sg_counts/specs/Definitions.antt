@@ -1,5 +1,5 @@
 -- What is defined, and which definitions clash.
-use Rattle.std.specs.Prelude.{Bool, true, false, not, ◌&&◌, bytes_eq, Option, Some, None, option_map}
+use Rattle.std.specs.Prelude.{ℕ, Bool, true, false, not, ◌&&◌, nat_eq, bytes_eq, Option, Some, None, option_map}
 use Rattle.sg_kinds.specs.Values.{Bytes}
 use Rattle.sg_ast.specs.declared.name.Name.{Name}
 use Rattle.sg_counts.specs.declared.definitions.Form.{Form}
@@ -8,7 +8,8 @@ use Rattle.sg_counts.specs.declared.definitions.Definition.{Definition}
 
 -- the spaces of names: phyla, lexeme phyla and nonterminals; operators, functions and builtins; what `list` and
 -- `optional` speak of; the attributes of an owner; the locals of an operator of a phylum; the operators of a phylum
--- that have schemes, in the ordinary view or in that with a name
+-- that have schemes, in the ordinary view or in that with a name; the literals of precedence lines; the phyla that an
+-- atom lists, by the number of its `{`
 pub data Space : Type 0 where
   Phyla : Space
   Callables : Space
@@ -16,6 +17,8 @@ pub data Space : Type 0 where
   Attributes : Bytes → Space
   Locals : Bytes → Bytes → Space
   Schemes : Bytes → Option Bytes → Space
+  Literals : Space
+  Remotes : ℕ → Space
 
 abbrev pub view_name : Option Name → Option Bytes
 view_name view = option_map (λ (n : Name). n.text) view
@@ -32,6 +35,8 @@ is_same_space Listings Listings = true
 is_same_space (Attributes p) (Attributes q) = bytes_eq p q
 is_same_space (Locals p o) (Locals q r) = bytes_eq p q && bytes_eq o r
 is_same_space (Schemes p v) (Schemes q w) = bytes_eq p q && is_same_view v w
+is_same_space Literals Literals = true
+is_same_space (Remotes a) (Remotes b) = nat_eq a b
 is_same_space s t = false
 
 -- a name of a space

@@ -14,6 +14,8 @@ space_of space.Listings = plain.Listings
 space_of (space.Attributes p) = plain.Attributes p.now
 space_of (space.Locals p o) = plain.Locals p.now o.now
 space_of (space.Schemes p v) = plain.Schemes p.now (option_map (λ (n : Bor (List ℕ)). n.now) v)
+space_of space.Literals = plain.Literals
+space_of (space.Remotes a) = plain.Remotes a
 
 abbrev pub key_of : Key → plain.Key
 key_of k = record { space = space_of k.space; name = k.name.now }

@@ -1,5 +1,5 @@
 -- The counts of a specification that are over their limits.
-use Rattle.std.specs.Prelude.{◌≡◌, ℕ, Bool, true, false, not, ◌&&◌, List, [], ◌∷◌, map, length, filter, flat_map, count_by, bytes_eq, Option, option_map}
+use Rattle.std.specs.Prelude.{◌≡◌, ℕ, Bool, true, false, not, ◌&&◌, List, [], ◌∷◌, map, length, filter, flat_map, count_by, bytes_eq, Option, Some, option_map}
 use Rattle.std.specs.List.{list_any}
 use Rattle.sg_kinds.specs.Values.{Bytes}
 use Rattle.sg_kinds.specs.Sound.{base_names}
@@ -53,6 +53,11 @@ abbrev pub symbols_of : Decl → List ℕ
 symbols_of (Productions n rights) = map (λ (r : Right). length r.parts) rights
 symbols_of d = []
 
+-- the view that it names
+abbrev pub views_in : Decl → List Bytes
+views_in (Schemes p op (Some v) schemes) = v.text ∷ []
+views_in d = []
+
 abbrev pub is_transform : Decl → Bool
 is_transform (Transform p title q e) = true
 is_transform d = false
@@ -61,7 +66,7 @@ is_transform d = false
 abbrev pub is_same_operator : Bytes × Bytes → Bytes × Bytes → Bool
 is_same_operator a b = bytes_eq a.0 b.0 && bytes_eq a.1 b.1
 
--- the counts over their limits, in the order in which they are tested. Repeated names count, but for phyla.
+-- the counts over their limits, in the order in which they are tested. Repeated names count, but for phyla and views.
 -- Attributes and locals add up over the declarations of their owner; the owner that is first over the limit counts
 -- whole
 abbrev pub counts_over : List Decl → List (Counted × Option ℕ)
@@ -77,10 +82,11 @@ counts_over ds =
     ∷ (counted.Schemes, first (over 16) (flat_map schemes_of ds))
     ∷ (counted.Productions, over 1024 (length (flat_map symbols_of ds)))
     ∷ (counted.Symbols, first (over 16) (flat_map symbols_of ds))
+    ∷ (counted.Views, over 16 (length (different bytes_eq (flat_map views_in ds))))
     ∷ []
 
 -- where the things stand that counts go along: attributes, locals, the names of functions, the operators of schemes,
--- productions
+-- productions, the names of views
 abbrev pub attribute_places : Decl → List Position
 attribute_places (Attributes p attrs) = map (λ (a : AttrDecl). a.name.place) attrs
 attribute_places d = []
@@ -100,6 +106,10 @@ scheme_places d = []
 abbrev pub symbol_places : Decl → List Position
 symbol_places (Productions n rights) = map (λ (r : Right). r.place) rights
 symbol_places d = []
+
+abbrev pub view_places : Decl → List Position
+view_places (Schemes p op (Some v) schemes) = v.place ∷ []
+view_places d = []
 
 -- a count goes along things one at each place, in the order of the text
 pub record GoesAlong {X : Type 0} (things : Decl → List X) (places : Decl → List Position) : Type 0 where

@@ -1,14 +1,16 @@
 //! What declarations define, each at its token.
-ghost use Rattle.std.specs.Prelude.{◌≡◌, ◌++◌, ◌∷◌, [], flat_map, map, IfOk, OnOk};
+ghost use Rattle.std.specs.Prelude.{◌≡◌, ◌++◌, ◌∷◌, [], map, flat_map, IfOk, OnOk};
 ghost use Rattle.sg_kinds.specs.Sound.{base_names, builtin_names};
-ghost use Rattle.sg_ast.specs.View.{tree_of, trees_of};
+ghost use Rattle.sg_ast.specs.View.{tree_of, trees_of, expr_of, equation_of, right_of};
 ghost use Rattle.sg_counts.specs.Definitions as spec;
 ghost use Rattle.sg_counts.specs.declared.definitions.Form.TheVariants as form;
-ghost use Rattle.sg_counts.specs.Duplicates.{definitions_in, definitions_of, given, before_text, defined};
-ghost use Rattle.sg_counts.specs.DefinitionsView.{space_of, definition_of, seen_of};
+ghost use Rattle.sg_counts.specs.Duplicates.{definitions_in, definitions_of, given, before_text, defined_by, defined, literal_defined, remote_defined, expr_defined};
+ghost use Rattle.sg_counts.specs.DefinitionsView.{space_of, seen_of};
 
-use sg_ast::decl::{Alt, AttrDecl, Decl};
-use sg_ast::name::{Name, Typed};
+use sg_ast::decl::{Alt, AttrDecl, Decl, Equation, Right};
+use sg_ast::expr::Expr;
+use sg_ast::name::{Name, Quoted, Remote, Typed};
+use sg_ast::remotes::remotes;
 use sg_kinds::fault::Position;
 use sg_kinds::memory::NoMemory;
 use std::alloc::Global;
@@ -28,6 +30,10 @@ pub(crate) enum Space<'a> {
     Locals(&'a [u8], &'a [u8]),
     /// The operators of a phylum that have schemes, in the ordinary view or in that with a name.
     Schemes(&'a [u8], Option<&'a [u8]>),
+    /// The literals of precedence lines.
+    Literals,
+    /// The phyla that an atom lists, by the number of its `{`.
+    Remotes(u32),
 }
 
 /// A name of a space.
@@ -53,6 +59,25 @@ pub struct Definition<K> {
     pub place: Position,
 }
 
+/// Puts the definition by a text at a place last.
+fn define_text<'a>(
+    found: &mut Vec<Definition<Key<'a>>>,
+    as_form: Form,
+    space: Space<'a>,
+    name: &'a [u8],
+    place: Position,
+) -> Result<(), NoMemory>
+    ensures { OnOk result (seen_of found.new.items ≡ seen_of found.old.items
+        ++ defined_by as_form (space_of space.entry) name.now place ∷ []) }
+{
+    found.push(Definition {
+        key: Key { space, name },
+        form: as_form,
+        place,
+    })?;
+    Ok(())
+}
+
 /// Puts the definition by a name's token last.
 fn define<'a>(
     found: &mut Vec<Definition<Key<'a>>>,
@@ -63,16 +88,7 @@ fn define<'a>(
     ensures { OnOk result (seen_of found.new.items ≡ seen_of found.old.items
         ++ defined as_form (space_of space.entry) name.now ∷ []) }
 {
-    let key = Key {
-        space,
-        name: name.text.as_slice(),
-    };
-    found.push(Definition {
-        key,
-        form: as_form,
-        place: name.place,
-    })?;
-    Ok(())
+    define_text(found, as_form, space, name.text.as_slice(), name.place)
 }
 
 /// Puts a name last that is there before each text.
@@ -84,12 +100,8 @@ fn give<'a>(
     ensures { OnOk result (seen_of found.new.items ≡ seen_of found.old.items
         ++ before_text (space_of space.entry) name.now ∷ []) }
 {
-    found.push(Definition {
-        key: Key { space, name },
-        form: Form::Alone,
-        place: Position { token: 0, line: 0 },
-    })?;
-    Ok(())
+    let place = Position { token: 0, line: 0 };
+    define_text(found, Form::Alone, space, name, place)
 }
 
 /// Puts the operators of a phylum last.
@@ -160,8 +172,86 @@ fn schemes_of<'a>(phylum: &'a Name, view: &'a Option<Name>) -> Space<'a>
     }
 }
 
+/// Puts the literals of a precedence line last.
+fn add_literals<'a>(
+    found: &mut Vec<Definition<Key<'a>>>,
+    literals: &'a [Quoted],
+) -> Result<(), NoMemory>
+    ensures { OnOk result (seen_of found.new.items ≡ seen_of found.old.items ++ map literal_defined literals.now) }
+{
+    for literal in literals {
+        let text = literal.text.as_slice();
+        define_text(found, Form::Alone, Space::Literals, text, literal.place)?;
+    }
+    Ok(())
+}
+
+/// Puts what an atom lists last.
+fn add_remote<'a>(found: &mut Vec<Definition<Key<'a>>>, remote: &'a Remote) -> Result<(), NoMemory>
+    ensures { OnOk result (seen_of found.new.items ≡ seen_of found.old.items ++ remote_defined remote.now) }
+{
+    let space = Space::Remotes(remote.place.token);
+    for pair in remote.pairs.as_slice() {
+        define(found, Form::Alone, space, &pair.phylum)?;
+    }
+    Ok(())
+}
+
+/// Puts what the atoms of an expression list last.
+#[tactic(auto, using(crate::proofs::Walks::one_more_behind))]
+fn add_remotes<'a>(
+    alloc: Global,
+    found: &mut Vec<Definition<Key<'a>>>,
+    expr: &'a Expr,
+) -> Result<(), NoMemory>
+    ensures { OnOk result (seen_of found.new.items ≡ seen_of found.old.items ++ expr_defined (expr_of expr.now)) }
+{
+    let mut atoms = Vec::new(alloc);
+    remotes(expr, &mut atoms)?;
+    for remote in &atoms {
+        add_remote(found, remote)?;
+    }
+    Ok(())
+}
+
+/// Puts what the atoms of equations list last.
+#[tactic(auto, using(crate::proofs::Walks::one_more_behind))]
+fn add_equations<'a>(
+    alloc: Global,
+    found: &mut Vec<Definition<Key<'a>>>,
+    equations: &'a [Equation],
+) -> Result<(), NoMemory>
+    ensures { OnOk result (seen_of found.new.items ≡ seen_of found.old.items
+        ++ flat_map (λ e. expr_defined e.expr) (map equation_of equations.now)) }
+{
+    for equation in equations {
+        add_remotes(alloc, found, &equation.expr)?;
+    }
+    Ok(())
+}
+
+/// Puts what the atoms of productions list last.
+#[tactic(auto, using(crate::proofs::Walks::one_more_behind))]
+fn add_rights<'a>(
+    alloc: Global,
+    found: &mut Vec<Definition<Key<'a>>>,
+    rights: &'a [Right],
+) -> Result<(), NoMemory>
+    ensures { OnOk result (seen_of found.new.items ≡ seen_of found.old.items
+        ++ flat_map (λ r. expr_defined r.expr) (map right_of rights.now)) }
+{
+    for right in rights {
+        add_remotes(alloc, found, &right.expr)?;
+    }
+    Ok(())
+}
+
 /// Puts what a declaration defines last.
-fn add<'a>(found: &mut Vec<Definition<Key<'a>>>, decl: &'a Decl) -> Result<(), NoMemory>
+fn add<'a>(
+    alloc: Global,
+    found: &mut Vec<Definition<Key<'a>>>,
+    decl: &'a Decl,
+) -> Result<(), NoMemory>
     ensures { OnOk result (seen_of found.new.items ≡ seen_of found.old.items ++ definitions_of (tree_of decl.now)) }
 {
     match decl {
@@ -171,15 +261,24 @@ fn add<'a>(found: &mut Vec<Definition<Key<'a>>>, decl: &'a Decl) -> Result<(), N
         Decl::Operators(phylum, alts) => add_phylum(found, phylum, alts.as_slice()),
         Decl::Lexeme(phylum, _) => define(found, Form::Alone, Space::Phyla, phylum),
         Decl::Attributes(owner, attrs) => add_attributes(found, owner, attrs.as_slice()),
-        Decl::Equations(phylum, op, locals, _) => {
-            add_locals(found, phylum, op, locals.as_slice())
+        Decl::Equations(phylum, op, locals, equations) => {
+            add_locals(found, phylum, op, locals.as_slice())?;
+            add_equations(alloc, found, equations)
         }
         Decl::Schemes(phylum, op, view, _) => {
             define(found, Form::Alone, schemes_of(phylum, view), op)
         }
-        Decl::Function(_, name, _, _) => define(found, Form::Alone, Space::Callables, name),
-        Decl::Productions(name, _) => define(found, Form::Productions, Space::Phyla, name),
-        Decl::Root(_) | Decl::Transform(..) | Decl::Entry(..) | Decl::Levels(..) => Ok(()),
+        Decl::Function(_, name, _, body) => {
+            define(found, Form::Alone, Space::Callables, name)?;
+            add_remotes(alloc, found, body)
+        }
+        Decl::Transform(_, _, _, expr) => add_remotes(alloc, found, expr),
+        Decl::Productions(name, rights) => {
+            define(found, Form::Productions, Space::Phyla, name)?;
+            add_rights(alloc, found, rights)
+        }
+        Decl::Levels(_, literals, _) => add_literals(found, literals.as_slice()),
+        Decl::Root(_) | Decl::Entry(..) => Ok(()),
     }
 }
 
@@ -223,7 +322,7 @@ pub(crate) fn definitions(
 {
     let mut found = given(alloc)?;
     for decl in decls {
-        add(&mut found, decl)?;
+        add(alloc, &mut found, decl)?;
     }
     Ok(found)
 }

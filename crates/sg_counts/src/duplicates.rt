@@ -1,13 +1,13 @@
 //! Second definitions.
-ghost use Rattle.std.specs.Prelude.{◌≡◌, option_map, slice_get, IfOk};
+ghost use Rattle.std.specs.Prelude.{◌≡◌, ◌∷◌, ◌++◌, [], option_map, slice_get, IfOk};
 ghost use Rattle.std.specs.BTreeMap.{is_at};
 ghost use Rattle.sg_ast.specs.FirstFault.{first_repeat};
 ghost use Rattle.sg_ast.specs.View.{trees_of};
 ghost use Rattle.sg_counts.specs.Definitions.{adds_up, clashes, is_clash, is_same_key};
-ghost use Rattle.sg_counts.specs.DefinitionsView.{definition_of, seen_of};
-ghost use Rattle.sg_counts.specs.Duplicates.{duplicate, duplicate_fault};
+ghost use Rattle.sg_counts.specs.DefinitionsView.{key_of, definition_of, seen_of};
+ghost use Rattle.sg_counts.specs.Duplicates.{duplicate, duplicate_fault, printed_name};
 
-use crate::definitions::{Definition, Form, Key, definitions};
+use crate::definitions::{Definition, Form, Key, Space, definitions};
 use sg_ast::decl::Decl;
 use sg_kinds::fault::SpecFault;
 use sg_kinds::memory::NoMemory;
@@ -59,11 +59,32 @@ fn clash(alloc: Global, definitions: &[Definition<Key<'_>>]) -> Result<Option<us
     first_clash(alloc, definitions)
 }
 
+/// A literal between quotes.
+fn quoted(alloc: Global, literal: &[u8]) -> Result<Text, NoMemory>
+    ensures { IfOk result (λ t. t ≡ 39 ∷ literal.now ++ 39 ∷ []) }
+{
+    let mut bytes = Vec::new(alloc);
+    bytes.push(b'\'')?;
+    bytes.extend_from_slice(literal)?;
+    bytes.push(b'\'')?;
+    Ok(Text::new(bytes))
+}
+
+/// The name as a fault prints it.
+fn printed_name(alloc: Global, key: &Key<'_>) -> Result<Text, NoMemory>
+    ensures { IfOk result (λ t. t ≡ printed_name (key_of key.now)) }
+{
+    match key.space {
+        Space::Literals => quoted(alloc, key.name),
+        _ => Text::from_slice(alloc, key.name),
+    }
+}
+
 /// The fault of a definition that clashes.
 fn fault(alloc: Global, definition: &Definition<Key<'_>>) -> Result<SpecFault, NoMemory>
     ensures { IfOk result (λ f. f ≡ duplicate_fault (definition_of definition.now)) }
 {
-    let name = Text::from_slice(alloc, definition.key.name)?;
+    let name = printed_name(alloc, &definition.key)?;
     Ok(SpecFault::Duplicate(definition.place, name))
 }
 

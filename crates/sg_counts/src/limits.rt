@@ -3,37 +3,16 @@ ghost use Rattle.std.specs.Prelude.{◌≡◌, ◌++◌, length, flat_map, count
 ghost use Rattle.sg_counts.specs.Crowds.{different, crowd};
 ghost use Rattle.sg_ast.specs.FirstFault.{first, over};
 ghost use Rattle.sg_ast.specs.View.{tree_of, trees_of};
-ghost use Rattle.sg_counts.specs.Limits.{is_base, phyla_of, arities_of, attributes_of, locals_of, parameters_of, schemes_of, symbols_of, is_transform, is_same_operator, limit_fault, limit};
+ghost use Rattle.sg_counts.specs.Limits.{is_base, phyla_of, arities_of, attributes_of, locals_of, parameters_of, schemes_of, symbols_of, views_in, is_transform, is_same_operator, limit_fault, limit};
 ghost use Rattle.sg_counts.specs.OwnersView.{names_of, operators_of};
 
 use crate::crowds::{crowd, different};
 use sg_ast::decl::Decl;
 use sg_ast::firsts::over;
 use sg_kinds::fault::{Counted, SpecFault};
+use sg_kinds::limits;
 use sg_kinds::memory::NoMemory;
 use std::alloc::Global;
-
-const MAX_PHYLA: usize = 512;
-
-const MAX_OPERATORS: usize = 2048;
-
-const MAX_ARITY: usize = 16;
-
-const MAX_ATTRIBUTES: usize = 32;
-
-const MAX_LOCALS: usize = 32;
-
-const MAX_FUNCTIONS: usize = 1024;
-
-const MAX_PARAMETERS: usize = 16;
-
-const MAX_TRANSFORMS: usize = 1024;
-
-const MAX_SCHEMES: usize = 16;
-
-const MAX_PRODUCTIONS: usize = 1024;
-
-const MAX_SYMBOLS: usize = 16;
 
 /// Whether it is the name of a base phylum.
 fn is_base(name: &[u8]) -> bool
@@ -211,6 +190,28 @@ fn symbols(alloc: Global, decls: &[Decl]) -> Result<Vec<usize>, NoMemory>
     Ok(found)
 }
 
+/// Puts the view last that a declaration names.
+fn add_view<'a>(found: &mut Vec<&'a [u8]>, decl: &'a Decl) -> Result<(), NoMemory>
+    ensures { OnOk result (names_of found.new.items ≡ names_of found.old.items ++ views_in (tree_of decl.now)) }
+{
+    if let Decl::Schemes(_, _, Some(view), _) = decl {
+        found.push(view.text.as_slice())?;
+    }
+    Ok(())
+}
+
+/// The view that each declaration names.
+#[tactic(auto, using(crate::proofs::Walks::one_more))]
+fn views(alloc: Global, decls: &[Decl]) -> Result<Vec<&[u8]>, NoMemory>
+    ensures { IfOk result (λ v. names_of v.items ≡ flat_map views_in (trees_of decls.now)) }
+{
+    let mut found = Vec::new(alloc);
+    for decl in decls {
+        add_view(&mut found, decl)?;
+    }
+    Ok(found)
+}
+
 fn is_transform(decl: &Decl) -> bool
     ensures { result ≡ is_transform (tree_of decl.now) }
 {
@@ -262,18 +263,25 @@ fn different_phyla(alloc: Global, decls: &[Decl]) -> Result<usize, NoMemory>
     different(alloc, &phyla(alloc, decls)?)
 }
 
+/// How many different views the declarations name.
+fn different_views(alloc: Global, decls: &[Decl]) -> Result<usize, NoMemory>
+    ensures { IfOk result (λ n. n ≡ length (different bytes_eq (flat_map views_in (trees_of decls.now)))) }
+{
+    different(alloc, &views(alloc, decls)?)
+}
+
 /// How many attributes the first owner with too many has.
 fn crowded_attributes(alloc: Global, decls: &[Decl]) -> Result<Option<usize>, NoMemory>
-    ensures { IfOk result (λ n. n ≡ crowd bytes_eq MAX_ATTRIBUTES (flat_map attributes_of (trees_of decls.now))) }
+    ensures { IfOk result (λ n. n ≡ crowd bytes_eq 32 (flat_map attributes_of (trees_of decls.now))) }
 {
-    crowd(alloc, MAX_ATTRIBUTES, &attributes(alloc, decls)?)
+    crowd(alloc, limits::ATTRIBUTES, &attributes(alloc, decls)?)
 }
 
 /// How many locals the first operator with too many has.
 fn crowded_locals(alloc: Global, decls: &[Decl]) -> Result<Option<usize>, NoMemory>
-    ensures { IfOk result (λ n. n ≡ crowd is_same_operator MAX_LOCALS (flat_map locals_of (trees_of decls.now))) }
+    ensures { IfOk result (λ n. n ≡ crowd is_same_operator 32 (flat_map locals_of (trees_of decls.now))) }
 {
-    crowd(alloc, MAX_LOCALS, &locals(alloc, decls)?)
+    crowd(alloc, limits::LOCALS, &locals(alloc, decls)?)
 }
 
 /// The first count over its limit.
@@ -281,6 +289,7 @@ pub fn limit(alloc: Global, decls: &[Decl]) -> Result<Option<SpecFault>, NoMemor
     ensures { IfOk result (λ fault. fault ≡ limit (trees_of decls.now)) }
 {
     let phyla = different_phyla(alloc, decls)?;
+    let views = different_views(alloc, decls)?;
     let arities = arities(alloc, decls)?;
     let attributes = crowded_attributes(alloc, decls)?;
     let locals = crowded_locals(alloc, decls)?;
@@ -288,16 +297,29 @@ pub fn limit(alloc: Global, decls: &[Decl]) -> Result<Option<SpecFault>, NoMemor
     let schemes = schemes(alloc, decls)?;
     let symbols = symbols(alloc, decls)?;
     Ok(first_limit(&[
-        (Counted::Phyla, over(MAX_PHYLA, phyla)),
-        (Counted::Operators, over(MAX_OPERATORS, arities.len())),
-        (Counted::Arity, first_over(MAX_ARITY, &arities)),
+        (Counted::Phyla, over(limits::PHYLA, phyla)),
+        (Counted::Operators, over(limits::OPERATORS, arities.len())),
+        (Counted::Arity, first_over(limits::ARITY, &arities)),
         (Counted::Attributes, attributes),
         (Counted::Locals, locals),
-        (Counted::Functions, over(MAX_FUNCTIONS, parameters.len())),
-        (Counted::Parameters, first_over(MAX_PARAMETERS, &parameters)),
-        (Counted::Transforms, over(MAX_TRANSFORMS, transforms(decls))),
-        (Counted::Schemes, first_over(MAX_SCHEMES, &schemes)),
-        (Counted::Productions, over(MAX_PRODUCTIONS, symbols.len())),
-        (Counted::Symbols, first_over(MAX_SYMBOLS, &symbols)),
+        (
+            Counted::Functions,
+            over(limits::FUNCTIONS, parameters.len()),
+        ),
+        (
+            Counted::Parameters,
+            first_over(limits::PARAMETERS, &parameters),
+        ),
+        (
+            Counted::Transforms,
+            over(limits::TRANSFORMS, transforms(decls)),
+        ),
+        (Counted::Schemes, first_over(limits::SCHEMES, &schemes)),
+        (
+            Counted::Productions,
+            over(limits::PRODUCTIONS, symbols.len()),
+        ),
+        (Counted::Symbols, first_over(limits::SYMBOLS, &symbols)),
+        (Counted::Views, over(limits::VIEWS, views)),
     ]))
 }

@@ -31,6 +31,9 @@ count-cons p x xs = sum_by-cons (λ y. cond (p y) 1 0) x xs
 pub count-append : {X : Type 0} (p : X → Bool) (xs ys : List X) → count_by p (xs ++ ys) ≡ count_by p xs + count_by p ys
 count-append p xs ys = sum_by-append (λ y. cond (p y) 1 0) xs ys
 
+pub count-front : {X : Type 0} (p : X → Bool) (xs ys : List X) (n : ℕ) → n ≤ count_by p xs → n ≤ count_by p (xs ++ ys)
+count-front p xs ys n low = let e : count_by p (xs ++ ys) ≡ count_by p xs + count_by p ys = count-append p xs ys in omega (arith, low, e)
+
 pub count-flat : {X Y : Type 0} (p : Y → Bool) (f : X → List Y) (xs : List X) → count_by p (flat_map f xs) ≡ sum_by (λ x. count_by p (f x)) xs
 count-flat p f [] = refl
 count-flat p f (x ∷ xs) = count-append p (f x) (flat_map f xs) ∙ ap (λ n. count_by p (f x) + n) (count-flat p f xs) ∙ sym (sum_by-cons (λ y. count_by p (f y)) x xs)

@@ -14,6 +14,7 @@ pub mod Rows
 pub mod Counting
 pub mod Limiting
 pub mod Repeating
+pub mod LiteralNames
 pub mod HeadCounts
 pub mod Owning
 pub mod TableNames

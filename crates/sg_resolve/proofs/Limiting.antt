@@ -10,7 +10,7 @@ use Rattle.sg_ast.specs.Declarations.{Decl}
 use Rattle.sg_ast.specs.FirstFault.{first, over}
 use Rattle.sg_ast.proofs.FirstLaws.{first-none}
 use Rattle.sg_counts.specs.Crowds.{different, crowd, crowded_behind}
-use Rattle.sg_counts.specs.Limits.{is_same_operator, limit_fault, counts_over, limit, phyla_of, arities_of, attributes_of, locals_of, parameters_of, schemes_of, symbols_of, is_transform}
+use Rattle.sg_counts.specs.Limits.{is_same_operator, limit_fault, counts_over, limit, phyla_of, arities_of, attributes_of, locals_of, parameters_of, schemes_of, symbols_of, views_in, is_transform}
 use Rattle.sg_resolve.specs.Limited.{IsLimited}
 use Rattle.sg_resolve.proofs.Counting.{one_if, passes, fails, count-cons, count-append}
 
@@ -94,4 +94,5 @@ within_limits ds e =
       schemes = all_within 16 (flat_map schemes_of ds) (nothing_mapped _ _ rows.1.1.1.1.1.1.1.1.0);
       productions = not_over 1024 (length (flat_map symbols_of ds)) (nothing_mapped _ _ rows.1.1.1.1.1.1.1.1.1.0);
       symbols = all_within 16 (flat_map symbols_of ds) (nothing_mapped _ _ rows.1.1.1.1.1.1.1.1.1.1.0);
+      views = not_over 16 (length (different bytes_eq (flat_map views_in ds))) (nothing_mapped _ _ rows.1.1.1.1.1.1.1.1.1.1.1.0);
     }

@@ -17,16 +17,17 @@ use Rattle.sg_ast.specs.declared.name.Typed.{Typed}
 use Rattle.sg_ast.specs.declared.decl.Alt.{Alt}
 use Rattle.sg_ast.specs.declared.decl.AttrDecl.{AttrDecl}
 use Rattle.sg_ast.specs.Declarations as decl
-use Rattle.sg_ast.specs.Declarations.{Decl}
+use Rattle.sg_ast.specs.Declarations.{Decl, Equation}
 use Rattle.sg_names.specs.declared.heads.Head.{Head}
 use Rattle.sg_names.specs.declared.table.Signature.{Signature}
 use Rattle.sg_names.specs.Heads.{number_in}
 use Rattle.sg_names.specs.Names.{owned, phylum_defined, operator, operators_at, operators_in, op_named, if_of, operator_of, local, locals_at, attribute, attributes_at, function_at}
 use Rattle.sg_counts.specs.Definitions as space
-use Rattle.sg_counts.specs.Duplicates.{definitions_of}
+use Rattle.sg_counts.specs.declared.definitions.Form.TheVariants as form
+use Rattle.sg_counts.specs.Duplicates.{defined, expr_defined, definitions_of}
 use Rattle.sg_counts.specs.Limits.{is_same_operator, arities_of, attributes_of, locals_of, parameters_of}
 use Rattle.sg_counts.proofs.Walks.{count_map}
-use Rattle.sg_resolve.proofs.Counting.{equal_bytes, count-flat, count-owned, count-le-count}
+use Rattle.sg_resolve.proofs.Counting.{equal_bytes, count-front, count-flat, count-owned, count-le-count}
 use Rattle.sg_resolve.proofs.HeadCounts.{has, number_names, number_inside}
 use Rattle.sg_resolve.proofs.Repeating.{defines}
 use Rattle.sg_resolve.proofs.ShapeLists.{each_split, each_append}
@@ -111,12 +112,13 @@ module _ (phyla : List Head) (ops : List Operator) (k : ℕ) (o : Operator) (h :
   locals_of_name : (m : Bytes) (d : Decl) → count_by (λ (x : ℕ × Local). nat_eq x.0 k && bytes_eq m x.1.name) (locals_at phyla ops d) ≤ count_by (defines (space.Locals h.name o.name) m) (definitions_of d)
   unfolding owner
   locals_of_name m (decl.Equations n op locals es) =
-      rw (count_map (λ (x : ℕ × Local). nat_eq x.0 k && bytes_eq m x.1.name) (local phyla (owner n op)) locals, count_map (defines (space.Locals h.name o.name) m) _ locals)
+      count-front (defines (space.Locals h.name o.name) m) (map (λ (t : Typed). defined form.Alone (space.Locals n.text op.text) t.name) locals) (flat_map (λ (q : Equation). expr_defined q.expr) es) _
+      (rw (count_map (λ (x : ℕ × Local). nat_eq x.0 k && bytes_eq m x.1.name) (local phyla (owner n op)) locals, count_map (defines (space.Locals h.name o.name) m) _ locals)
       (count-le-count (λ (t : Typed). nat_eq (owner n op) k && bytes_eq m t.name.text) (λ (t : Typed). (bytes_eq h.name n.text && bytes_eq o.name op.text) && bytes_eq m t.name.text)
       (λ t e. let both = and_parts (nat_eq (owner n op) k) (bytes_eq m t.name.text) e in
       let names = local_owner phyla ops n.text op.text k o h is phylum (eq_is (owner n op) k both.0) in
       and_true (bytes_eq h.name n.text && bytes_eq o.name op.text) (bytes_eq m t.name.text)
-      (and_true (bytes_eq h.name n.text) (bytes_eq o.name op.text) (equal_bytes h.name n.text (sym names.0)) (equal_bytes o.name op.text (sym names.1))) both.1) locals)
+      (and_true (bytes_eq h.name n.text) (bytes_eq o.name op.text) (equal_bytes h.name n.text (sym names.0)) (equal_bytes o.name op.text (sym names.1))) both.1) locals))
   locals_of_name m d = nothing (count_by (defines (space.Locals h.name o.name) m) (definitions_of d))
 
   pub locals_named : (m : Bytes) (ds : List Decl) → count_by (λ (l : Local). bytes_eq m l.name) (owned (flat_map (locals_at phyla ops) ds) k) ≤ sum_by (λ d. count_by (defines (space.Locals h.name o.name) m) (definitions_of d)) ds

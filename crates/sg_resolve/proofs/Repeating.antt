@@ -4,13 +4,13 @@ use Rattle.std.specs.List.{count_by, sum_by, flat_map, list_any}
 use Rattle.std.proofs.lemmas.Option.{slice_get-get_or}
 use Rattle.std.proofs.lemmas.Bool.{and_parts}
 use Rattle.sg_kinds.specs.Values.{Bytes}
-use Rattle.sg_kinds.proofs.Elementary.{and_true, bytes_is}
+use Rattle.sg_kinds.proofs.Elementary.{and_true, bytes_is, eq_is, eq_itself}
 use Rattle.sg_ast.specs.Declarations.{Decl}
 use Rattle.sg_ast.specs.FirstFault.{repeat_from, first_repeat}
 use Rattle.sg_counts.specs.declared.definitions.Form.{Form}
 use Rattle.sg_counts.specs.declared.definitions.Form.TheVariants as form
 use Rattle.sg_counts.specs.declared.definitions.Definition.{Definition}
-use Rattle.sg_counts.specs.Definitions.{Space, Phyla, Callables, Listings, Attributes, Locals, Schemes, Key, is_same_view, is_same_space, is_same_key, adds_up, clashes}
+use Rattle.sg_counts.specs.Definitions.{Space, Phyla, Callables, Listings, Attributes, Locals, Schemes, Literals, Remotes, Key, is_same_view, is_same_space, is_same_key, adds_up, clashes}
 use Rattle.sg_counts.specs.Duplicates.{definitions_of, definitions_in, given, duplicate, duplicate_fault}
 use Rattle.sg_resolve.proofs.Counting.{equal_bytes, one_if, passes, fails, count-cons, count-append, count-flat}
 use Rattle.sg_resolve.proofs.Limiting.{nothing_mapped}
@@ -98,6 +98,8 @@ same_spaces (Schemes p v) (Schemes q w) e =
     let a : p ≡ q = bytes_is p q both.0 in
     let b : v ≡ w = same_views v w both.1 in
     λ i. Schemes (a i) (b i)
+same_spaces Literals Literals e = refl
+same_spaces (Remotes a) (Remotes b) e = ap Remotes (eq_is a b e)
 same_spaces s t e = absurd (cc e)
 
 self_view : (v : Option Bytes) → is_same_view v v ≡ true
@@ -111,6 +113,8 @@ self_space Listings = refl
 self_space (Attributes p) = equal_bytes p p refl
 self_space (Locals p o) = and_true (bytes_eq p p) (bytes_eq o o) (equal_bytes p p refl) (equal_bytes o o refl)
 self_space (Schemes p v) = and_true (bytes_eq p p) (is_same_view v v) (equal_bytes p p refl) (self_view v)
+self_space Literals = refl
+self_space (Remotes a) = eq_itself a
 
 -- a definition of its own by this name in this space
 abbrev is_alone : Form → Bool

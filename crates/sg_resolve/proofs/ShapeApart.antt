@@ -10,9 +10,14 @@ use Rattle.sg_kinds.specs.Values.{Bytes}
 use Rattle.sg_kinds.specs.declared.fault.Position.{Position}
 use Rattle.sg_ast.specs.declared.decl.Alt.{Alt}
 use Rattle.sg_ast.specs.declared.decl.AttrDecl.{AttrDecl}
+use Rattle.sg_ast.specs.declared.name.Quoted.{Quoted}
+use Rattle.sg_ast.specs.declared.name.Pair.{Pair}
+use Rattle.sg_ast.specs.declared.name.Remote.{Remote}
 use Rattle.sg_ast.specs.declared.name.Typed.{Typed}
 use Rattle.sg_ast.specs.Declarations as decl
-use Rattle.sg_ast.specs.Declarations.{Decl}
+use Rattle.sg_ast.specs.Declarations.{Decl, Equation, Right}
+use Rattle.sg_ast.specs.Expressions.{Expr}
+use Rattle.sg_ast.specs.Remotes.{remotes_of}
 use Rattle.sg_ast.specs.FirstFault.{repeat_from}
 use Rattle.sg_names.specs.declared.heads.Head.{Head}
 use Rattle.sg_names.specs.Heads.{is_head, base_heads}
@@ -20,8 +25,8 @@ use Rattle.sg_names.specs.Names.{phylum_defined}
 use Rattle.sg_counts.specs.declared.definitions.Form.{Form}
 use Rattle.sg_counts.specs.declared.definitions.Form.TheVariants as form
 use Rattle.sg_counts.specs.declared.definitions.Definition.{Definition}
-use Rattle.sg_counts.specs.Definitions.{Space, Phyla, Callables, Listings, Attributes, Locals, Schemes, Key, is_same_space, is_same_key, adds_up, clashes}
-use Rattle.sg_counts.specs.Duplicates.{defined, definitions_of, definitions_in, before_text, given, duplicate}
+use Rattle.sg_counts.specs.Definitions.{Space, Phyla, Callables, Listings, Attributes, Locals, Schemes, Literals, Remotes, Key, is_same_space, is_same_key, adds_up, clashes}
+use Rattle.sg_counts.specs.Duplicates.{defined, literal_defined, remote_defined, expr_defined, definitions_of, definitions_in, before_text, given, duplicate}
 use Rattle.sg_resolve.proofs.Repeating.{no_repeat}
 use Rattle.sg_resolve.proofs.ShapeLists.{each_append, each_implies, each_both, each_always, each_flat}
 
@@ -90,6 +95,16 @@ none_flat : {A B C : Type 0} (g : B → List C) (f : A → B) → ((x : A) → g
 none_flat g f none [] = refl
 none_flat g f none (x ∷ xs) = ap (λ l. l ++ flat_map g (map f xs)) (none x) ∙ none_flat g f none xs
 
+none_each : {A B C : Type 0} (g : B → List C) (f : A → List B) → ((x : A) → flat_map g (f x) ≡ []) → (xs : List A) → flat_map g (flat_map f xs) ≡ []
+none_each g f none [] = refl
+none_each g f none (x ∷ xs) = flat_map-append g (f x) (flat_map f xs) ∙ ap (λ l. l ++ flat_map g (flat_map f xs)) (none x) ∙ none_each g f none xs
+
+no_remote_head : (r : Remote) → flat_map head_at (remote_defined r) ≡ []
+no_remote_head r = none_flat head_at (λ (p : Pair). defined form.Alone (Remotes r.place.token) p.phylum) (λ p. refl) r.pairs
+
+no_expr_head : (e : Expr) → flat_map head_at (expr_defined e) ≡ []
+no_expr_head e = none_each head_at remote_defined no_remote_head (remotes_of e)
+
 heads_of : (d : Decl) → flat_map head_at (definitions_of d) ≡ phylum_defined d
 heads_of (decl.Root n) = refl
 heads_of (decl.Listed p) = refl
@@ -97,13 +112,16 @@ heads_of (decl.Optional listed p) = refl
 heads_of (decl.Operators p alts) = ap (λ l. record { name = p.text; place = p.place; lexical = false } ∷ l) (none_flat head_at (λ (a : Alt). defined form.Alone Callables a.name) (λ a. refl) alts)
 heads_of (decl.LexemeOf p s) = refl
 heads_of (decl.Attributes p attrs) = none_flat head_at (λ (a : AttrDecl). defined form.Alone (Attributes p.text) a.name) (λ a. refl) attrs
-heads_of (decl.Equations p op locals es) = none_flat head_at (λ (l : Typed). defined form.Alone (Locals p.text op.text) l.name) (λ l. refl) locals
+heads_of (decl.Equations p op locals es) =
+    flat_map-append head_at (map (λ (l : Typed). defined form.Alone (Locals p.text op.text) l.name) locals) (flat_map (λ (q : Equation). expr_defined q.expr) es)
+    ∙ ap (λ l. l ++ flat_map head_at (flat_map (λ (q : Equation). expr_defined q.expr) es)) (none_flat head_at (λ (l : Typed). defined form.Alone (Locals p.text op.text) l.name) (λ l. refl) locals)
+    ∙ none_each head_at (λ (q : Equation). expr_defined q.expr) (λ q. no_expr_head q.expr) es
 heads_of (decl.Schemes p op view ss) = refl
-heads_of (decl.Function t n params e) = refl
-heads_of (decl.Transform p title q e) = refl
-heads_of (decl.Productions n rights) = refl
+heads_of (decl.Function t n params e) = no_expr_head e
+heads_of (decl.Transform p title q e) = no_expr_head e
+heads_of (decl.Productions n rights) = none_each head_at (λ (r : Right). expr_defined r.expr) (λ r. no_expr_head r.expr) rights
 heads_of (decl.Entry p n a) = refl
-heads_of (decl.Precedence g ls place) = refl
+heads_of (decl.Precedence g ls place) = none_flat head_at literal_defined (λ l. refl) ls
 
 heads_among : (ds : List Decl) → flat_map head_at (flat_map definitions_of ds) ≡ flat_map phylum_defined ds
 heads_among [] = refl
@@ -134,11 +152,15 @@ spaces_apart Phyla Listings f g n m p q e = each_always (λ u. Unit {0}) (λ u. 
 spaces_apart Phyla (Attributes o) f g n m p q e = each_always (λ u. Unit {0}) (λ u. tt) (phylum_head f n p)
 spaces_apart Phyla (Locals o r) f g n m p q e = each_always (λ u. Unit {0}) (λ u. tt) (phylum_head f n p)
 spaces_apart Phyla (Schemes o r) f g n m p q e = each_always (λ u. Unit {0}) (λ u. tt) (phylum_head f n p)
+spaces_apart Phyla Literals f g n m p q e = each_always (λ u. Unit {0}) (λ u. tt) (phylum_head f n p)
+spaces_apart Phyla (Remotes a) f g n m p q e = each_always (λ u. Unit {0}) (λ u. tt) (phylum_head f n p)
 spaces_apart Callables t f g n m p q e = tt
 spaces_apart Listings t f g n m p q e = tt
 spaces_apart (Attributes o) t f g n m p q e = tt
 spaces_apart (Locals o r) t f g n m p q e = tt
 spaces_apart (Schemes o r) t f g n m p q e = tt
+spaces_apart Literals t f g n m p q e = tt
+spaces_apart (Remotes a) t f g n m p q e = tt
 
 one_head : (s : Space) (f : Form) (n : Bytes) (p : Position) → AreApart are_one (head_in s f n p)
 one_head Phyla form.Operators n p = (tt, tt)
@@ -149,6 +171,8 @@ one_head Listings f n p = tt
 one_head (Attributes o) f n p = tt
 one_head (Locals o r) f n p = tt
 one_head (Schemes o r) f n p = tt
+one_head Literals f n p = tt
+one_head (Remotes a) f n p = tt
 
 all_heads_apart : (xs : List (Definition Key)) → AreApart (clashes is_same_key) xs → AreApart are_one (flat_map head_at xs)
 all_heads_apart xs a =
@@ -177,6 +201,8 @@ base_space Listings f b n p e = tt
 base_space (Attributes o) f b n p e = tt
 base_space (Locals o r) f b n p e = tt
 base_space (Schemes o r) f b n p e = tt
+base_space Literals f b n p e = tt
+base_space (Remotes a) f b n p e = tt
 
 pub turned : (b n : Bytes) → bytes_eq b n ≡ false → bytes_eq n b ≡ false
 turned b n e = by (bytes_eq n b) refl

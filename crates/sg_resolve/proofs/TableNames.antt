@@ -1,5 +1,5 @@
 -- The counts and the names of the table of declarations.
-use Rattle.std.proofs.Common.{◌≡◌, ℕ, ◌+◌, ◌<◌, ◌≤◌, Bool, true, false, cond, List, [], ◌∷◌, ◌++◌, length, map, take, slice_get, Some, None, bytes_eq, refl, sym, ap, subst, ◌∙◌, arith}
+use Rattle.std.proofs.Common.{◌≡◌, ℕ, ◌+◌, ◌<◌, ◌≤◌, Bool, true, false, cond, List, [], ◌∷◌, ◌++◌, length, map, filter, take, slice_get, Some, None, bytes_eq, refl, sym, ap, subst, ◌∙◌, arith}
 use Rattle.std.specs.List.{All, AllByRecursion, count_by, sum_by, flat_map}
 use Rattle.std.proofs.lemmas.List.Elements.{recursion_from_All}
 use Rattle.std.proofs.lemmas.List.Sums.{sum_by-le-sum_by}
@@ -7,6 +7,7 @@ use Rattle.std.proofs.lemmas.List.{length-map}
 use Rattle.sg_kinds.specs.Values.{Bytes}
 use Rattle.sg_kinds.specs.Sound.{AreDistinct, base_names, builtin_names}
 use Rattle.sg_kinds.specs.Specification.{is_leaf_shape}
+use Rattle.sg_kinds.specs.Far.{is_far, is_written}
 use Rattle.sg_kinds.specs.declared.spec.Attr.{Attr}
 use Rattle.sg_kinds.specs.declared.spec.Local.{Local}
 use Rattle.sg_kinds.specs.declared.spec.Operator.{Operator}
@@ -20,18 +21,19 @@ use Rattle.sg_names.specs.declared.table.Signature.{Signature}
 use Rattle.sg_names.specs.Heads.{base_heads}
 use Rattle.sg_names.specs.Names as made
 use Rattle.sg_names.specs.Names.{map_from, owned, owners, phylum_defined, phyla_in, operator, operators_at, operators_in, locals_at, attributes_at, function_at, shape_of, lexemes_before, value_attr, phylum, with_local, listings_of, names_of}
+use Rattle.sg_names.proofs.FarLaws.{AreWritten, attrs_written, only_written, written_count, far_count}
 use Rattle.sg_names.proofs.OpPlaces.{map_from_length}
 use Rattle.sg_counts.specs.Definitions as space
 use Rattle.sg_counts.specs.declared.definitions.Form.TheVariants as form
-use Rattle.sg_counts.specs.Duplicates.{defined, definitions_of, given, duplicate, before_text}
+use Rattle.sg_counts.specs.Duplicates.{defined, expr_defined, definitions_of, given, duplicate, before_text}
 use Rattle.sg_counts.specs.Limits.{is_same_operator, arities_of, parameters_of, attributes_of, locals_of}
 use Rattle.sg_counts.proofs.Walks.{count_map}
 use Rattle.sg_resolve.specs.Limited.{IsLimited}
-use Rattle.sg_resolve.proofs.Counting.{count-all, count-cons, count-append, count-flat, sum_by-both, distinct_from_counts, all_made, map-made}
+use Rattle.sg_resolve.proofs.Counting.{count-all, count-cons, count-append, count-front, count-flat, sum_by-both, distinct_from_counts, all_made, map-made}
 use Rattle.sg_resolve.proofs.HeadCounts.{fold_has, phyla_once, phyla_few, base_first}
 use Rattle.sg_resolve.proofs.Owning.{attrs_few, attrs_named, locals_few, locals_named, phyla_there, arities_in, parameters_in}
 use Rattle.sg_resolve.proofs.Repeating.{defines, once}
-use Rattle.sg_resolve.proofs.ShapeLists.{each_at}
+use Rattle.sg_resolve.proofs.ShapeLists.{each_at, each_both, each_implies}
 
 -- what is made with its place, counted from 0
 all_from : {A B : Type 0} (P : B → Type 0) (f : ℕ → A → B) (xs : List A) → ((k : ℕ) (x : A) → slice_get xs k ≡ Some x → P (f k x)) → AllByRecursion P (map_from f 0 xs)
@@ -94,7 +96,7 @@ all_of P f xs ns e all = seen xs (subst (AllByRecursion P) (sym e) (recursion_fr
 pub args_limited : (ds : List Decl) → IsLimited ds → AllByRecursion (λ (o : Operator). length o.args ≤ 16) (names_of ds).ops
 args_limited ds low = all_of (λ n. n ≤ 16) (λ (o : Operator). length o.args) (names_of ds).ops (flat_map arities_of ds) (args_in ds) low.args
 
-pub attrs_limited : (ds : List Decl) → IsLimited ds → AllByRecursion (λ (x : Phylum). length x.attrs ≤ 32) (names_of ds).phyla
+attrs_limited : (ds : List Decl) → IsLimited ds → AllByRecursion (λ (x : Phylum). length x.attrs ≤ 32) (names_of ds).phyla
 attrs_limited ds low = of_phylum (λ attrs. length attrs ≤ 32) ds (λ k. omega arith) each
   where
     each : (k : ℕ) (h : Head) → slice_get (phyla_in ds) k ≡ Some h → length (owned (flat_map (attributes_at (phyla_in ds) (phyla_in ds)) ds) k) ≤ 32
@@ -103,6 +105,18 @@ attrs_limited ds low = of_phylum (λ attrs. length attrs ≤ 32) ds (λ k. omega
         let few : count_by (λ (a : Attr). true) (owned (flat_map (attributes_at (phyla_in ds) (phyla_in ds)) ds) k) ≤ count_by (λ m. bytes_eq m h.name) (flat_map attributes_of ds) = attrs_few (phyla_in ds) k h is ds in
         let limited : count_by (λ m. bytes_eq m h.name) (flat_map attributes_of ds) ≤ 32 = low.attrs h.name in
         omega (arith, all, few, limited)
+
+-- the attributes of the table are written ones
+few_written : (attrs : List Attr) → AreWritten attrs → length attrs ≤ 32 → (count_by is_written attrs ≤ 32) × (count_by is_far attrs ≤ 1048576)
+few_written attrs all few =
+    let written : count_by is_written attrs ≡ length attrs = written_count attrs all in
+    let far : count_by is_far attrs ≡ 0 = far_count attrs all in
+    (omega (arith, written, few), omega (arith, far))
+
+pub attrs_counted : (ds : List Decl) → IsLimited ds → AllByRecursion (λ (x : Phylum). (count_by is_written x.attrs ≤ 32) × (count_by is_far x.attrs ≤ 1048576)) (names_of ds).phyla
+attrs_counted ds low =
+    each_implies (λ (x : Phylum). AreWritten x.attrs × (length x.attrs ≤ 32)) (λ (x : Phylum). (count_by is_written x.attrs ≤ 32) × (count_by is_far x.attrs ≤ 1048576)) (λ x h. few_written x.attrs h.0 h.1) (names_of ds).phyla
+    (each_both (λ (x : Phylum). AreWritten x.attrs) (λ (x : Phylum). length x.attrs ≤ 32) (names_of ds).phyla (attrs_written ds) (attrs_limited ds low))
 
 pub locals_limited : (ds : List Decl) → IsLimited ds → AllByRecursion (λ (o : Operator). length o.locals ≤ 32) (names_of ds).ops
 locals_limited ds low = of_operator (λ locals. length locals ≤ 32) ds each
@@ -154,7 +168,7 @@ callables_at phyla n (decl.Operators p alts) =
     count-cons (defines space.Callables n) (defined form.Operators space.Phyla p) (map (λ (a : Alt). defined form.Alone space.Callables a.name) alts)
     ∙ ap (λ k. 0 + k) (count_map (defines space.Callables n) (λ (a : Alt). defined form.Alone space.Callables a.name) alts) in
     omega (arith, e, f)
-callables_at phyla n (decl.Function t m params e) = zero_more (0 + cond (bytes_eq n m.text) 1 0)
+callables_at phyla n (decl.Function t m params e) = count-front (defines space.Callables n) (defined form.Alone space.Callables m ∷ []) (expr_defined e) _ (zero_more (0 + cond (bytes_eq n m.text) 1 0))
 callables_at phyla n d = nothing (count_by (defines space.Callables n) (definitions_of d))
 
 given_first : (n : Bytes) (bs cs : List Bytes) → count_by (bytes_eq n) cs ≤ count_by (defines space.Callables n) (map (before_text space.Phyla) bs ++ map (before_text space.Callables) cs)
@@ -211,7 +225,7 @@ fewer a g s low one = omega (arith, low, one)
 one_name : (n : Bytes) → AreDistinct (n ∷ [])
 one_name n i j d low inside = absurd (omega (arith, low, inside))
 
-pub attrs_distinct : (ds : List Decl) → duplicate ds ≡ None → AllByRecursion (λ (x : Phylum). AreDistinct (map (λ (a : Attr). a.name) x.attrs)) (names_of ds).phyla
+attrs_distinct : (ds : List Decl) → duplicate ds ≡ None → AllByRecursion (λ (x : Phylum). AreDistinct (map (λ (a : Attr). a.name) x.attrs)) (names_of ds).phyla
 attrs_distinct ds e = of_phylum (λ attrs. AreDistinct (map (λ (a : Attr). a.name) attrs)) ds (λ k. one_name (value_attr k).name) each
   where
     each : (k : ℕ) (h : Head) → slice_get (phyla_in ds) k ≡ Some h → AreDistinct (map (λ (a : Attr). a.name) (owned (flat_map (attributes_at (phyla_in ds) (phyla_in ds)) ds) k))
@@ -219,6 +233,12 @@ attrs_distinct ds e = of_phylum (λ attrs. AreDistinct (map (λ (a : Attr). a.na
         (λ n. subst (λ c. c ≤ 1) (sym (count_map (bytes_eq n) (λ (a : Attr). a.name) (owned (flat_map (attributes_at (phyla_in ds) (phyla_in ds)) ds) k)))
         (fewer (count_by (λ (a : Attr). bytes_eq n a.name) (owned (flat_map (attributes_at (phyla_in ds) (phyla_in ds)) ds) k)) (count_by (defines (space.Attributes h.name) n) given)
         (sum_by (λ d. count_by (defines (space.Attributes h.name) n) (definitions_of d)) ds) (attrs_named (phyla_in ds) k h is n ds) (once ds e (space.Attributes h.name) n)))
+
+pub attrs_apart : (ds : List Decl) → duplicate ds ≡ None → AllByRecursion (λ (x : Phylum). AreDistinct (map (λ (a : Attr). a.name) (filter is_written x.attrs))) (names_of ds).phyla
+attrs_apart ds e =
+    each_implies (λ (x : Phylum). AreWritten x.attrs × AreDistinct (map (λ (a : Attr). a.name) x.attrs)) (λ (x : Phylum). AreDistinct (map (λ (a : Attr). a.name) (filter is_written x.attrs)))
+    (λ x h. subst (λ (l : List Attr). AreDistinct (map (λ (a : Attr). a.name) l)) (sym (only_written x.attrs h.0)) h.1) (names_of ds).phyla
+    (each_both (λ (x : Phylum). AreWritten x.attrs) (λ (x : Phylum). AreDistinct (map (λ (a : Attr). a.name) x.attrs)) (names_of ds).phyla (attrs_written ds) (attrs_distinct ds e))
 
 pub locals_distinct : (ds : List Decl) → duplicate ds ≡ None → AllByRecursion (λ (o : Operator). AreDistinct (map (λ (l : Local). l.name) o.locals)) (names_of ds).ops
 locals_distinct ds e = of_operator (λ locals. AreDistinct (map (λ (l : Local). l.name) locals)) ds each

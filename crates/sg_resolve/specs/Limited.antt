@@ -3,7 +3,7 @@ use Rattle.std.specs.Prelude.{◌≤◌, List, length, flat_map, count_by, bytes
 use Rattle.sg_kinds.specs.Values.{Bytes}
 use Rattle.sg_ast.specs.Declarations.{Decl}
 use Rattle.sg_counts.specs.Crowds.{different}
-use Rattle.sg_counts.specs.Limits.{phyla_of, arities_of, attributes_of, locals_of, parameters_of, schemes_of, symbols_of, is_transform, is_same_operator}
+use Rattle.sg_counts.specs.Limits.{phyla_of, arities_of, attributes_of, locals_of, parameters_of, schemes_of, symbols_of, views_in, is_transform, is_same_operator}
 
 pub record IsLimited (ds : List Decl) : Type 0 where
   pub phyla : length (different bytes_eq (flat_map phyla_of ds)) ≤ 512
@@ -17,3 +17,4 @@ pub record IsLimited (ds : List Decl) : Type 0 where
   pub schemes : All (λ n. n ≤ 16) (flat_map schemes_of ds)
   pub productions : length (flat_map symbols_of ds) ≤ 1024
   pub symbols : All (λ n. n ≤ 16) (flat_map symbols_of ds)
+  pub views : length (different bytes_eq (flat_map views_in ds)) ≤ 16

@@ -1,4 +1,4 @@
-use Rattle.sg_counts.proofs.Along.{arities_along, attributes_along, locals_along, parameters_along, schemes_along, symbols_along}
+use Rattle.sg_counts.proofs.Along.{arities_along, attributes_along, locals_along, parameters_along, schemes_along, symbols_along, views_along}
 use Rattle.sg_counts.proofs.laws.counts_follow_the_text.Goals as goal
 
 pub returns-clause-arities : goal.returns-clause-arities
@@ -18,3 +18,6 @@ returns-clause-schemes c = schemes_along
 
 pub returns-clause-symbols : goal.returns-clause-symbols
 returns-clause-symbols c = symbols_along
+
+pub returns-clause-views : goal.returns-clause-views
+returns-clause-views c = views_along
