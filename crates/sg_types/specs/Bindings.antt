@@ -9,11 +9,12 @@ use Rattle.sg_kinds.specs.declared.spec.Attr.{Attr}
 use Rattle.sg_kinds.specs.Typing.{slot_type, attr_types}
 use Rattle.sg_ast.specs.FirstFault.{or_else}
 use Rattle.sg_ast.specs.declared.name.Reference.{Reference}
+use Rattle.sg_ast.specs.declared.name.Remote.{Remote}
 use Rattle.sg_ast.specs.declared.decl.Part.{Part}
 use Rattle.sg_ast.specs.declared.decl.Part.TheVariants as part
 use Rattle.sg_names.specs.declared.table.Table.{Table}
 use Rattle.sg_names.specs.declared.table.Operand.{Operand}
-use Rattle.sg_names.specs.Lookups.{local, reference, operand}
+use Rattle.sg_names.specs.Lookups.{far_slot, local, reference, operand}
 use Rattle.sg_types.specs.declared.scope.Variable.{Variable}
 use Rattle.sg_names.specs.Drafted.{drafted}
 use Rattle.sg_types.specs.Scopes.{found}
@@ -62,6 +63,11 @@ reference_at t (OfEquation op args) r = option_and_then (λ (o : Occurrence). ar
     (reference t op r)
 reference_at t (OfProduction left parts) r = option_map (symbol_there parts) (operand t left parts r)
 reference_at t OfNothing r = None
+
+-- an attribute of an enclosing node: the far attribute of the left side
+abbrev pub remote_at : Table → Owner → Remote → Option (ℕ × Option ℕ)
+remote_at t (OfEquation op args) r = option_and_then (argument t op args 0) (far_slot t op r)
+remote_at t w r = None
 
 -- a bare name: a local of the operator, else a variable
 abbrev pub local_at : Table → Owner → Bytes → Option (ℕ × Option ℕ)

@@ -1,16 +1,17 @@
 -- Expressions: their types, their mismatches, and the expressions of the record.
-use Rattle.std.specs.Prelude.{ℕ, pos, List, [], ◌∷◌, ◌++◌, Option, Some, None, unwrap_or, is_some}
+use Rattle.std.specs.Prelude.{ℕ, pos, if◌then◌else◌, List, [], ◌∷◌, ◌++◌, length, Option, Some, None, unwrap_or, is_some}
 use Rattle.sg_kinds.specs.Values as value
 use Rattle.sg_kinds.specs.Specification.{truths, numbers, texts}
 use Rattle.sg_kinds.specs.Expressions as kept
 use Rattle.sg_kinds.specs.declared.fault.Position.{Position}
+use Rattle.sg_kinds.specs.declared.marks.Made.TheVariants.{Completing}
 use Rattle.sg_kinds.specs.declared.marks.Unary.{Unary}
 use Rattle.sg_kinds.specs.declared.marks.Unary.TheVariants as unary
 use Rattle.sg_kinds.specs.declared.marks.Sign.{Sign}
 use Rattle.sg_kinds.specs.declared.marks.Sign.TheVariants as sign
 use Rattle.sg_kinds.specs.declared.marks.Connective.TheVariants as connective
 use Rattle.sg_ast.specs.Chains.{expr_place, occurrence_place}
-use Rattle.sg_ast.specs.Expressions.{Expr, Exprs, Cases, Amount, Chars, Truth, Variable, Attribute, MadeOf, Paren, Single, Binary, Choice, Call, Let, With, NoExpr, AndExpr, NoCase, Default, Case}
+use Rattle.sg_ast.specs.Expressions.{Expr, Exprs, Cases, Amount, Chars, Truth, Variable, Attribute, Remote, MadeOf, Paren, Single, Binary, Choice, Call, Let, With, NoExpr, AndExpr, NoCase, Default, Case}
 use Rattle.sg_ast.specs.FirstFault.{or_else}
 use Rattle.sg_ast.specs.declared.expr.Infix.{Infix}
 use Rattle.sg_ast.specs.declared.expr.Infix.TheVariants.{Or, And, Equal, Unequal, Below, AtMost, Above, AtLeast, Cons, Join, Add, Sub, Mul, Div, Rem}
@@ -22,7 +23,7 @@ use Rattle.sg_names.specs.declared.table.Callable.TheVariants as callable
 use Rattle.sg_names.specs.Lookups as look
 use Rattle.sg_types.specs.declared.scope.Variable as scope
 use Rattle.sg_types.specs.Types.{unless, untyped, fits_where, do_agree, list_of}
-use Rattle.sg_types.specs.Bindings.{Owner, reference_at, variable_at, type_there, place_there}
+use Rattle.sg_types.specs.Bindings.{Owner, reference_at, remote_at, variable_at, type_there, place_there}
 use Rattle.sg_types.specs.Patterns as pattern
 
 -- what an operator between operands takes and gives, but for `==`, `!=` and `::`
@@ -50,13 +51,15 @@ abbrev pub called_type : Table → Option Callable → Option ℕ
 called_type t None = None
 called_type t (Some c) = look.result_of t c
 
--- the type of an expression, if its names mean something
+-- the type of an expression, if its names mean something; the attributes that may be those of an enclosing node have
+-- one type
 abbrev pub type_in : Table → Owner → List scope.Variable → Expr → Option ℕ
 type_in t w vs (Amount n place) = Some numbers
 type_in t w vs (Chars s) = Some texts
 type_in t w vs (Truth b place) = Some truths
 type_in t w vs (Variable n) = type_there (variable_at t w vs n.text)
 type_in t w vs (Attribute r) = type_there (reference_at t w r)
+type_in t w vs (Remote r) = if look.are_alike t r then type_there (remote_at t w r) else None
 type_in t w vs (MadeOf made n place) = look.usable_named t n.text
 type_in t w vs (Paren a place) = type_in t w vs a
 type_in t w vs (Single f a place) = Some (prefix_type f)
@@ -108,6 +111,7 @@ abbrev mutual
   mismatch_in t w vs (Truth b place) = None
   mismatch_in t w vs (Variable n) = untyped (type_in t w vs (Variable n)) n.place
   mismatch_in t w vs (Attribute r) = untyped (type_in t w vs (Attribute r)) (occurrence_place r.of)
+  mismatch_in t w vs (Remote r) = untyped (type_in t w vs (Remote r)) r.place
   mismatch_in t w vs (MadeOf made n place) = untyped (look.usable_named t n.text) place
   mismatch_in t w vs (Paren a place) = mismatch_in t w vs a
   mismatch_in t w vs (Single f a place) = where_wanted t (Some (prefix_type f)) (type_in t w vs a) (expr_place a)
@@ -196,7 +200,8 @@ called_in (Some (callable.Operator op)) es = kept.Apply op es
 called_in (Some (callable.Function f)) es = kept.Call f es
 called_in (Some (callable.Builtin f)) es = kept.Single f (only_in es)
 
--- the expression of the record, in which parentheses are kept; a name that means nothing has the number 0
+-- the expression of the record, in which parentheses are kept; a name that means nothing has the number 0, and
+-- attributes of several types are a term of no phylum
 abbrev mutual
   pub recorded : Table → Owner → List scope.Variable → Expr → kept.Expr
   recorded t w vs (Amount n place) = kept.Constant (value.Number (pos n))
@@ -204,6 +209,8 @@ abbrev mutual
   recorded t w vs (Truth b place) = kept.Constant (value.Truth b)
   recorded t w vs (Variable n) = kept.Named (place_there (variable_at t w vs n.text))
   recorded t w vs (Attribute r) = kept.Named (place_there (reference_at t w r))
+  recorded t w vs (Remote r) = if look.are_alike t r then kept.Named (place_there (remote_at t w r))
+      else kept.MadeOf Completing (length t.phyla)
   recorded t w vs (MadeOf made n place) = kept.MadeOf made (unwrap_or (look.usable_named t n.text) 0)
   recorded t w vs (Paren a place) = kept.Single unary.Paren (recorded t w vs a)
   recorded t w vs (Single f a place) = kept.Single (prefix_of f) (recorded t w vs a)

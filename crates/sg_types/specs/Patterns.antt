@@ -1,6 +1,5 @@
 -- Patterns where a type is wanted: their mismatches, their variables, and the patterns of the record.
 use Rattle.std.specs.Prelude.{ℕ, ℤ, pos, neg_ℤ, Bool, false, cond, List, [], ◌∷◌, ◌++◌, nat_eq, Option, Some, None, option_map, unwrap_or}
-use Rattle.sg_kinds.specs.Values.{Bytes}
 use Rattle.sg_kinds.specs.Values as value
 use Rattle.sg_kinds.specs.Specification.{truths, numbers, args_of, phylum_of}
 use Rattle.sg_kinds.specs.Typing.{is_textual}

@@ -8,12 +8,13 @@ ghost use Rattle.sg_types.specs.OwnersView.{owner_of};
 
 use crate::scope::Scope;
 use sg_ast::decl::Part;
-use sg_ast::name::Reference;
+use sg_ast::name::{Reference, Remote};
 use sg_kinds::ids::{OpId, PhylumId};
 use sg_kinds::memory::NoMemory;
 use sg_kinds::spec::{Attr, Occurrence};
 use sg_kinds::text::Text;
 use sg_names::names::Names;
+use std::alloc::Global;
 
 /// Where an expression stands, which says what its names are.
 #[derive(Clone, Copy)]
@@ -125,6 +126,24 @@ pub(crate) fn reference_at(
             Some((before(parts, operand.at), Some(operand.of)))
         }
         Owner::Nothing => None,
+    }
+}
+
+/// What an attribute of an enclosing node stands for.
+pub(crate) fn remote_at(
+    alloc: Global,
+    names: &Names,
+    owner: &Owner<'_>,
+    remote: &Remote,
+) -> Result<Option<Binding>, NoMemory>
+    ensures { IfOk result (λ b. b ≡ spec.remote_at names.now (owner_of owner.now) remote.now) }
+{
+    let Owner::Equation(op, args) = owner else {
+        return Ok(None);
+    };
+    match names.far_slot(alloc, *op, remote)? {
+        Some(far) => Ok(argument(names, *op, args, 0, far as usize)),
+        None => Ok(None),
     }
 }
 

@@ -1,11 +1,12 @@
 //! Expressions: one walk finds the expression of the record, its type and the first mismatch.
-ghost use Rattle.std.specs.Prelude.{◌≡◌, ◌++◌, ◌∷◌, [], Some, None, unwrap_or, IfOk, OnOk};
+ghost use Rattle.std.specs.Prelude.{◌≡◌, [], length, Some, None, unwrap_or, IfOk, OnOk};
 ghost use Rattle.sg_ast.specs.View.{pattern_of, expr_of, exprs_of, cases_of};
 ghost use Rattle.sg_ast.specs.Expressions as plain;
 ghost use Rattle.sg_kinds.specs.ExprView as view;
 ghost use Rattle.sg_kinds.specs.Expressions as kept;
 ghost use Rattle.sg_kinds.specs.Specification.{texts, phylum_of};
 ghost use Rattle.sg_kinds.specs.Values as value;
+ghost use Rattle.sg_kinds.specs.declared.marks.Made.TheVariants.{Completing};
 ghost use Rattle.sg_names.specs.Lookups as look;
 ghost use Rattle.sg_types.specs.Bindings.{type_there, place_there};
 ghost use Rattle.sg_types.specs.Expressions as spec;
@@ -14,7 +15,7 @@ ghost use Rattle.sg_types.specs.Types as types;
 ghost use Rattle.sg_types.specs.ExpressionsView.{IsFound, AreFound, IsBuiltIn, IsCase, AreCases};
 ghost use Rattle.sg_types.specs.OwnersView.{owner_of};
 
-use crate::bindings::{Binding, Owner, reference_at, variable_at};
+use crate::bindings::{Binding, Owner, reference_at, remote_at, variable_at};
 use crate::found::{
     Found, FoundCase, FoundCases, FoundList, chain, chosen, constant, distinguished, mismatch_of,
     where_wanted,
@@ -24,7 +25,7 @@ use crate::pattern::pattern;
 use crate::scope::{Scope, Variable};
 use crate::types::{BOOL, INT, STR, earlier, phylum_or_none, untyped};
 use sg_ast::expr::{Cases, Expr, Exprs, Infix, Prefix};
-use sg_ast::name::{Name, Quoted, Reference};
+use sg_ast::name::{Name, Quoted, Reference, Remote};
 use sg_ast::pattern::Pattern;
 use sg_kinds::expr::{CaseList, ExprList, ExprTree};
 use sg_kinds::fault::Position;
@@ -96,6 +97,35 @@ fn attribute(walk: &Walk<'_>, reference: &Reference, scope: &Scope) -> Result<Fo
     let _ = scope;
     let binding = reference_at(walk.names, &walk.owner, reference);
     named(binding, reference.of.place())
+}
+
+// attributes of several types: a term of no phylum
+fn unlike(names: &Names, place: Position) -> Result<Found, NoMemory>
+    ensures tree { IfOk result (λ f. view.expr_of f.tree ≡ kept.MadeOf Completing (length names.now.phyla)) }
+    ensures of { IfOk result (λ f. f.of ≡ None) }
+    ensures place { IfOk result (λ f. f.place ≡ place) }
+    ensures mismatch { IfOk result (λ f. f.mismatch ≡ Some place) }
+{
+    let Ok(number) = u32::try_from(names.table().phyla.len()) else {
+        return Err(NoMemory);
+    };
+    Ok(Found {
+        tree: ExprTree::Made(Made::Completing, PhylumId { number }),
+        of: None,
+        place,
+        mismatch: Some(place),
+    })
+}
+
+fn remote(walk: &Walk<'_>, remote: &Remote, scope: &Scope) -> Result<Found, NoMemory>
+    ensures { IfOk result (IsFound walk.now.names.now (owner_of walk.now.owner) scope.now (plain.Remote remote.now)) }
+{
+    let _ = scope;
+    if !walk.names.are_alike(remote) {
+        return unlike(walk.names, remote.place);
+    }
+    let binding = remote_at(walk.alloc, walk.names, &walk.owner, remote)?;
+    named(binding, remote.place)
 }
 
 fn made_term(names: &Names, made: Made, name: &Name, place: Position) -> Found
@@ -203,6 +233,7 @@ pub fn expr(walk: &Walk<'_>, e: &Expr, scope: &mut Scope) -> Result<Found, NoMem
         Expr::Truth(truth, place) => Ok(constant(Literal::Truth(*truth), BOOL, *place)),
         Expr::Variable(name) => variable(walk, name, scope),
         Expr::Attribute(reference) => attribute(walk, reference, scope),
+        Expr::Remote(atom) => remote(walk, atom, scope),
         Expr::Made(made, name, place) => Ok(made_term(walk.names, *made, name, *place)),
         Expr::Paren(inner, place) => paren(walk, inner, *place, scope),
         Expr::Prefix(prefix, operand, place) => single(walk, *prefix, operand, *place, scope),

@@ -6,18 +6,20 @@ use Rattle.std.proofs.lemmas.Option.{slice_get-map}
 use Rattle.sg_kinds.specs.Values.{Bytes}
 use Rattle.sg_kinds.specs.Specification.{attrs_of, locals_of, phylum_of}
 use Rattle.sg_kinds.specs.Dependencies.{phylum_there}
+use Rattle.sg_kinds.specs.Far.{same_far, slot_of_far}
 use Rattle.sg_kinds.specs.Typing.{attr_types, slot_type, types_at}
 use Rattle.sg_kinds.specs.declared.spec.Attr.{Attr}
 use Rattle.sg_kinds.specs.declared.spec.Local.{Local}
 use Rattle.sg_kinds.specs.declared.spec.Occurrence.{Occurrence}
 use Rattle.sg_kinds.proofs.Elementary.{slice_get-before, slice_get-behind}
-use Rattle.sg_ast.specs.Expressions.{Expr, Exprs, Cases, Amount, Chars, Truth, Variable, Attribute, MadeOf, Paren, Single, Binary, Choice, Call, Let, With, NoExpr, AndExpr, NoCase, Default, Case}
+use Rattle.sg_ast.specs.Expressions.{Expr, Exprs, Cases, Amount, Chars, Truth, Variable, Attribute, Remote, MadeOf, Paren, Single, Binary, Choice, Call, Let, With, NoExpr, AndExpr, NoCase, Default, Case}
 use Rattle.sg_ast.specs.declared.name.Reference.{Reference}
+use Rattle.sg_ast.specs.declared.name.Remote as enclosing
 use Rattle.sg_names.specs.Drafted.{drafted}
-use Rattle.sg_names.specs.Lookups.{attribute, attribute_at, local, occurrence, reference}
+use Rattle.sg_names.specs.Lookups.{attribute, attribute_at, far_list, far_slot, local, occurrence, reference}
 use Rattle.sg_names.specs.declared.table.Table.{Table}
 use Rattle.sg_types.specs.Bindings.{is_at, own_slots}
-use Rattle.sg_typing.specs.Arguments.{added, local_of, args_from, args_from_all, args_from_cases, args_in}
+use Rattle.sg_typing.specs.Arguments.{added, local_of, remote_of, args_from, args_from_all, args_from_cases, args_in}
 use Rattle.sg_typing.proofs.TableFacts.{position_there}
 
 -- a slot that has a type
@@ -28,18 +30,26 @@ abbrev HaveTypes : Table → ℕ → List Occurrence → Type 0
 HaveTypes t op os = (ps : List ℕ) × (types_at (drafted t) op os ≡ Some ps)
 
 -- the slot of an attribute
-attr_there : (t : Table) (op at p s : ℕ) (a : Bytes) → phylum_there t.ops op at ≡ Some p → attribute t p a ≡ Some s → HasType t op (record { at = at; slot = s })
-attr_there t op at p s a there named = by at there
+slot_there : (t : Table) (op at p s : ℕ) (x : Attr) → phylum_there t.ops op at ≡ Some p → slice_get (attrs_of t.phyla p) s ≡ Some x → HasType t op (record { at = at; slot = s })
+slot_there t op at p s x there is = by at there
   where
-    x : (y : Attr) × (slice_get (attrs_of t.phyla p) s ≡ Some y) × (bytes_eq a y.name ≡ true)
-    x = position_there (λ (y : Attr). bytes_eq a y.name) (attrs_of t.phyla p) s named
-
-    slot : slice_get (map (λ (y : Attr). y.of) (attrs_of t.phyla p)) s ≡ Some x.0.of
-    slot = slice_get-map (λ (y : Attr). y.of) (attrs_of t.phyla p) s ∙ ap (option_map (λ (y : Attr). y.of)) x.1
+    slot : slice_get (map (λ (y : Attr). y.of) (attrs_of t.phyla p)) s ≡ Some x.of
+    slot = slice_get-map (λ (y : Attr). y.of) (attrs_of t.phyla p) s ∙ ap (option_map (λ (y : Attr). y.of)) is
 
     by : (at : ℕ) → phylum_there t.ops op at ≡ Some p → HasType t op (record { at = at; slot = s })
-    by zero h = (x.0.of, ap (λ o. slice_get (attr_types (drafted t) o ++ map (λ (l : Local). l.of) (locals_of t.ops op)) s) h ∙ slice_get-before (map (λ (y : Attr). y.of) (attrs_of t.phyla p)) (map (λ (l : Local). l.of) (locals_of t.ops op)) s x.0.of slot)
-    by (suc k) h = (x.0.of, ap (λ o. slice_get (attr_types (drafted t) o) s) h ∙ slot)
+    by zero h = (x.of, ap (λ o. slice_get (attr_types (drafted t) o ++ map (λ (l : Local). l.of) (locals_of t.ops op)) s) h ∙ slice_get-before (map (λ (y : Attr). y.of) (attrs_of t.phyla p)) (map (λ (l : Local). l.of) (locals_of t.ops op)) s x.of slot)
+    by (suc k) h = (x.of, ap (λ o. slice_get (attr_types (drafted t) o) s) h ∙ slot)
+
+attr_there : (t : Table) (op at p s : ℕ) (a : Bytes) → phylum_there t.ops op at ≡ Some p → attribute t p a ≡ Some s → HasType t op (record { at = at; slot = s })
+attr_there t op at p s a there named = let x = position_there (λ (y : Attr). bytes_eq a y.name) (attrs_of t.phyla p) s named in slot_there t op at p s x.0 there x.1
+
+-- the slot of a far attribute of the left side
+pub far_typed : (t : Table) (op : ℕ) (r : enclosing.Remote) (s : ℕ) → far_slot t op r ≡ Some s → HasType t op (record { at = 0; slot = s })
+far_typed t op r s h = by (phylum_of t.ops op) refl h
+  where
+    by : (p : Option ℕ) → phylum_of t.ops op ≡ p → option_and_then (λ p. slot_of_far (attrs_of t.phyla p) (far_list t r)) p ≡ Some s → HasType t op (record { at = 0; slot = s })
+    by None e f = cc
+    by (Some p) e f = let x = position_there (λ (y : Attr). same_far y.far (far_list t r)) (attrs_of t.phyla p) s f in slot_there t op 0 p s x.0 e x.1
 
 pub reference_typed : (t : Table) (op : ℕ) (r : Reference) (o : Occurrence) → reference t op r ≡ Some o → HasType t op o
 reference_typed t op r o h = by (occurrence t op r.of) h
@@ -68,6 +78,13 @@ name_typed t op n o h = by (local t op n) refl h
     by : (k : Option ℕ) → local t op n ≡ k → option_map (λ s. record { at = 0; slot = s }) (option_map (λ k. own_slots t op + k) k) ≡ Some o → HasType t op o
     by None e f = cc
     by (Some k) e f = let same : record { at = 0; slot = own_slots t op + k } ≡ o = cc in subst (HasType t op) same (local_typed t op k n e)
+
+remote_typed : (t : Table) (op : ℕ) (r : enclosing.Remote) (o : Occurrence) → remote_of t op r ≡ Some o → HasType t op o
+remote_typed t op r o h = by (far_slot t op r) refl h
+  where
+    by : (s : Option ℕ) → far_slot t op r ≡ s → option_map (λ s. record { at = 0; slot = s }) s ≡ Some o → HasType t op o
+    by None e f = cc
+    by (Some s) e f = let same : record { at = 0; slot = s } ≡ o = cc in subst (HasType t op) same (far_typed t op r s e)
 
 -- one occurrence more
 types_push : (t : Table) (op : ℕ) (os : List Occurrence) (o : Occurrence) (ps : List ℕ) (p : ℕ) → types_at (drafted t) op os ≡ Some ps → slot_type (drafted t) op o.at o.slot ≡ Some p → types_at (drafted t) op (os ++ o ∷ []) ≡ Some (ps ++ p ∷ [])
@@ -100,6 +117,7 @@ module _ (t : Table) (op : ℕ) where
     from_typed before (Truth b place) h = h
     from_typed before (Variable n) h = added_typed t op before (local_of t op n.text) h (name_typed t op n.text)
     from_typed before (Attribute r) h = added_typed t op before (reference t op r) h (reference_typed t op r)
+    from_typed before (Remote r) h = added_typed t op before (remote_of t op r) h (remote_typed t op r)
     from_typed before (MadeOf made n place) h = h
     from_typed before (Paren a place) h = from_typed before a h
     from_typed before (Single f a place) h = from_typed before a h

@@ -1,6 +1,6 @@
 -- Expressions of the record have the types that were found, where nothing mismatches.
 use Rattle.std.proofs.Common.{◌≡◌, refl, sym, ap, subst, ◌∙◌, ℕ, zero, suc, Bool, true, false, List, [], ◌∷◌, ◌++◌, map, Option, Some, None, slice_get, append_assoc}
-use Rattle.std.specs.Prelude.{◌^◌, option_map, option_and_then, unwrap_or, is_some}
+use Rattle.std.specs.Prelude.{◌^◌, if◌then◌else◌, length, option_map, option_and_then, unwrap_or, is_some}
 use Rattle.std.proofs.lemmas.Bool.{and_parts}
 use Rattle.sg_kinds.proofs.Elementary.{eq_itself, lt_true, slice_get-before, slice_get-behind}
 use Rattle.sg_kinds.specs.Values.{Bytes}
@@ -12,11 +12,13 @@ use Rattle.sg_kinds.specs.declared.fault.Position.{Position}
 use Rattle.sg_kinds.specs.declared.marks.Unary.{Unary}
 use Rattle.sg_kinds.specs.declared.marks.Unary.TheVariants as unary
 use Rattle.sg_kinds.specs.declared.marks.Made.{Made}
+use Rattle.sg_kinds.specs.declared.marks.Made.TheVariants.{Completing}
 use Rattle.sg_ast.specs.FirstFault.{or_else}
 use Rattle.sg_ast.specs.Patterns as plain
-use Rattle.sg_ast.specs.Expressions.{Expr, Exprs, Cases, Amount, Chars, Truth, Variable, Attribute, MadeOf, Paren, Single, Binary, Choice, Call, Let, With, NoExpr, AndExpr, NoCase, Default, Case}
+use Rattle.sg_ast.specs.Expressions.{Expr, Exprs, Cases, Amount, Chars, Truth, Variable, Attribute, Remote, MadeOf, Paren, Single, Binary, Choice, Call, Let, With, NoExpr, AndExpr, NoCase, Default, Case}
 use Rattle.sg_ast.specs.Chains.{expr_place, occurrence_place}
 use Rattle.sg_ast.specs.declared.name.Reference.{Reference}
+use Rattle.sg_ast.specs.declared.name.Remote as enclosing
 use Rattle.sg_ast.specs.declared.expr.Infix.{Infix}
 use Rattle.sg_ast.specs.declared.expr.Infix.TheVariants.{Or, And, Equal, Unequal, Below, AtMost, Above, AtLeast, Cons, Join, Add, Sub, Mul, Div, Rem}
 use Rattle.sg_ast.specs.declared.expr.Prefix.{Prefix}
@@ -32,7 +34,7 @@ use Rattle.sg_names.specs.Drafted.{drafted, without_body}
 use Rattle.sg_types.specs.declared.scope.Variable as scope
 use Rattle.sg_types.specs.Types.{unless, fits_where, do_agree, list_of, list_at}
 use Rattle.sg_types.specs.Scopes.{found, place_of}
-use Rattle.sg_types.specs.Bindings.{Owner, outside, behind, reference_at, local_at, variable_at, type_there, place_there}
+use Rattle.sg_types.specs.Bindings.{Owner, outside, behind, reference_at, remote_at, local_at, variable_at, type_there, place_there}
 use Rattle.sg_types.specs.Patterns.{variables_of, variables_of_all}
 use Rattle.sg_types.specs.Patterns as pattern
 use Rattle.sg_types.specs.Expressions.{type_in, mismatch_in, mismatch_in_all, mismatch_in_cases, recorded, recorded_all, recorded_cases, where_wanted, at_infix, given, infix_in, prefix_type, prefix_of, params_in, at_cons, pair_in, called_in, called_type}
@@ -249,6 +251,15 @@ module _ (t : Table) (usable : IsUsable t) (lists : HasLists t) (calls : AreCall
   reference_typed S r p None e h = cc
   reference_typed S r p (Some x) e h = outer_typed S x p (out.references r x e) h
 
+  pub remote_typed : (S : List ℕ) (r : enclosing.Remote) (p : ℕ) (o : Option (ℕ × Option ℕ)) → remote_at t w r ≡ o → type_there o ≡ Some p → slice_get (outer ++ S) (place_there o) ≡ Some p
+  remote_typed S r p None e h = cc
+  remote_typed S r p (Some x) e h = outer_typed S x p (out.remotes r x e) h
+
+  alike_typed : (S : List ℕ) (r : enclosing.Remote) (p : ℕ) (b : Bool) → (if b then type_there (remote_at t w r) else None) ≡ Some p
+      → type_of (drafted t) (outer ++ S) (if b then kept.Named (place_there (remote_at t w r)) else kept.MadeOf Completing (length t.phyla)) ≡ Some p
+  alike_typed S r p true h = remote_typed S r p (remote_at t w r) refl h
+  alike_typed S r p false h = cc
+
   pub variable_typed : (vs : List scope.Variable) (S : List ℕ) (n : Bytes) (p : ℕ) → known vs ≡ Some S → (a b : Option (ℕ × Option ℕ)) → local_at t w n ≡ a → found vs n ≡ b
       → type_there (or_else a (option_map (behind (outside w)) b)) ≡ Some p → slice_get (outer ++ S) (place_there (or_else a (option_map (behind (outside w)) b))) ≡ Some p
   variable_typed vs S n p k (Some x) b e f h = outer_typed S x p (out.locals n x e) h
@@ -266,6 +277,9 @@ module _ (t : Table) (usable : IsUsable t) (lists : HasLists t) (calls : AreCall
     expr_typed vs S (Attribute r) k v h =
         let p = untyped_is (type_there (reference_at t w r)) (occurrence_place r.of) h in
         (p.0, p.1, reference_typed S r p.0 (reference_at t w r) refl p.1)
+    expr_typed vs S (Remote r) k v h =
+        let p = untyped_is (type_in t w vs (Remote r)) r.place h in
+        (p.0, p.1, alike_typed S r p.0 (look.are_alike t r) p.1)
     expr_typed vs S (MadeOf made n place) k v h =
         let p = untyped_is (look.usable_named t n.text) place h in
         (p.0, p.1, made_typed t (outer ++ S) made p.0 (look.usable_named t n.text) p.1 (usable n.text p.0 p.1))

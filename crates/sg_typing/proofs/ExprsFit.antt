@@ -1,20 +1,25 @@
 -- An expression that has a type in the record has no mismatch, where its names mean something.
-use Rattle.std.proofs.Common.{◌≡◌, refl, sym, ap, subst, ◌∙◌, ℕ, Bool, true, false, cond, inl, inr, List, [], ◌∷◌, ◌++◌, length, Option, Some, None, slice_get, append_assoc}
-use Rattle.std.specs.Prelude.{is_some, nat_eq, option_map, option_and_then, unwrap_or, ⊤, ◌&&◌, ◌⊎◌, pos}
+use Rattle.std.proofs.Common.{◌≡◌, refl, sym, ap, subst, ◌∙◌, ℕ, Bool, true, false, cond, inl, inr, List, [], ◌∷◌, ◌++◌, length, Option, Some, None, slice_get, append_assoc, arith}
+use Rattle.std.specs.Prelude.{if◌then◌else◌, is_some, nat_eq, not, bytes_eq, option_map, option_and_then, unwrap_or, ⊤, ◌&&◌, ◌⊎◌, pos}
+use Rattle.std.specs.List.{AllByRecursion}
 use Rattle.std.proofs.lemmas.Bool.{and_parts}
-use Rattle.std.proofs.lemmas.Option.{slice_get-map}
+use Rattle.std.proofs.lemmas.Option.{slice_get-map, slice_get_past}
 use Rattle.sg_kinds.proofs.Elementary.{some_there, and_true, or_one, eq_is}
 use Rattle.sg_kinds.specs.Values.{is_text, is_number}
 use Rattle.sg_kinds.specs.Specification.{truths, numbers, texts, args_of, phylum_of, has_shape, is_list_shape, is_lexical_shape}
-use Rattle.sg_kinds.specs.Typing.{type_of, all_fit, case_type, rest_fits, bound_types, is_found, is_accepted, is_usable, only_if, where_fits, agree, unary_type, binary_type, cons_type}
+use Rattle.sg_kinds.specs.Typing.{whitespace, type_of, all_fit, case_type, rest_fits, bound_types, is_found, is_accepted, is_usable, only_if, where_fits, agree, unary_type, binary_type, cons_type}
 use Rattle.sg_kinds.specs.Expressions as kept
 use Rattle.sg_kinds.specs.declared.spec.Function.{Function}
+use Rattle.sg_kinds.specs.declared.spec.Phylum.{Phylum}
 use Rattle.sg_kinds.specs.declared.fault.Position.{Position}
+use Rattle.sg_kinds.specs.declared.marks.Made.TheVariants.{Completing}
 use Rattle.sg_kinds.specs.declared.marks.Unary.{Unary}
 use Rattle.sg_kinds.specs.declared.marks.Unary.TheVariants as unary
 use Rattle.sg_ast.specs.FirstFault.{or_else}
-use Rattle.sg_ast.specs.Expressions.{Expr, Exprs, Cases, Amount, Chars, Truth, Variable, Attribute, MadeOf, Paren, Single, Binary, Choice, Call, Let, With, NoExpr, AndExpr, NoCase, Default, Case}
+use Rattle.sg_ast.specs.Expressions.{Expr, Exprs, Cases, Amount, Chars, Truth, Variable, Attribute, Remote, MadeOf, Paren, Single, Binary, Choice, Call, Let, With, NoExpr, AndExpr, NoCase, Default, Case}
 use Rattle.sg_ast.specs.Chains.{expr_place, occurrence_place}
+use Rattle.sg_ast.specs.Remotes.{remotes_of, remotes_of_all, remotes_of_cases}
+use Rattle.sg_ast.specs.declared.name.Remote as enclosing
 use Rattle.sg_ast.specs.declared.expr.Infix.{Infix}
 use Rattle.sg_ast.specs.declared.expr.Infix.TheVariants.{Or, And, Equal, Unequal, Below, AtMost, Above, AtLeast, Cons, Join, Add, Sub, Mul, Div, Rem}
 use Rattle.sg_ast.specs.declared.expr.Prefix.{Prefix}
@@ -29,17 +34,19 @@ use Rattle.sg_names.specs.Uses.{exprs_count}
 use Rattle.sg_types.specs.declared.scope.Variable as scope
 use Rattle.sg_types.specs.Types.{unless, untyped, do_agree, list_of, list_at}
 use Rattle.sg_types.specs.Scopes.{found}
-use Rattle.sg_types.specs.Bindings.{Owner, reference_at, local_at, variable_at, type_there}
+use Rattle.sg_types.specs.Bindings.{Owner, reference_at, remote_at, local_at, variable_at, type_there, place_there}
 use Rattle.sg_types.specs.Patterns.{variables_of}
 use Rattle.sg_types.specs.Patterns as pattern
 use Rattle.sg_types.specs.Expressions.{type_in, mismatch_in, mismatch_in_all, mismatch_in_cases, recorded, recorded_all, recorded_cases, where_wanted, at_infix, at_cons, sign_of, given, infix_at, infix_in, prefix_type, prefix_of, params_in, pair_in, called_in, called_type}
+use Rattle.sg_typing.specs.Known.{HasFar}
 use Rattle.sg_typing.specs.Written.{IsUsable, AreOutside, IsCallable, AreCallable, is_builtin, known}
 use Rattle.sg_typing.proofs.PatternsFit.{Means, is_unless, then_parts, if_parts, both_none, pattern_fits}
-use Rattle.sg_typing.proofs.NamesTyped.{variable_there, named_there}
+use Rattle.sg_typing.proofs.NamesTyped.{variable_there, named_there, far_there}
 use Rattle.sg_typing.proofs.ListsThere.{ListsTold}
-use Rattle.sg_typing.proofs.ExprTyped.{variable_typed, reference_typed, known_two, one_known}
+use Rattle.sg_typing.proofs.ExprTyped.{variable_typed, reference_typed, remote_typed, known_two, one_known}
 
--- each name of an expression means something, and each call has as many arguments as declared
+-- each name of an expression means something, an attribute of an enclosing node where it is there, and each call has as
+-- many arguments as declared
 abbrev mutual
   pub HasMeaning : Table → Owner → List scope.Variable → Expr → Type 0
   HasMeaning t w vs (Amount n place) = ⊤
@@ -47,6 +54,7 @@ abbrev mutual
   HasMeaning t w vs (Truth b place) = ⊤
   HasMeaning t w vs (Variable n) = is_some (variable_at t w vs n.text) ≡ true
   HasMeaning t w vs (Attribute r) = is_some (reference_at t w r) ≡ true
+  HasMeaning t w vs (Remote r) = HasFar t w r → look.are_alike t r ≡ true → is_some (remote_at t w r) ≡ true
   HasMeaning t w vs (MadeOf made n place) = is_some (look.usable_named t n.text) ≡ true
   HasMeaning t w vs (Paren a place) = HasMeaning t w vs a
   HasMeaning t w vs (Single f a place) = HasMeaning t w vs a
@@ -85,6 +93,20 @@ found_is t wanted r o e a = ap (is_found (drafted t) wanted) e ∙ a
 pub wanted_none : (t : Table) (wanted r : ℕ) (o : Option ℕ) (place : Position) (inside : Option Position) → o ≡ Some r → is_accepted (drafted t) r wanted ≡ true → inside ≡ None → where_wanted t (Some wanted) o place inside ≡ None
 wanted_none t wanted r o place inside e a i =
     both_none (unless (is_found (drafted t) wanted o) place) inside (is_unless (is_found (drafted t) wanted o) place (found_is t wanted r o e a)) i
+
+-- attributes of enclosing nodes
+abbrev AreThere : Table → Owner → List enclosing.Remote → Type 0
+AreThere t w rs = AllByRecursion (HasFar t w) rs
+
+there_parts : (t : Table) (w : Owner) (rs ss : List enclosing.Remote) → AreThere t w (rs ++ ss) → AreThere t w rs × AreThere t w ss
+there_parts t w [] ss h = (tt, h)
+there_parts t w (r ∷ rs) ss h = let c = there_parts t w rs ss h.1 in ((h.0, c.0), c.1)
+
+-- the number past the last is of no phylum
+none_usable : (t : Table) → is_usable (drafted t) (length t.phyla) ≡ true → ⊥
+none_usable t h =
+    let past : false ≡ true = ap (λ o. unwrap_or (option_map (λ (x : Phylum). not (is_lexical_shape x.shape && bytes_eq x.name whitespace)) o) false) (sym (slice_get_past t.phyla (length t.phyla) (omega arith))) ∙ h in
+    cc
 
 named : (o : Option ℕ) (place : Position) (q : ℕ) → o ≡ Some q → (o ≡ Some q) × (untyped o place ≡ None)
 named o place q e = (e, rw e refl)
@@ -264,58 +286,75 @@ module _ (t : Table) (usable : IsUsable t) (told : ListsTold t) (calls : AreCall
       let x = called_parts t w (outer ++ S) vs d es q (subst (IsCallable t) same i) many h in
       (x.0, inside (look.params_of t d) many x.1)
 
+  -- attributes of enclosing nodes that have a type in the record
+  remote_fits : (S : List ℕ) (r : enclosing.Remote) (q : ℕ) (b : Bool) → (b ≡ true → is_some (remote_at t w r) ≡ true)
+      → type_of (drafted t) (outer ++ S) (if b then kept.Named (place_there (remote_at t w r)) else kept.MadeOf Completing (length t.phyla)) ≡ Some q
+      → (if b then type_there (remote_at t w r) else None) ≡ Some q
+  remote_fits S r q true m h =
+      let x = far_there t w r (remote_at t w r) refl (m refl) in
+      let there = remote_typed t usable told.lists calls w outer out S r x.0 (remote_at t w r) refl x.1 in
+      x.1 ∙ sym there ∙ h
+  remote_fits S r q false m h = absurd (none_usable t (if_parts (is_usable (drafted t) (length t.phyla)) (length t.phyla) q h).0)
+
   mutual
-    pub expr_fits : (vs : List scope.Variable) (S : List ℕ) (e : Expr) (q : ℕ) → known vs ≡ Some S → HasMeaning t w vs e → type_of (drafted t) (outer ++ S) (recorded t w vs e) ≡ Some q → Fits t w vs e q
-    expr_fits vs S (Amount n place) q k m h = let c = if_parts (is_number (pos n)) numbers q h in (ap Some c.1, refl)
-    expr_fits vs S (Chars s) q k m h = let c = if_parts (is_text s.text) texts q h in (ap Some c.1, refl)
-    expr_fits vs S (Truth b place) q k m h = (h, refl)
-    expr_fits vs S (Variable n) q k m h =
+    pub expr_fits : (vs : List scope.Variable) (S : List ℕ) (e : Expr) (q : ℕ) → known vs ≡ Some S → HasMeaning t w vs e → AreThere t w (remotes_of e) → type_of (drafted t) (outer ++ S) (recorded t w vs e) ≡ Some q → Fits t w vs e q
+    expr_fits vs S (Amount n place) q k m fars h = let c = if_parts (is_number (pos n)) numbers q h in (ap Some c.1, refl)
+    expr_fits vs S (Chars s) q k m fars h = let c = if_parts (is_text s.text) texts q h in (ap Some c.1, refl)
+    expr_fits vs S (Truth b place) q k m fars h = (h, refl)
+    expr_fits vs S (Variable n) q k m fars h =
         let x = variable_there t w vs S n.text k (local_at t w n.text) (found vs n.text) refl refl m in
         let there = variable_typed t usable told.lists calls w outer out vs S n.text x.0 k (local_at t w n.text) (found vs n.text) refl refl x.1 in
         named (type_there (variable_at t w vs n.text)) n.place q (x.1 ∙ sym there ∙ h)
-    expr_fits vs S (Attribute r) q k m h =
+    expr_fits vs S (Attribute r) q k m fars h =
         let x = named_there t w r (reference_at t w r) refl m in
         let there = reference_typed t usable told.lists calls w outer out S r x.0 (reference_at t w r) refl x.1 in
         named (type_there (reference_at t w r)) (occurrence_place r.of) q (x.1 ∙ sym there ∙ h)
-    expr_fits vs S (MadeOf made n place) q k m h =
+    expr_fits vs S (Remote r) q k m fars h = named (type_in t w vs (Remote r)) r.place q (remote_fits S r q (look.are_alike t r) (m fars.0) h)
+    expr_fits vs S (MadeOf made n place) q k m fars h =
         let x = some_there (look.usable_named t n.text) m in
         let c = if_parts (is_usable (drafted t) (unwrap_or (look.usable_named t n.text) 0)) (unwrap_or (look.usable_named t n.text) 0) q h in
         named (look.usable_named t n.text) place q (x.1 ∙ ap Some (sym (ap (λ o. unwrap_or o 0) x.1) ∙ c.1))
-    expr_fits vs S (Paren a place) q k m h = expr_fits vs S a q k m h
-    expr_fits vs S (Single f a place) q k m h =
+    expr_fits vs S (Paren a place) q k m fars h = expr_fits vs S a q k m fars h
+    expr_fits vs S (Single f a place) q k m fars h =
         let c = single_parts t f (type_of (drafted t) (outer ++ S) (recorded t w vs a)) q h in
-        let x = expr_fits vs S a c.0 k m c.1 in
+        let x = expr_fits vs S a c.0 k m fars c.1 in
         (ap Some c.3, wanted_none t (prefix_type f) c.0 (type_in t w vs a) (expr_place a) (mismatch_in t w vs a) x.0 c.2 x.1)
-    expr_fits vs S (Binary s a b) q k m h =
+    expr_fits vs S (Binary s a b) q k m fars h =
+        let in_parts = there_parts t w (remotes_of a) (remotes_of b) fars in
         let o = operands t told (outer ++ S) (recorded t w vs a) (recorded t w vs b) s (list_of t (type_in t w vs b)) q h in
-        let x = expr_fits vs S a o.0 k m.0 o.2 in
-        let y = expr_fits vs S b o.1 k m.1 o.3 in
+        let x = expr_fits vs S a o.0 k m.0 in_parts.0 o.2 in
+        let y = expr_fits vs S b o.1 k m.1 in_parts.1 o.3 in
         let z = infix_none t told (outer ++ S) (recorded t w vs a) (recorded t w vs b) o.0 o.1 o.2 o.3 s q (expr_place a) (expr_place b) (subst (λ r. type_of (drafted t) (outer ++ S) (infix_in t s r (recorded t w vs a) (recorded t w vs b)) ≡ Some q) y.0 h) in
         (ap (given s) y.0 ∙ z.0, (λ i. at_infix t s (x.0 i) (y.0 i) (expr_place a) (expr_place b) (x.1 i) (y.1 i)) ∙ z.1)
-    expr_fits vs S (Choice c a b) q k m h =
+    expr_fits vs S (Choice c a b) q k m fars h =
+        let in_parts = there_parts t w (remotes_of c ++ remotes_of a) (remotes_of b) fars in
+        let in_first = there_parts t w (remotes_of c) (remotes_of a) in_parts.0 in
         let g : ℕ → Option ℕ = λ p. where_fits (drafted t) p p (type_of (drafted t) (outer ++ S) (recorded t w vs b)) in
         let d = cond_parts (is_found (drafted t) truths (type_of (drafted t) (outer ++ S) (recorded t w vs c))) (option_and_then g (type_of (drafted t) (outer ++ S) (recorded t w vs a))) q h in
         let u = found_parts t truths (type_of (drafted t) (outer ++ S) (recorded t w vs c)) d.0 in
         let p = then_parts g (type_of (drafted t) (outer ++ S) (recorded t w vs a)) q d.1 in
         let r = where_parts t p.0 p.0 (type_of (drafted t) (outer ++ S) (recorded t w vs b)) q p.2 in
-        let x = expr_fits vs S c u.0 k m.0 u.1 in
-        let y = expr_fits vs S a p.0 k m.1 p.1 in
-        let z = expr_fits vs S b r.0 k m.2 r.1 in
+        let x = expr_fits vs S c u.0 k m.0 in_first.0 u.1 in
+        let y = expr_fits vs S a p.0 k m.1 in_first.1 p.1 in
+        let z = expr_fits vs S b r.0 k m.2 in_parts.1 r.1 in
         let second : where_wanted t (type_in t w vs a) (type_in t w vs b) (expr_place b) (mismatch_in t w vs b) ≡ None = ap (λ o. where_wanted t o (type_in t w vs b) (expr_place b) (mismatch_in t w vs b)) y.0 ∙ wanted_none t p.0 r.0 (type_in t w vs b) (expr_place b) (mismatch_in t w vs b) z.0 r.2 z.1 in
         let branches = both_none (mismatch_in t w vs a) (where_wanted t (type_in t w vs a) (type_in t w vs b) (expr_place b) (mismatch_in t w vs b)) y.1 second in (
           y.0 ∙ ap Some r.3,
           both_none (where_wanted t (Some truths) (type_in t w vs c) (expr_place c) (mismatch_in t w vs c)) (or_else (mismatch_in t w vs a) (where_wanted t (type_in t w vs a) (type_in t w vs b) (expr_place b) (mismatch_in t w vs b)))
               (wanted_none t truths u.0 (type_in t w vs c) (expr_place c) (mismatch_in t w vs c) x.0 u.2 x.1) branches,
         )
-    expr_fits vs S (Call n es) q k m h = call_fits vs S n.place es q m.0 (look.callable t n.text) m.1 (calls n.text m.0 m.1) m.2 (λ ps many fit. all_fits vs S n.place es ps k many m.3 fit) h
-    expr_fits vs S (Let n a b place) q k m h =
+    expr_fits vs S (Call n es) q k m fars h = call_fits vs S n.place es q m.0 (look.callable t n.text) m.1 (calls n.text m.0 m.1) m.2 (λ ps many fit. all_fits vs S n.place es ps k many m.3 fars fit) h
+    expr_fits vs S (Let n a b place) q k m fars h =
+        let in_parts = there_parts t w (remotes_of a) (remotes_of b) fars in
         let u : scope.Variable = record { name = n.text; of = type_in t w vs a } in
         let c = then_parts (λ p. type_of (drafted t) ((outer ++ S) ++ p ∷ []) (recorded t w (vs ++ u ∷ []) b)) (type_of (drafted t) (outer ++ S) (recorded t w vs a)) q h in
-        let x = expr_fits vs S a c.0 k m.0 c.1 in
+        let x = expr_fits vs S a c.0 k m.0 in_parts.0 c.1 in
         let one : known (u ∷ []) ≡ Some (c.0 ∷ []) = one_known u c.0 x.0 in
-        let y = expr_fits (vs ++ u ∷ []) (S ++ c.0 ∷ []) b q (known_two vs (u ∷ []) S (c.0 ∷ []) k one) m.1 (subst (λ G. type_of (drafted t) G (recorded t w (vs ++ u ∷ []) b) ≡ Some q) (append_assoc outer S (c.0 ∷ [])) c.2) in
+        let y = expr_fits (vs ++ u ∷ []) (S ++ c.0 ∷ []) b q (known_two vs (u ∷ []) S (c.0 ∷ []) k one) m.1 in_parts.1 (subst (λ G. type_of (drafted t) G (recorded t w (vs ++ u ∷ []) b) ≡ Some q) (append_assoc outer S (c.0 ∷ [])) c.2) in
         (y.0, both_none (mismatch_in t w vs a) (mismatch_in t w (vs ++ u ∷ []) b) x.1 y.1)
-    expr_fits vs S (With a x b cs place) q k m h =
+    expr_fits vs S (With a x b cs place) q k m fars h =
+        let in_parts = there_parts t w (remotes_of a ++ remotes_of b) (remotes_of_cases cs) fars in
+        let in_first = there_parts t w (remotes_of a) (remotes_of b) in_parts.0 in
         let o = type_in t w vs a in
         let us = variables_of t x o in
         let D = drafted t in
@@ -325,34 +364,36 @@ module _ (t : Table) (usable : IsUsable t) (told : ListsTold t) (calls : AreCall
         let d = then_parts (λ r. only_if (rest_fits D G c.0 r rest) r) (option_and_then (λ bs. type_of D (G ++ bs) (recorded t w (vs ++ us) b)) (bound_types D (pattern.recorded t x) c.0)) q c.2 in
         let e = if_parts (rest_fits D G c.0 d.0 rest) d.0 q d.2 in
         let f = then_parts (λ bs. type_of D (G ++ bs) (recorded t w (vs ++ us) b)) (bound_types D (pattern.recorded t x) c.0) d.0 d.1 in
-        let y = expr_fits vs S a c.0 k m.0 c.1 in
+        let y = expr_fits vs S a c.0 k m.0 in_first.0 c.1 in
         let p = pattern_fits t x c.0 f.0 m.1 f.1 in
         let bound : known us ≡ Some f.0 = ap (λ z. known (variables_of t x z)) y.0 ∙ p.1 in
-        let z = expr_fits (vs ++ us) (S ++ f.0) b d.0 (known_two vs us S f.0 k bound) m.2 (subst (λ G. type_of D G (recorded t w (vs ++ us) b) ≡ Some d.0) (append_assoc outer S f.0) f.2) in
-        let later = cases_fit vs S c.0 d.0 cs k (subst (λ z. CasesMean t w vs z cs) y.0 m.3) (subst (λ z. rest_fits D G c.0 d.0 (recorded_cases t w vs z cs) ≡ true) y.0 e.0) in
+        let z = expr_fits (vs ++ us) (S ++ f.0) b d.0 (known_two vs us S f.0 k bound) m.2 in_first.1 (subst (λ G. type_of D G (recorded t w (vs ++ us) b) ≡ Some d.0) (append_assoc outer S f.0) f.2) in
+        let later = cases_fit vs S c.0 d.0 cs k (subst (λ z. CasesMean t w vs z cs) y.0 m.3) in_parts.1 (subst (λ z. rest_fits D G c.0 d.0 (recorded_cases t w vs z cs) ≡ true) y.0 e.0) in
         let all : mismatch_in_cases t w vs o (type_in t w (vs ++ us) b) cs ≡ None = (λ i. mismatch_in_cases t w vs (y.0 i) (z.0 i) cs) ∙ later in
         let body = both_none (mismatch_in t w (vs ++ us) b) (mismatch_in_cases t w vs o (type_in t w (vs ++ us) b) cs) z.1 all in
         let first = both_none (pattern.mismatch_in t x o) (or_else (mismatch_in t w (vs ++ us) b) (mismatch_in_cases t w vs o (type_in t w (vs ++ us) b) cs)) (ap (pattern.mismatch_in t x) y.0 ∙ p.0) body in
         (z.0 ∙ ap Some e.1, both_none (mismatch_in t w vs a) (or_else (pattern.mismatch_in t x o) (or_else (mismatch_in t w (vs ++ us) b) (mismatch_in_cases t w vs o (type_in t w (vs ++ us) b) cs))) y.1 first)
 
-    all_fits : (vs : List scope.Variable) (S : List ℕ) (place : Position) (es : Exprs) (ps : List ℕ) → known vs ≡ Some S → length ps ≡ exprs_count es → HaveMeaning t w vs es → all_fit (drafted t) (outer ++ S) (recorded_all t w vs es ps) ps ≡ true → mismatch_in_all t w vs place es ps ≡ None
-    all_fits vs S place NoExpr [] k n m h = refl
-    all_fits vs S place NoExpr (p ∷ ps) k n m h = cc
-    all_fits vs S place (AndExpr e es) [] k n m h = cc
-    all_fits vs S place (AndExpr e es) (p ∷ ps) k n m h =
+    all_fits : (vs : List scope.Variable) (S : List ℕ) (place : Position) (es : Exprs) (ps : List ℕ) → known vs ≡ Some S → length ps ≡ exprs_count es → HaveMeaning t w vs es → AreThere t w (remotes_of_all es) → all_fit (drafted t) (outer ++ S) (recorded_all t w vs es ps) ps ≡ true → mismatch_in_all t w vs place es ps ≡ None
+    all_fits vs S place NoExpr [] k n m fars h = refl
+    all_fits vs S place NoExpr (p ∷ ps) k n m fars h = cc
+    all_fits vs S place (AndExpr e es) [] k n m fars h = cc
+    all_fits vs S place (AndExpr e es) (p ∷ ps) k n m fars h =
+        let in_parts = there_parts t w (remotes_of e) (remotes_of_all es) fars in
         let c = and_parts (is_found (drafted t) p (type_of (drafted t) (outer ++ S) (recorded t w vs e))) (all_fit (drafted t) (outer ++ S) (recorded_all t w vs es ps) ps) h in
         let d = found_parts t p (type_of (drafted t) (outer ++ S) (recorded t w vs e)) c.0 in
-        let x = expr_fits vs S e d.0 k m.0 d.1 in
+        let x = expr_fits vs S e d.0 k m.0 in_parts.0 d.1 in
         let fewer : length ps ≡ exprs_count es = cc in
-        both_none (where_wanted t (Some p) (type_in t w vs e) (expr_place e) (mismatch_in t w vs e)) (mismatch_in_all t w vs place es ps) (wanted_none t p d.0 (type_in t w vs e) (expr_place e) (mismatch_in t w vs e) x.0 d.2 x.1) (all_fits vs S place es ps k fewer m.1 c.1)
+        both_none (where_wanted t (Some p) (type_in t w vs e) (expr_place e) (mismatch_in t w vs e)) (mismatch_in_all t w vs place es ps) (wanted_none t p d.0 (type_in t w vs e) (expr_place e) (mismatch_in t w vs e) x.0 d.2 x.1) (all_fits vs S place es ps k fewer m.1 in_parts.1 c.1)
 
-    cases_fit : (vs : List scope.Variable) (S : List ℕ) (p r : ℕ) (cs : Cases) → known vs ≡ Some S → CasesMean t w vs (Some p) cs → rest_fits (drafted t) (outer ++ S) p r (recorded_cases t w vs (Some p) cs) ≡ true → mismatch_in_cases t w vs (Some p) (Some r) cs ≡ None
-    cases_fit vs S p r NoCase k m h = refl
-    cases_fit vs S p r (Default e) k m h =
+    cases_fit : (vs : List scope.Variable) (S : List ℕ) (p r : ℕ) (cs : Cases) → known vs ≡ Some S → CasesMean t w vs (Some p) cs → AreThere t w (remotes_of_cases cs) → rest_fits (drafted t) (outer ++ S) p r (recorded_cases t w vs (Some p) cs) ≡ true → mismatch_in_cases t w vs (Some p) (Some r) cs ≡ None
+    cases_fit vs S p r NoCase k m fars h = refl
+    cases_fit vs S p r (Default e) k m fars h =
         let d = found_parts t r (type_of (drafted t) (outer ++ S) (recorded t w vs e)) h in
-        let x = expr_fits vs S e d.0 k m d.1 in
+        let x = expr_fits vs S e d.0 k m fars d.1 in
         wanted_none t r d.0 (type_in t w vs e) (expr_place e) (mismatch_in t w vs e) x.0 d.2 x.1
-    cases_fit vs S p r (Case q e cs) k m h =
+    cases_fit vs S p r (Case q e cs) k m fars h =
+        let in_parts = there_parts t w (remotes_of e) (remotes_of_cases cs) fars in
         let us = variables_of t q (Some p) in
         let D = drafted t in
         let G = outer ++ S in
@@ -361,6 +402,6 @@ module _ (t : Table) (usable : IsUsable t) (told : ListsTold t) (calls : AreCall
         let d = found_parts t r given c.0 in
         let f = then_parts (λ bs. type_of D (G ++ bs) (recorded t w (vs ++ us) e)) (bound_types D (pattern.recorded t q) p) d.0 d.1 in
         let y = pattern_fits t q p f.0 m.0 f.1 in
-        let x = expr_fits (vs ++ us) (S ++ f.0) e d.0 (known_two vs us S f.0 k y.1) m.1 (subst (λ G. type_of D G (recorded t w (vs ++ us) e) ≡ Some d.0) (append_assoc outer S f.0) f.2) in
+        let x = expr_fits (vs ++ us) (S ++ f.0) e d.0 (known_two vs us S f.0 k y.1) m.1 in_parts.0 (subst (λ G. type_of D G (recorded t w (vs ++ us) e) ≡ Some d.0) (append_assoc outer S f.0) f.2) in
         both_none (pattern.mismatch_in t q (Some p)) (or_else (where_wanted t (Some r) (type_in t w (vs ++ us) e) (expr_place e) (mismatch_in t w (vs ++ us) e)) (mismatch_in_cases t w vs (Some p) (Some r) cs)) y.0
-        (both_none (where_wanted t (Some r) (type_in t w (vs ++ us) e) (expr_place e) (mismatch_in t w (vs ++ us) e)) (mismatch_in_cases t w vs (Some p) (Some r) cs) (wanted_none t r d.0 (type_in t w (vs ++ us) e) (expr_place e) (mismatch_in t w (vs ++ us) e) x.0 d.2 x.1) (cases_fit vs S p r cs k m.2 c.1))
+        (both_none (where_wanted t (Some r) (type_in t w (vs ++ us) e) (expr_place e) (mismatch_in t w (vs ++ us) e)) (mismatch_in_cases t w vs (Some p) (Some r) cs) (wanted_none t r d.0 (type_in t w (vs ++ us) e) (expr_place e) (mismatch_in t w (vs ++ us) e) x.0 d.2 x.1) (cases_fit vs S p r cs k m.2 in_parts.1 c.1))

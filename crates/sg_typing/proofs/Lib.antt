@@ -12,4 +12,5 @@ pub mod NamesMean
 pub mod BodyUntyped
 pub mod MismatchHead
 pub mod MismatchOrder
+pub mod HiddenOrder
 pub mod WantedKnown

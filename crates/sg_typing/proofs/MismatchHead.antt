@@ -8,7 +8,7 @@ use Rattle.sg_kinds.specs.declared.fault.Position.{Position}
 use Rattle.sg_kinds.specs.declared.spec.Local.{Local}
 use Rattle.sg_ast.specs.Chains.{expr_place}
 use Rattle.sg_ast.specs.Declarations.{Decl, Equation, Right, Equations, Function, Transform, Productions}
-use Rattle.sg_ast.specs.Expressions.{Expr, Exprs, Cases, Amount, Chars, Truth, Variable, Attribute, MadeOf, Paren, Single, Binary, Choice, Call, Let, With, NoExpr, AndExpr, NoCase, Default, Case}
+use Rattle.sg_ast.specs.Expressions.{Expr, Exprs, Cases, Amount, Chars, Truth, Variable, Attribute, Remote, MadeOf, Paren, Single, Binary, Choice, Call, Let, With, NoExpr, AndExpr, NoCase, Default, Case}
 use Rattle.sg_ast.specs.FirstFault.{first, or_else}
 use Rattle.sg_ast.specs.Patterns as p
 use Rattle.sg_ast.specs.Patterns.{Pattern, Patterns, NoPattern, AndPattern}
@@ -53,7 +53,7 @@ head_then o xs = head_append (listed o) xs ∙ ap (λ p. or_else p (head xs)) (h
 head_here : (t : Table) (wanted found : Option ℕ) (place : Position) (xs : List Position) (o : Option Position) → head xs ≡ o → head (and_here t wanted found place xs) ≡ where_wanted t wanted found place o
 head_here t wanted found place xs o e = head_then (unless (fits_where t wanted found) place) xs ∙ ap (or_else (unless (fits_where t wanted found) place)) e
 
-head_both : (xs ys : List Position) (m n : Option Position) → head xs ≡ m → head ys ≡ n → head (xs ++ ys) ≡ or_else m n
+pub head_both : (xs ys : List Position) (m n : Option Position) → head xs ≡ m → head ys ≡ n → head (xs ++ ys) ≡ or_else m n
 head_both xs ys m n e f = head_append xs ys ∙ (λ i. or_else (e i) (f i))
 
 module _ (t : Table) where
@@ -117,6 +117,7 @@ module _ (t : Table) where
       expr_head vs (Truth b place) m = refl
       expr_head vs (Variable n) m = head_listed _
       expr_head vs (Attribute r) m = head_listed _
+      expr_head vs (Remote r) m = head_listed _
       expr_head vs (MadeOf made n place) m = head_listed _
       expr_head vs (Paren a place) m = expr_head vs a m
       expr_head vs (Single f a place) m = head_here t (Some (prefix_type f)) (type_in t w vs a) (expr_place a) (of_expr t w vs a) (mismatch_in t w vs a) (expr_head vs a m)

@@ -6,7 +6,7 @@ use Rattle.sg_kinds.specs.Specification.{truths, numbers, texts}
 use Rattle.sg_kinds.specs.declared.fault.Position.{Position}
 use Rattle.sg_ast.specs.Chains.{expr_place, occurrence_place}
 use Rattle.sg_ast.specs.Declarations.{Decl, Equation, Right, Equations, Function, Transform, Productions}
-use Rattle.sg_ast.specs.Expressions.{Expr, Exprs, Cases, Amount, Chars, Truth, Variable, Attribute, MadeOf, Paren, Single, Binary, Choice, Call, Let, With, NoExpr, AndExpr, NoCase, Default, Case}
+use Rattle.sg_ast.specs.Expressions.{Expr, Exprs, Cases, Amount, Chars, Truth, Variable, Attribute, Remote, MadeOf, Paren, Single, Binary, Choice, Call, Let, With, NoExpr, AndExpr, NoCase, Default, Case}
 use Rattle.sg_ast.specs.Patterns as p
 use Rattle.sg_ast.specs.Patterns.{Pattern, Patterns, NoPattern, AndPattern}
 use Rattle.sg_ast.specs.Rising.{RiseFrom, kept_places, places_of}
@@ -40,7 +40,7 @@ later : {xs ys : List Position} (zs : List Position) → Met xs ys → Met xs (z
 later [] s = s
 later (z ∷ zs) s = past (later zs s)
 
-met_then : {xs ys us vs : List Position} → Met xs ys → Met us vs → Met (xs ++ us) (ys ++ vs)
+pub met_then : {xs ys us vs : List Position} → Met xs ys → Met us vs → Met (xs ++ us) (ys ++ vs)
 met_then {ys = ys} none t = later ys t
 met_then (past s) t = past (met_then s t)
 met_then (here s) t = here (met_then s t)
@@ -61,7 +61,7 @@ least_first {ys = y ∷ ys} n (past s) h = least_first (y.token + 1) s h.1
 least_first {p} n (here s) h = (omega arith, no_sooner p.token p.token (omega arith) s (omega arith, h.1))
 
 -- along the tokens of a spelling
-abbrev In : List Position → List Piece → Type 0
+abbrev pub In : List Position → List Piece → Type 0
 In xs ps = Met xs (kept_places ps)
 
 kept_append : (ps qs : List Piece) → kept_places (ps ++ qs) ≡ kept_places ps ++ kept_places qs
@@ -69,16 +69,16 @@ kept_append [] qs = refl
 kept_append (Free l ∷ ps) qs = kept_append ps qs
 kept_append (Kept l place ∷ ps) qs = ap (λ l. place ∷ l) (kept_append ps qs)
 
-closed : (xs : List Position) (ps qs : List Piece) → In xs ps → In xs (ps ++ qs)
+pub closed : (xs : List Position) (ps qs : List Piece) → In xs ps → In xs (ps ++ qs)
 closed xs ps qs s = subst (Met xs) (sym (kept_append ps qs)) (earlier (kept_places qs) s)
 
-opened : (xs : List Position) (ps qs : List Piece) → In xs qs → In xs (ps ++ qs)
+pub opened : (xs : List Position) (ps qs : List Piece) → In xs qs → In xs (ps ++ qs)
 opened xs ps qs s = subst (Met xs) (sym (kept_append ps qs)) (later (kept_places ps) s)
 
 joined : (xs ys : List Position) (ps qs : List Piece) → In xs ps → In ys qs → In (xs ++ ys) (ps ++ qs)
 joined xs ys ps qs s t = subst (Met (xs ++ ys)) (sym (kept_append ps qs)) (met_then s t)
 
-each_in : {X : Type 0} (f : X → List Position) (s : X → List Piece) → ((x : X) → In (f x) (s x)) → (xs : List X) → In (flat_map f xs) (flat_map s xs)
+pub each_in : {X : Type 0} (f : X → List Position) (s : X → List Piece) → ((x : X) → In (f x) (s x)) → (xs : List X) → In (flat_map f xs) (flat_map s xs)
 each_in f s one [] = none
 each_in f s one (x ∷ xs) = joined (f x) (flat_map f xs) (s x) (flat_map s xs) (one x) (each_in f s one xs)
 
@@ -88,13 +88,13 @@ between_in f s sep one (x ∷ xs) =
     joined (f x) (flat_map f xs) (s x) (flat_map (λ y. sep ++ s y) xs) (one x) (each_in f (λ y. sep ++ s y) (λ y. opened (f y) sep (s y) (one y)) xs)
 
 -- the place of an expression is that of its first token
-abbrev Begins : Position → List Piece → Type 0
+abbrev pub Begins : Position → List Piece → Type 0
 Begins place ps = (rest : List Position) × (kept_places ps ≡ place ∷ rest)
 
 begins_closed : (place : Position) (ps qs : List Piece) → Begins place ps → Begins place (ps ++ qs)
 begins_closed place ps qs b = (b.0 ++ kept_places qs, kept_append ps qs ∙ ap (λ l. l ++ kept_places qs) b.1)
 
-occurrence_begins : (of : Occurrence) (ps : List Piece) → Begins (occurrence_place of) (spell_occurrence of ++ ps)
+pub occurrence_begins : (of : Occurrence) (ps : List Piece) → Begins (occurrence_place of) (spell_occurrence of ++ ps)
 occurrence_begins (Own place) ps = (kept_places ps, refl)
 occurrence_begins (Named n None) ps = (kept_places ps, refl)
 occurrence_begins (Named n (Some k)) ps = (kept_places ps, refl)
@@ -105,6 +105,7 @@ begins (Chars s) = ([], refl)
 begins (Truth b place) = ([], refl)
 begins (Variable n) = ([], refl)
 begins (Attribute r) = occurrence_begins r.of _
+begins (Remote r) = (_, refl)
 begins (MadeOf made n place) = (_, refl)
 begins (Paren a place) = (_, refl)
 begins (Single f a place) = (_, refl)
@@ -129,7 +130,7 @@ at_begin b place ps xs begin s = subst (Met (listed (unless b place) ++ xs)) (sy
 here_in : (t : Table) (wanted found : Option ℕ) (e : Expr) (xs : List Position) → In xs (spell_expr e) → In (and_here t wanted found (expr_place e) xs) (spell_expr e)
 here_in t wanted found e xs s = at_begin (fits_where t wanted found) (expr_place e) (spell_expr e) xs (begins e) s
 
-unless_in : (b : Bool) (place : Position) (ys : List Position) → Met (listed (unless b place)) (place ∷ ys)
+pub unless_in : (b : Bool) (place : Position) (ys : List Position) → Met (listed (unless b place)) (place ∷ ys)
 unless_in true place ys = none
 unless_in false place ys = here none
 
@@ -201,6 +202,7 @@ module _ (t : Table) where
       expr_in vs (Attribute r) =
           let b = occurrence_begins r.of _ in
           subst (Met (of_expr t w vs (Attribute r))) (sym b.1) (at_untyped (type_there (reference_at t w r)) (occurrence_place r.of) b.0)
+      expr_in vs (Remote r) = at_untyped (type_in t w vs (Remote r)) r.place _
       expr_in vs (MadeOf made n place) = at_untyped (usable_named t n.text) place (n.place ∷ [])
       expr_in vs (Paren a place) = past (closed (of_expr t w vs a) (spell_expr a) _ (expr_in vs a))
       expr_in vs (Single f a place) = past (here_in t (Some (prefix_type f)) (type_in t w vs a) a (of_expr t w vs a) (expr_in vs a))

@@ -12,26 +12,28 @@ use Rattle.sg_kinds.specs.declared.spec.Occurrence.{Occurrence}
 use Rattle.sg_ast.specs.FirstFault.{or_else, first}
 use Rattle.sg_ast.specs.Patterns as p
 use Rattle.sg_ast.specs.Patterns.{Pattern, Patterns, NoPattern, AndPattern}
-use Rattle.sg_ast.specs.Expressions.{Expr, Exprs, Cases, Amount, Chars, Truth, Variable, Attribute, MadeOf, Paren, Single, Binary, Choice, Call, Let, With, NoExpr, AndExpr, NoCase, Default, Case}
+use Rattle.sg_ast.specs.Expressions.{Expr, Exprs, Cases, Amount, Chars, Truth, Variable, Attribute, Remote, MadeOf, Paren, Single, Binary, Choice, Call, Let, With, NoExpr, AndExpr, NoCase, Default, Case}
 use Rattle.sg_ast.specs.declared.name.Name.{Name}
+use Rattle.sg_ast.specs.declared.name.Pair.{Pair}
 use Rattle.sg_ast.specs.declared.name.Reference.{Reference}
+use Rattle.sg_ast.specs.declared.name.Remote as enclosing
 use Rattle.sg_ast.proofs.FirstLaws.{neither, first-append}
 use Rattle.sg_kinds.specs.declared.fault.SpecFault.TheVariants.{Arity}
 use Rattle.sg_names.specs.Arity.{arity_at, unless_many}
 use Rattle.sg_names.specs.UnknownName.{unknown_at, unless_known, reference_fault, is_there, is_known}
-use Rattle.sg_names.specs.Uses.{Use, Matches, Calls, Binds, is_visible, with_variable, patterns_count, exprs_count, pattern_scope, patterns_scope, pattern_uses, patterns_uses, expr_uses, exprs_uses, cases_uses}
+use Rattle.sg_names.specs.Uses.{Site, Use, InProduction, Elsewhere, Encloses, Matches, Calls, Binds, is_visible, with_variable, patterns_count, exprs_count, pattern_scope, patterns_scope, pattern_uses, patterns_uses, expr_uses, exprs_uses, cases_uses}
 use Rattle.sg_names.specs.Names.{op_named}
-use Rattle.sg_names.specs.Lookups.{callable, local, operand, params_of, reference, usable_named}
+use Rattle.sg_names.specs.Lookups.{are_alike, callable, far_slot, local, operand, params_of, reference, usable_named}
 use Rattle.sg_names.specs.declared.table.Callable.{Callable}
 use Rattle.sg_names.specs.declared.table.Table.{Table}
 use Rattle.sg_names.proofs.HeadLaws.{some_place}
 use Rattle.sg_types.specs.declared.scope.Variable as vars
 use Rattle.sg_types.specs.Scopes.{found, place_of}
-use Rattle.sg_types.specs.Bindings.{Owner, OfEquation, OfProduction, OfNothing, argument, behind, is_at, local_at, outside, own_slots, reference_at, symbol_there, variable_at}
+use Rattle.sg_types.specs.Bindings.{Owner, OfEquation, OfProduction, OfNothing, argument, behind, is_at, local_at, outside, own_slots, reference_at, remote_at, symbol_there, variable_at}
 use Rattle.sg_types.specs.Expressions.{type_in}
 use Rattle.sg_types.specs.Patterns.{variables_of, variables_of_all, parts_of}
-use Rattle.sg_typing.specs.Arguments.{added, local_of, args_from, args_from_all, args_from_cases, args_in}
-use Rattle.sg_typing.specs.Known.{AreKnown, AreAmong, HasArguments, SeesVariables, names_of, names_outside, site_of}
+use Rattle.sg_typing.specs.Arguments.{added, local_of, remote_of, args_from, args_from_all, args_from_cases, args_in}
+use Rattle.sg_typing.specs.Known.{AreKnown, AreAmong, HasArguments, HasFar, SeesVariables, names_of, names_outside, site_of}
 use Rattle.sg_typing.proofs.ExprsFit.{HasMeaning, HaveMeaning, CasesMean}
 use Rattle.sg_typing.proofs.PatternsFit.{Means, Mean}
 use Rattle.sg_typing.proofs.TableFacts.{position_there}
@@ -173,6 +175,7 @@ module _ (t : Table) (op : ℕ) where
     grows before (Truth b place) = extends_itself before
     grows before (Variable n) = added_grows before (local_of t op n.text)
     grows before (Attribute r) = added_grows before (reference t op r)
+    grows before (Remote r) = added_grows before (remote_of t op r)
     grows before (MadeOf made n place) = extends_itself before
     grows before (Paren a place) = grows before a
     grows before (Single f a place) = grows before a
@@ -241,6 +244,23 @@ reference_bound t (OfEquation op args) before r k h =
     let x = some_there (reference t op r) k in
     ap (λ o. is_some (option_and_then (λ (o : Occurrence). argument t op args o.at o.slot) o)) x.1 ∙ argument_there t op args before x.0 (subst (λ o. Extends (added before o) args) x.1 h)
 
+-- an attribute of an enclosing node means nothing outside equations
+none_enclosed : (t : Table) (site : Site) (r : enclosing.Remote) → ((q : Pair) (us : List Use) → AreKnown t (Encloses site q ∷ us) → ⊥) → AreKnown t (map (Encloses site) r.pairs) → are_alike t r ≡ true → ⊥
+none_enclosed t site r none k a = by r.pairs k a
+  where
+    by : (qs : List Pair) → AreKnown t (map (Encloses site) qs) → are_alike t (record { pairs = qs; place = r.place }) ≡ true → ⊥
+    by [] k a = cc
+    by (q ∷ qs) k a = none q (map (Encloses site) qs) k
+
+remote_bound : (t : Table) (w : Owner) (before : List Occurrence) (r : enclosing.Remote) → AreKnown t (map (Encloses (site_of w)) r.pairs) → Holds w (added before (remote_of t (op_of w) r)) → HasFar t w r → are_alike t r ≡ true → is_some (remote_at t w r) ≡ true
+remote_bound t OfNothing before r k h far a = absurd (none_enclosed t Elsewhere r (λ q us k. let c = known_first t (Encloses Elsewhere q) us k in let never : false ≡ true = known_is false q.phylum c.0 in cc) k a)
+remote_bound t (OfProduction left parts) before r k h far a =
+    absurd (none_enclosed t (InProduction left parts) r (λ q us k. let c = known_first t (Encloses (InProduction left parts) q) us k in let never : false ≡ true = known_is false q.phylum c.0 in cc) k a)
+remote_bound t (OfEquation op args) before r k h far a =
+    let x = some_there (far_slot t op r) far in
+    let o : Occurrence = record { at = 0; slot = x.0 } in
+    ap (λ s. is_some (option_and_then (argument t op args 0) s)) x.1 ∙ argument_there t op args before o (subst (λ s. Extends (added before (option_map (λ s. record { at = 0; slot = s }) s)) args) x.1 h)
+
 -- a variable's name has a place
 place_there : (vs : List vars.Variable) (n : Bytes) → is_visible (names_of vs) n ≡ true → is_some (found vs n) ≡ true
 place_there vs n h =
@@ -306,6 +326,7 @@ module _ (t : Table) (w : Owner) where
     expr_means vs scope before (Variable n) s k h = variable_bound t w vs before n.text (s n.text (known_is (is_visible scope n.text) n (neither (unless_known (is_visible scope n.text) n) None k.0).0)) h
     expr_means vs scope before (Attribute r) s k h =
         reference_bound t w before r (reference_known (is_known t (site_of w) r) (is_there t (site_of w) r.of) r (neither (reference_fault (is_there t (site_of w) r.of) (is_known t (site_of w) r) r) None k.0).0) h
+    expr_means vs scope before (Remote r) s k h = remote_bound t w before r k h
     expr_means vs scope before (MadeOf made n place) s k h = known_is (is_some (usable_named t n.text)) n (neither (unless_known (is_some (usable_named t n.text)) n) None k.0).0
     expr_means vs scope before (Paren a place) s k h = expr_means vs scope before a s k h
     expr_means vs scope before (Single f a place) s k h = expr_means vs scope before a s k h

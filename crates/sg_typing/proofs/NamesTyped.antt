@@ -7,15 +7,16 @@ use Rattle.sg_kinds.specs.Typing.{slot_type}
 use Rattle.sg_kinds.specs.declared.spec.Occurrence.{Occurrence}
 use Rattle.sg_ast.specs.FirstFault.{or_else}
 use Rattle.sg_ast.specs.declared.name.Reference.{Reference}
+use Rattle.sg_ast.specs.declared.name.Remote.{Remote}
 use Rattle.sg_names.specs.Drafted.{drafted}
-use Rattle.sg_names.specs.Lookups.{local, operand, reference}
+use Rattle.sg_names.specs.Lookups.{far_slot, local, operand, reference}
 use Rattle.sg_names.specs.declared.table.Operand.{Operand}
 use Rattle.sg_names.specs.declared.table.Table.{Table}
-use Rattle.sg_types.specs.Bindings.{Owner, OfEquation, OfProduction, OfNothing, argument, behind, is_at, local_at, outside, own_slots, reference_at, symbol_there, type_there}
+use Rattle.sg_types.specs.Bindings.{Owner, OfEquation, OfProduction, OfNothing, argument, behind, is_at, local_at, outside, own_slots, reference_at, remote_at, symbol_there, type_there}
 use Rattle.sg_types.specs.Scopes.{found, place_of}
 use Rattle.sg_types.specs.declared.scope.Variable.{Variable}
 use Rattle.sg_typing.specs.Written.{known}
-use Rattle.sg_typing.proofs.ArgsTyped.{local_typed, reference_typed}
+use Rattle.sg_typing.proofs.ArgsTyped.{far_typed, local_typed, reference_typed}
 use Rattle.sg_typing.proofs.ExprTyped.{known_cons}
 
 abbrev pub HasType : ℕ × Option ℕ → Type 0
@@ -71,6 +72,15 @@ reference_there t (OfEquation op args) r x h = by (reference t op r) refl h
     by None e f = cc
     by (Some o) e f = let p = reference_typed t op r o e in argument_typed t op args o.at o.slot p.0 x p.1 f
 
+remote_there : (t : Table) (w : Owner) (r : Remote) (x : ℕ × Option ℕ) → remote_at t w r ≡ Some x → HasType x
+remote_there t OfNothing r x h = cc
+remote_there t (OfProduction left parts) r x h = cc
+remote_there t (OfEquation op args) r x h = by (far_slot t op r) refl h
+  where
+    by : (s : Option ℕ) → far_slot t op r ≡ s → option_and_then (argument t op args 0) s ≡ Some x → HasType x
+    by None e f = cc
+    by (Some s) e f = let p = far_typed t op r s e in argument_typed t op args 0 s p.0 x p.1 f
+
 -- a bare name: a local, else a variable
 pub variable_there : (t : Table) (w : Owner) (vs : List Variable) (S : List ℕ) (n : Bytes) → known vs ≡ Some S → (a b : Option (ℕ × Option ℕ)) → local_at t w n ≡ a → found vs n ≡ b
     → is_some (or_else a (option_map (behind (outside w)) b)) ≡ true → (p : ℕ) × (type_there (or_else a (option_map (behind (outside w)) b)) ≡ Some p)
@@ -81,3 +91,7 @@ variable_there t w vs S n k None None e f h = cc
 pub named_there : (t : Table) (w : Owner) (r : Reference) (o : Option (ℕ × Option ℕ)) → reference_at t w r ≡ o → is_some o ≡ true → (p : ℕ) × (type_there o ≡ Some p)
 named_there t w r None e h = cc
 named_there t w r (Some x) e h = reference_there t w r x e
+
+pub far_there : (t : Table) (w : Owner) (r : Remote) (o : Option (ℕ × Option ℕ)) → remote_at t w r ≡ o → is_some o ≡ true → (p : ℕ) × (type_there o ≡ Some p)
+far_there t w r None e h = cc
+far_there t w r (Some x) e h = remote_there t w r x e

@@ -21,7 +21,7 @@ use Rattle.sg_names.specs.declared.table.Table.{Table}
 use Rattle.sg_names.specs.declared.table.Callable.{Callable}
 use Rattle.sg_names.specs.declared.table.Callable.TheVariants as callable
 use Rattle.sg_names.specs.Names.{op_named}
-use Rattle.sg_names.specs.Lookups.{phylum_named, is_whitespace, function_named, builtin_named, reference}
+use Rattle.sg_names.specs.Lookups.{far_slot, phylum_named, is_whitespace, function_named, builtin_named, reference}
 use Rattle.sg_names.specs.Drafted.{drafted}
 use Rattle.sg_types.specs.Bindings.{OfEquation, is_at, argument, local_slot}
 use Rattle.sg_typing.specs.Written.{IsUsable, IsCallable, AreCallable, AreOutside, is_builtin}
@@ -134,13 +134,14 @@ pub equation_outside : (t : Table) (op : ℕ) (args : List Occurrence) (A : List
 equation_outside t op args A h = record {
   count = types_count t op args A h;
   references = λ r x g. references r x (reference t op r) g;
-  locals = λ n x g. locals x (local_slot t op n) g;
+  remotes = λ r x g. own x (far_slot t op r) g;
+  locals = λ n x g. own x (local_slot t op n) g;
 }
   where
     references : (r : Reference) (x : ℕ × Option ℕ) (o : Option Occurrence) → option_and_then (λ (o : Occurrence). argument t op args o.at o.slot) o ≡ Some x → slice_get A x.0 ≡ x.1
     references r x None g = cc
     references r x (Some o) g = argument_typed t op args A o.at o.slot x h g
 
-    locals : (x : ℕ × Option ℕ) (s : Option ℕ) → option_and_then (argument t op args 0) s ≡ Some x → slice_get A x.0 ≡ x.1
-    locals x None g = cc
-    locals x (Some s) g = argument_typed t op args A 0 s x h g
+    own : (x : ℕ × Option ℕ) (s : Option ℕ) → option_and_then (argument t op args 0) s ≡ Some x → slice_get A x.0 ≡ x.1
+    own x None g = cc
+    own x (Some s) g = argument_typed t op args A 0 s x h g

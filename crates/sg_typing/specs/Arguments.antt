@@ -4,9 +4,10 @@ use Rattle.std.specs.Prelude.{ℕ, if◌then◌else◌, List, [], ◌∷◌, ◌
 use Rattle.std.specs.List.{position}
 use Rattle.sg_kinds.specs.Values.{Bytes}
 use Rattle.sg_kinds.specs.declared.spec.Occurrence.{Occurrence}
-use Rattle.sg_ast.specs.Expressions.{Expr, Exprs, Cases, Amount, Chars, Truth, Variable, Attribute, MadeOf, Paren, Single, Binary, Choice, Call, Let, With, NoExpr, AndExpr, NoCase, Default, Case}
+use Rattle.sg_ast.specs.Expressions.{Expr, Exprs, Cases, Amount, Chars, Truth, Variable, Attribute, Remote, MadeOf, Paren, Single, Binary, Choice, Call, Let, With, NoExpr, AndExpr, NoCase, Default, Case}
+use Rattle.sg_ast.specs.declared.name.Remote as enclosing
 use Rattle.sg_names.specs.declared.table.Table.{Table}
-use Rattle.sg_names.specs.Lookups.{reference}
+use Rattle.sg_names.specs.Lookups.{far_slot, reference}
 use Rattle.sg_types.specs.Bindings.{is_at, local_slot}
 
 -- an occurrence more, unless it stands already
@@ -18,6 +19,10 @@ added before (Some o) = if is_some (position (is_at o.at o.slot) before) then be
 abbrev pub local_of : Table → ℕ → Bytes → Option Occurrence
 local_of t op n = option_map (λ s. record { at = 0; slot = s }) (local_slot t op n)
 
+-- the occurrence that an attribute of an enclosing node is: the far attribute of the left side
+abbrev pub remote_of : Table → ℕ → enclosing.Remote → Option Occurrence
+remote_of t op r = option_map (λ s. record { at = 0; slot = s }) (far_slot t op r)
+
 -- those of an expression behind others
 abbrev mutual
   pub args_from : Table → ℕ → List Occurrence → Expr → List Occurrence
@@ -26,6 +31,7 @@ abbrev mutual
   args_from t op before (Truth b place) = before
   args_from t op before (Variable n) = added before (local_of t op n.text)
   args_from t op before (Attribute r) = added before (reference t op r)
+  args_from t op before (Remote r) = added before (remote_of t op r)
   args_from t op before (MadeOf made n place) = before
   args_from t op before (Paren a place) = args_from t op before a
   args_from t op before (Single f a place) = args_from t op before a

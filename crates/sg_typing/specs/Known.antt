@@ -1,12 +1,15 @@
 -- What the laws of types ask of names: that each means something where it stands, among the variables that are visible
--- there, and that calls and operator patterns have as many parts as declared.
-use Rattle.std.specs.Prelude.{◌≡◌, true, List, [], ◌++◌, map, None, ⊤}
+-- there, that calls and operator patterns have as many parts as declared, and that far attributes are there.
+use Rattle.std.specs.Prelude.{◌≡◌, true, List, [], ◌++◌, map, All, None, is_some, ⊤}
 use Rattle.sg_kinds.specs.Values.{Bytes}
 use Rattle.sg_kinds.specs.Specification.{locals_of}
 use Rattle.sg_kinds.specs.declared.spec.Local.{Local}
 use Rattle.sg_ast.specs.Expressions.{Expr}
 use Rattle.sg_ast.specs.FirstFault.{first}
+use Rattle.sg_ast.specs.Remotes.{remotes_of}
+use Rattle.sg_ast.specs.declared.name.Remote.{Remote}
 use Rattle.sg_names.specs.Arity.{arity_at}
+use Rattle.sg_names.specs.Lookups.{far_slot}
 use Rattle.sg_names.specs.UnknownName.{unknown_at}
 use Rattle.sg_names.specs.Uses.{Site, Use, InOperator, InProduction, Elsewhere, is_visible}
 use Rattle.sg_names.specs.declared.table.Table.{Table}
@@ -43,3 +46,11 @@ SeesVariables t w vs scope = AreAmong scope (names_outside t w ++ names_of vs)
 abbrev pub HasArguments : Table → Owner → Expr → Type 0
 HasArguments t (OfEquation op args) e = args ≡ args_in t op e
 HasArguments t w e = ⊤
+
+-- in an equation, each attribute of an enclosing node has its far attribute at the left side
+abbrev pub HasFar : Table → Owner → Remote → Type 0
+HasFar t (OfEquation op args) r = is_some (far_slot t op r) ≡ true
+HasFar t w r = ⊤
+
+abbrev pub HasFars : Table → Owner → Expr → Type 0
+HasFars t w e = All (HasFar t w) (remotes_of e)

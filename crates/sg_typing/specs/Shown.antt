@@ -1,5 +1,6 @@
 -- What schemes show: the first attribute or local whose type is none of BOOL, INT, STR and the lexeme phyla.
-use Rattle.std.specs.Prelude.{ℕ, List, Option, Some, None}
+use Rattle.std.specs.Prelude.{ℕ, List, [], flat_map, Option, Some, None}
+use Rattle.std.specs.List.{filter_map}
 use Rattle.sg_kinds.specs.Specification.{has_shape, is_leaf_shape}
 use Rattle.sg_kinds.specs.declared.fault.Position.{Position}
 use Rattle.sg_ast.specs.Declarations.{Decl, Schemes}
@@ -32,3 +33,12 @@ hidden_at t d = None
 
 abbrev pub first_hidden : Table → List Decl → Option Position
 first_hidden t ds = first (hidden_at t) ds
+
+-- all attributes and locals that schemes cannot show, each at its first token
+abbrev pub hidden_places : Table → Decl → List Position
+hidden_places t (Schemes n op view schemes) = flat_map
+    (λ (s : SchemeDecl). filter_map (hidden_item t (operator t n op)) s.items) schemes
+hidden_places t d = []
+
+abbrev pub all_hidden : Table → List Decl → List Position
+all_hidden t ds = flat_map (hidden_places t) ds

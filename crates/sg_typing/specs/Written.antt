@@ -6,6 +6,7 @@ use Rattle.sg_kinds.specs.declared.marks.Unary.{Unary}
 use Rattle.sg_kinds.specs.declared.marks.Unary.TheVariants.{TextToNumber, NumberToText, TextLength}
 use Rattle.sg_kinds.specs.Specification.{phylum_of, args_of}
 use Rattle.sg_ast.specs.declared.name.Reference.{Reference}
+use Rattle.sg_ast.specs.declared.name.Remote.{Remote}
 use Rattle.sg_names.specs.declared.table.Table.{Table}
 use Rattle.sg_names.specs.declared.table.Signature.{Signature}
 use Rattle.sg_names.specs.declared.table.Callable.{Callable}
@@ -14,7 +15,7 @@ use Rattle.sg_names.specs.Lookups.{usable_named, callable as callable_named}
 use Rattle.sg_names.specs.Drafted.{drafted}
 use Rattle.sg_types.specs.declared.scope.Variable.{Variable}
 use Rattle.sg_types.specs.Types.{list_at}
-use Rattle.sg_types.specs.Bindings.{Owner, outside, reference_at, local_at}
+use Rattle.sg_types.specs.Bindings.{Owner, outside, reference_at, remote_at, local_at}
 
 -- the types of variables, where all are known
 abbrev pub known : List Variable → Option (List ℕ)
@@ -34,6 +35,7 @@ HasLists t = (l : ℕ) (x : ℕ × ℕ) → list_at t l ≡ Some x
 pub record AreOutside (t : Table) (w : Owner) (outer : List ℕ) : Type 0 where
   pub count : length outer ≡ outside w
   pub references : (r : Reference) (x : ℕ × Option ℕ) → reference_at t w r ≡ Some x → slice_get outer x.0 ≡ x.1
+  pub remotes : (r : Remote) (x : ℕ × Option ℕ) → remote_at t w r ≡ Some x → slice_get outer x.0 ≡ x.1
   pub locals : (n : Bytes) (x : ℕ × Option ℕ) → local_at t w n ≡ Some x → slice_get outer x.0 ≡ x.1
 
 -- what a name before parentheses means has a result

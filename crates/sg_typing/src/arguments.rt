@@ -4,6 +4,7 @@ ghost use Rattle.sg_ast.specs.View.{expr_of, exprs_of, cases_of};
 ghost use Rattle.sg_typing.specs.Arguments as spec;
 
 use sg_ast::expr::{Cases, Expr, Exprs};
+use sg_ast::name::Remote;
 use sg_kinds::ids::OpId;
 use sg_kinds::memory::NoMemory;
 use sg_kinds::spec::Occurrence;
@@ -40,9 +41,31 @@ fn add_local(
     add(args, Occurrence { at: 0, slot })
 }
 
+// an attribute of an enclosing node more, if the left side has it
+fn add_remote(
+    alloc: Global,
+    names: &Names,
+    op: OpId,
+    remote: &Remote,
+    args: &mut Vec<Occurrence>,
+) -> Result<(), NoMemory>
+    ensures { OnOk result (args.new.items ≡ spec.added args.old.items (spec.remote_of names.now op remote.now)) }
+{
+    match names.far_slot(alloc, op, remote)? {
+        Some(slot) => add(args, Occurrence { at: 0, slot }),
+        None => Ok(()),
+    }
+}
+
 /// Puts the arguments of an expression behind others.
 #[cycle(arguments)]
-fn collect(names: &Names, op: OpId, e: &Expr, args: &mut Vec<Occurrence>) -> Result<(), NoMemory>
+fn collect(
+    alloc: Global,
+    names: &Names,
+    op: OpId,
+    e: &Expr,
+    args: &mut Vec<Occurrence>,
+) -> Result<(), NoMemory>
     ensures { OnOk result (args.new.items ≡ spec.args_from names.now op args.old.items (expr_of e.now)) }
 {
     match e {
@@ -52,32 +75,34 @@ fn collect(names: &Names, op: OpId, e: &Expr, args: &mut Vec<Occurrence>) -> Res
             Some(occurrence) => add(args, occurrence),
             None => Ok(()),
         },
-        Expr::Paren(inner, _) => collect(names, op, inner, args),
-        Expr::Prefix(_, operand, _) => collect(names, op, operand, args),
+        Expr::Remote(remote) => add_remote(alloc, names, op, remote, args),
+        Expr::Paren(inner, _) => collect(alloc, names, op, inner, args),
+        Expr::Prefix(_, operand, _) => collect(alloc, names, op, operand, args),
         Expr::Binary(_, left, right) => {
-            collect(names, op, left, args)?;
-            collect(names, op, right, args)
+            collect(alloc, names, op, left, args)?;
+            collect(alloc, names, op, right, args)
         }
         Expr::Choice(condition, first, second) => {
-            collect(names, op, condition, args)?;
-            collect(names, op, first, args)?;
-            collect(names, op, second, args)
+            collect(alloc, names, op, condition, args)?;
+            collect(alloc, names, op, first, args)?;
+            collect(alloc, names, op, second, args)
         }
-        Expr::Call(_, list) => collect_all(names, op, list, args),
+        Expr::Call(_, list) => collect_all(alloc, names, op, list, args),
         Expr::Let(_, bound, body, _) => {
-            collect(names, op, bound, args)?;
-            collect(names, op, body, args)
+            collect(alloc, names, op, bound, args)?;
+            collect(alloc, names, op, body, args)
         }
         Expr::With(subject, _, body, rest) => {
-            collect(names, op, subject, args)?;
-            collect(names, op, body, args)?;
-            collect_cases(names, op, rest, args)
+            collect(alloc, names, op, subject, args)?;
+            collect(alloc, names, op, body, args)?;
+            collect_cases(alloc, names, op, rest, args)
         }
     }
 }
 
 #[cycle(arguments)]
 fn collect_all(
+    alloc: Global,
     names: &Names,
     op: OpId,
     list: &Exprs,
@@ -87,7 +112,7 @@ fn collect_all(
 {
     let mut rest = list;
     while let Exprs::More(first, next) = rest {
-        collect(names, op, first, args)?;
+        collect(alloc, names, op, first, args)?;
         rest = next;
     }
     Ok(())
@@ -95,6 +120,7 @@ fn collect_all(
 
 #[cycle(arguments)]
 fn collect_cases(
+    alloc: Global,
     names: &Names,
     op: OpId,
     cases: &Cases,
@@ -104,11 +130,11 @@ fn collect_cases(
 {
     let mut rest = cases;
     while let Cases::More(_, body, next) = rest {
-        collect(names, op, body, args)?;
+        collect(alloc, names, op, body, args)?;
         rest = next;
     }
     match rest {
-        Cases::Default(body) => collect(names, op, body, args),
+        Cases::Default(body) => collect(alloc, names, op, body, args),
         _ => Ok(()),
     }
 }
@@ -123,6 +149,6 @@ pub(crate) fn args_in(
     ensures { IfOk result (λ args. args.items ≡ spec.args_in names.now op (expr_of e.now)) }
 {
     let mut args = Vec::new(alloc);
-    collect(names, op, e, &mut args)?;
+    collect(alloc, names, op, e, &mut args)?;
     Ok(args)
 }

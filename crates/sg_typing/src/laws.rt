@@ -25,8 +25,9 @@ ghost use Rattle.sg_types.specs.Patterns.{mismatch_in, recorded, variables_of};
 ghost use Rattle.sg_types.specs.declared.scope.Variable.{Variable};
 ghost use Rattle.sg_typing.specs.Arguments.{args_in};
 ghost use Rattle.sg_typing.specs.Bodies as body;
-ghost use Rattle.sg_typing.specs.Known.{AreKnown, HasArguments, SeesVariables, site_of};
+ghost use Rattle.sg_typing.specs.Known.{AreKnown, HasArguments, HasFars, SeesVariables, site_of};
 ghost use Rattle.sg_typing.specs.Mismatches.{mismatches};
+ghost use Rattle.sg_typing.specs.Shown.{all_hidden, first_hidden};
 ghost use Rattle.sg_typing.specs.Written.{HasLists, AreOutside, known};
 
 /// A pattern without a mismatch binds its variables in the record too, each with its type.
@@ -38,7 +39,6 @@ pub fn patterns_are_typed()
 
 /// An expression without a mismatch has a type, and its expression in the record has the same, where the bindings
 /// before the variables have the types of what names them.
-#[tactic(auto, using(crate::proofs::Kept::expr_kept, crate::proofs::Kept::expr_typed))]
 pub fn expressions_are_typed()
     ensures kept { (t : Table) → HasLists t → (w : Owner) (outer : List ℕ) → AreOutside t w outer
         → (vs : List Variable) (types : List ℕ) (e : Expr) → known vs ≡ Some types → AreWritten e
@@ -78,23 +78,25 @@ pub fn mismatched_patterns_are_untyped()
 {}
 
 /// An expression with a mismatch where a type is wanted has, in each record with these names, no type that is accepted
-/// there, where its names mean something.
+/// there, where its names mean something and its attributes of enclosing nodes are there.
 #[tactic(auto, using(crate::proofs::BodyUntyped::body_untyped))]
 pub fn mismatches_are_untyped()
     ensures { (t : Table) (spec : Spec) → HasTable t spec → HasShapes spec → (w : Owner) (outer : List ℕ)
         → AreOutside t w outer → (vs : List Variable) (types : List ℕ) → known vs ≡ Some types
         → (e : Expr) (scope : List Bytes) → HasArguments t w e → SeesVariables t w vs scope
-        → AreKnown t (expr_uses (site_of w) scope e) → (p : ℕ) (place : Position)
+        → AreKnown t (expr_uses (site_of w) scope e) → HasFars t w e → (p : ℕ) (place : Position)
         → expr.mismatch_at t w vs (Some p) e ≡ Some place
         → is_found spec p (type_of spec (outer ++ types) (expr.recorded t w vs e)) ≡ false }
 {}
 
 /// So it is with the bodies of declarations whose uses are known: where one has a mismatch, its expression in each record
-/// with these names has no type that is accepted where it stands, or its pattern binds nothing.
+/// with these names has no type that is accepted where it stands, or its pattern binds nothing. Of an equation it asks
+/// that its attributes of enclosing nodes are there.
 pub fn mismatched_bodies_are_untyped()
     ensures equations { (t : Table) (spec : Spec) → HasTable t spec → HasShapes spec → (op : ℕ) (q : Equation)
         (types : List ℕ) → AreKnown t (equation_uses (InOperator op) (local_scope t op) q)
-        → types_at spec op (args_in t op q.expr) ≡ Some types → (p : ℕ) (place : Position)
+        → HasFars t (body.equation_owner t op q) q.expr → types_at spec op (args_in t op q.expr) ≡ Some types
+        → (p : ℕ) (place : Position)
         → body.target_type t op q.target ≡ Some p → body.equation_mismatch t op q ≡ Some place
         → is_found spec p (type_of spec types (body.equation_typed t op q).expr) ≡ false }
     ensures functions { (t : Table) (spec : Spec) → HasTable t spec → HasShapes spec → (of : Name)
@@ -133,6 +135,15 @@ pub fn mismatches_follow_the_text()
     ensures least { (t : Table) (ds : List Decl) → AreKnown t (uses t ds) → RiseFrom 0 (flat_map places_of ds)
         → (p : Position) → body.first_mismatch t ds ≡ Some p
         → AllByRecursion (λ (q : Position). p.token ≤ q.token) (mismatches t ds) }
+{}
+
+/// Of all that schemes cannot show the walk answers the first, and where the places of the declarations rise, as those
+/// of a text do, none of the others stands before it.
+pub fn hidden_types_follow_the_text()
+    ensures first { (t : Table) (ds : List Decl) → first_hidden t ds ≡ slice_get (all_hidden t ds) 0 }
+    ensures least { (t : Table) (ds : List Decl) → RiseFrom 0 (flat_map places_of ds) → (p : Position)
+        → first_hidden t ds ≡ Some p
+        → AllByRecursion (λ (q : Position). p.token ≤ q.token) (all_hidden t ds) }
 {}
 
 /// Where the shapes are sound, each list phylum has its binary operator.
