@@ -9,4 +9,6 @@ mod rules_of;
 pub mod targets;
 
 pub use completeness::incomplete;
+pub use narrow::is_narrow;
+pub use owed::{owes, slot_count};
 pub use rules_of::rules;

@@ -5,7 +5,7 @@ ghost use Rattle.sg_equations.specs.Targets.{IsNarrow};
 use sg_names::names::Names;
 
 /// The greatest number of 32 bits.
-const MOST: usize = 4_294_967_295;
+pub(crate) const MOST: usize = 4_294_967_295;
 
 /// Whether operators and the slots of each left side are numbers of 32 bits. They are, but for tables past all memory.
 #[tactic(auto, using(crate::proofs::Places::slots_are, crate::proofs::Places::no_slots))]

@@ -3,10 +3,10 @@ ghost use Rattle.std.specs.Prelude.{◌≡◌, ◌≢◌, ◌++◌, ◌+◌, ◌
 ghost use Rattle.sg_ast.specs.View.{tree_of, trees_of, equation_of};
 ghost use Rattle.sg_equations.specs.Complete.{incomplete as fault_of};
 ghost use Rattle.sg_equations.specs.RulesOf as spec;
-ghost use Rattle.sg_equations.specs.Targets.{IsNarrow, target_there as meaning};
+ghost use Rattle.sg_equations.specs.Targets.{IsNarrow};
 
 use crate::completeness::incomplete;
-use crate::narrow::is_narrow;
+use crate::narrow::{MOST, is_narrow};
 use crate::targets::target_there;
 use sg_ast::decl::{Decl, Equation};
 use sg_kinds::fault::SpecFault;
@@ -129,6 +129,7 @@ fn all_rules(
 /// The rules of the record, one for each equation in the order of the text, or the first fault of the equations: of
 /// the first that defines what its operator does not owe, else of the first that defines what one before it defines,
 /// else of the first operator that owes what no equation defines. `names` and `typed` are those of the declarations.
+/// More rules than numbers of 32 bits are want of memory.
 pub fn rules(
     alloc: Global,
     decls: &[Decl],
@@ -136,6 +137,7 @@ pub fn rules(
     typed: &Typed,
 ) -> Result<Row<Rule>, SpecFault>
     ensures rules { IfOk result (λ rs. rs ≡ spec.rules_in names.now typed.now.exprs 0 (trees_of decls.now)) }
+    ensures few { IfOk result (λ rs. length rs < 2 ^ 32) }
     ensures none { OnOk result (fault_of names.now (trees_of decls.now) ≡ None) }
     ensures fault { IfErr result (λ f. f ≢ SpecFault.NoMemory → fault_of names.now (trees_of decls.now) ≡ Some f) }
 {
@@ -146,5 +148,8 @@ pub fn rules(
         return Err(SpecFault::NoMemory);
     }
     let rules = all_rules(alloc, decls, names, typed.exprs.as_slice())?;
+    if rules.len() > MOST {
+        return Err(SpecFault::NoMemory);
+    }
     Ok(Row::new(rules))
 }

@@ -1,6 +1,6 @@
 //! What equations define.
 ghost use Rattle.std.specs.Prelude.{◌≡◌, ◌++◌, OnOk, IfOk, map};
-ghost use Rattle.sg_ast.specs.View.{trees_of, tree_of, equation_of};
+ghost use Rattle.sg_ast.specs.View.{trees_of, equation_of};
 ghost use Rattle.sg_equations.specs.Targets as spec;
 
 use sg_ast::decl::{Decl, Equation, Target};

@@ -4,7 +4,7 @@ use Rattle.std.specs.Fmt.{decimal}
 use Rattle.sg_kinds.specs.Values.{Bytes}
 use Rattle.sg_kinds.specs.declared.fault.Position.{Position}
 use Rattle.sg_kinds.specs.declared.fault.Counted.{Counted}
-use Rattle.sg_kinds.specs.declared.fault.Counted.TheVariants.{Phyla, Operators, Arity as Arguments, Attributes, Locals, Functions, Parameters, Transforms, Schemes, Productions, Symbols}
+use Rattle.sg_kinds.specs.declared.fault.Counted.TheVariants.{Phyla, Operators, Arity as Arguments, Attributes, Locals, Functions, Parameters, Transforms, Schemes, Productions, Symbols, Views}
 use Rattle.sg_kinds.specs.declared.fault.PrintedSymbol.{PrintedSymbol}
 use Rattle.sg_kinds.specs.declared.fault.PrintedSymbol.TheVariants.{End, Marker, Literal, Name}
 use Rattle.sg_kinds.specs.declared.fault.PrintedItem.{PrintedItem}
@@ -12,7 +12,7 @@ use Rattle.sg_kinds.specs.declared.fault.PrintedConflict.{PrintedConflict}
 use Rattle.sg_kinds.specs.declared.fault.PrintedVertex.{PrintedVertex}
 use Rattle.sg_kinds.specs.declared.fault.PrintedVertex.TheVariants.{Own, Argument, Local}
 use Rattle.sg_kinds.specs.declared.fault.SpecFault.{SpecFault}
-use Rattle.sg_kinds.specs.declared.fault.SpecFault.TheVariants.{TooLong, Byte, Unclosed, LongNumber, LongName, Syntax, Limit, Duplicate, UnknownName, ResultCount, RootCount, ListShape, OptionalShape, NoCompletion, RootInherits, TwiceBound, Arity, Mismatch, ShownType, NotDefinedHere, Twice, Missing, NoScheme, SchemeKids, SchemeText, PatternForm, EmptyLexeme, EntryTwice, EntryType, Unproductive, States, Conflict, Direct, Induced, Ordered, NoMemory}
+use Rattle.sg_kinds.specs.declared.fault.SpecFault.TheVariants.{TooLong, Byte, Unclosed, LongNumber, LongName, Syntax, Limit, Duplicate, UnknownName, ResultCount, RootCount, ListShape, OptionalShape, NoCompletion, RootInherits, TwiceBound, Arity, Mismatch, ShownType, NotDefinedHere, Twice, Missing, NoEnclosing, NoScheme, SchemeKids, SchemeText, PatternForm, EmptyLexeme, EntryTwice, EntryType, Unproductive, States, Conflict, Direct, Induced, Ordered, NoMemory}
 
 -- words, each after a space
 abbrev pub spaced : {X : Type 0} → (X → Bytes) → List X → Bytes
@@ -31,6 +31,7 @@ counted_word Transforms = codes "transforms"
 counted_word Schemes = codes "schemes"
 counted_word Productions = codes "productions"
 counted_word Symbols = codes "symbols"
+counted_word Views = codes "views"
 
 -- a symbol: the end, the marker of an entry's phylum, a literal in its quotes, or a name
 abbrev pub symbol_word : PrintedSymbol → Bytes
@@ -92,6 +93,7 @@ code_of (ShownType place) = codes "ShownType"
 code_of (NotDefinedHere place) = codes "NotDefinedHere"
 code_of (Twice place) = codes "Twice"
 code_of (Missing place op) = codes "Missing"
+code_of (NoEnclosing place) = codes "NoEnclosing"
 code_of (NoScheme place op) = codes "NoScheme"
 code_of (SchemeKids place op) = codes "SchemeKids"
 code_of (SchemeText place) = codes "SchemeText"
@@ -131,6 +133,7 @@ detail_of (ShownType place) = line_text place.line
 detail_of (NotDefinedHere place) = line_text place.line
 detail_of (Twice place) = line_text place.line
 detail_of (Missing place op) = named_text place op
+detail_of (NoEnclosing place) = line_text place.line
 detail_of (NoScheme place op) = named_text place op
 detail_of (SchemeKids place op) = named_text place op
 detail_of (SchemeText place) = line_text place.line

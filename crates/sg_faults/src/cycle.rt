@@ -2,14 +2,21 @@
 ghost use Rattle.std.specs.Prelude.{◌≡◌, ◌++◌, OnOk};
 ghost use Rattle.sg_faults.specs.FaultLine.{cycle_text, vertex_word};
 
-use crate::words::{write_named, write_number};
+use crate::words::write_named;
+use sg_kinds::decimal::write_number;
 use sg_kinds::fault::{Position, PrintedVertex};
 use sg_kinds::memory::NoMemory;
 use sg_kinds::row::Row;
 use sg_kinds::text::Text;
 use std::alloc::Global;
 
-fn write_vertex(alloc: Global, out: &mut Vec<u8>, vertex: &PrintedVertex) -> Result<(), NoMemory>
+/// Writes a vertex: `$$.a` for an attribute of the left side, `P$k.a` for one of the k-th P of the operator, the name
+/// of a local.
+pub fn write_vertex(
+    alloc: Global,
+    out: &mut Vec<u8>,
+    vertex: &PrintedVertex,
+) -> Result<(), NoMemory>
     ensures { OnOk result (out.new.items ≡ out.old.items ++ vertex_word vertex.now) }
 {
     match vertex {
@@ -20,7 +27,7 @@ fn write_vertex(alloc: Global, out: &mut Vec<u8>, vertex: &PrintedVertex) -> Res
         PrintedVertex::Argument(phylum, k, attr) => {
             out.extend_from_slice(phylum.as_slice())?;
             out.push(b'$')?;
-            write_number(alloc, out, *k as usize)?;
+            write_number(alloc, out, *k as u64)?;
             out.push(b'.')?;
             out.extend_from_slice(attr.as_slice())?;
         }

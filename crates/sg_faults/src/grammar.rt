@@ -5,7 +5,8 @@ ghost use Rattle.sg_faults.specs.FaultLine.{conflict_text, item_text, spaced, sy
 use sg_kinds::fault::{PrintedConflict, PrintedItem, PrintedSymbol};
 use sg_kinds::memory::NoMemory;
 
-fn write_symbol(out: &mut Vec<u8>, symbol: &PrintedSymbol) -> Result<(), NoMemory>
+/// Writes a symbol: `end`, `~P` for the marker of phylum P, a literal in its quotes, or a name.
+pub fn write_symbol(out: &mut Vec<u8>, symbol: &PrintedSymbol) -> Result<(), NoMemory>
     ensures { OnOk result (out.new.items ≡ out.old.items ++ symbol_word symbol.now) }
 {
     match symbol {
@@ -34,7 +35,8 @@ fn write_symbols(out: &mut Vec<u8>, symbols: &[PrintedSymbol]) -> Result<(), NoM
     Ok(())
 }
 
-fn write_item(out: &mut Vec<u8>, item: &PrintedItem) -> Result<(), NoMemory>
+/// Writes an item, its left side first, with a `.` at the dot.
+pub fn write_item(out: &mut Vec<u8>, item: &PrintedItem) -> Result<(), NoMemory>
     ensures { OnOk result (out.new.items ≡ out.old.items ++ item_text item.now) }
 {
     match &item.left {

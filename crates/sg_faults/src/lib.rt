@@ -6,4 +6,7 @@ mod grammar;
 mod line;
 mod words;
 
+pub use cycle::write_vertex;
+pub use grammar::{write_item, write_symbol};
 pub use line::fault_line;
+pub use words::write_line;

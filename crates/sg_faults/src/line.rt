@@ -1,10 +1,11 @@
 // The line of a fault.
-ghost use Rattle.std.specs.Prelude.{◌≡◌, ◌++◌, ◌∷◌, [], IfOk, OnOk};
+ghost use Rattle.std.specs.Prelude.{◌≡◌, ◌++◌, IfOk, OnOk};
 ghost use Rattle.sg_faults.specs.FaultLine.{code_of, detail_of, fault_line as line_of};
 
 use crate::cycle::write_cycle;
 use crate::grammar::write_conflict;
-use crate::words::{write_limit, write_line, write_named, write_number};
+use crate::words::{write_limit, write_line, write_named};
+use sg_kinds::decimal::write_number;
 use sg_kinds::fault::SpecFault;
 use sg_kinds::memory::NoMemory;
 use std::alloc::Global;
@@ -36,6 +37,7 @@ fn code(fault: &SpecFault) -> &'static str
         SpecFault::NotDefinedHere(_) => "NotDefinedHere",
         SpecFault::Twice(_) => "Twice",
         SpecFault::Missing(..) => "Missing",
+        SpecFault::NoEnclosing(_) => "NoEnclosing",
         SpecFault::NoScheme(..) => "NoScheme",
         SpecFault::SchemeKids(..) => "SchemeKids",
         SpecFault::SchemeText(_) => "SchemeText",
@@ -67,11 +69,12 @@ fn write_detail(alloc: Global, out: &mut Vec<u8>, fault: &SpecFault) -> Result<(
         | SpecFault::ShownType(place)
         | SpecFault::NotDefinedHere(place)
         | SpecFault::Twice(place)
+        | SpecFault::NoEnclosing(place)
         | SpecFault::SchemeText(place) => write_line(alloc, out, place.line),
         SpecFault::Limit(what, count) => write_limit(alloc, out, *what, *count),
         SpecFault::RootCount(count) => {
             out.push(b' ')?;
-            write_number(alloc, out, *count)
+            write_number(alloc, out, *count as u64)
         }
         SpecFault::Duplicate(place, name)
         | SpecFault::UnknownName(place, name)

@@ -1,28 +1,20 @@
-// Words, numbers and places, written behind what stands.
+// Words, lines and limits, written behind what stands.
 ghost use Rattle.std.specs.Prelude.{◌≡◌, ◌++◌, ◌∷◌, OnOk};
 ghost use Rattle.std.specs.Fmt.{decimal};
 ghost use Rattle.sg_faults.specs.FaultLine.{line_text, named_text, counted_word as word_of};
 
+use sg_kinds::decimal::write_number;
 use sg_kinds::fault::{Counted, Position};
 use sg_kinds::memory::NoMemory;
 use sg_kinds::text::Text;
 use std::alloc::Global;
-
-/// Writes a number in decimal.
-pub fn write_number(alloc: Global, out: &mut Vec<u8>, n: usize) -> Result<(), NoMemory>
-    ensures { OnOk result (out.new.items ≡ out.old.items ++ decimal n) }
-{
-    let digits = n.to_string(alloc)?;
-    out.extend_from_slice(digits.as_bytes())?;
-    Ok(())
-}
 
 /// Writes the number of a line.
 pub fn write_line(alloc: Global, out: &mut Vec<u8>, line: u32) -> Result<(), NoMemory>
     ensures { OnOk result (out.new.items ≡ out.old.items ++ line_text line) }
 {
     out.extend_from_slice(b" line ")?;
-    write_number(alloc, out, line as usize)
+    write_number(alloc, out, line as u64)
 }
 
 /// Writes the line of a place, and a name.
@@ -56,6 +48,7 @@ pub fn counted_word(what: Counted) -> &'static str
         Counted::Schemes => "schemes",
         Counted::Productions => "productions",
         Counted::Symbols => "symbols",
+        Counted::Views => "views",
     }
 }
 
@@ -71,5 +64,5 @@ pub fn write_limit(
     out.push(b' ')?;
     out.extend_from_slice(counted_word(what).as_bytes())?;
     out.push(b' ')?;
-    write_number(alloc, out, count)
+    write_number(alloc, out, count as u64)
 }

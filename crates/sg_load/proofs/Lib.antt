@@ -17,3 +17,4 @@ pub mod SchemesFaults
 pub mod SoundSpec
 pub mod Judging
 pub mod FirstPattern
+pub mod OwnExprs

@@ -2,22 +2,21 @@
 use Rattle.std.proofs.Common.{◌≡◌, ℕ, suc, List, [], ◌∷◌, ◌++◌, map, flat_map, Option, Some, None, Ok, Err, Result, refl, sym, subst}
 use Rattle.std.specs.Prelude.{All}
 use Rattle.std.specs.List.{AllByRecursion, join_by}
-use Rattle.std.proofs.lemmas.List.Elements.{All-from_recursion, recursion_from_All}
-use Rattle.sg_text.specs.declared.symbols.Symbol.TheVariants.{Semicolon, RightParenthesis}
+use Rattle.std.proofs.lemmas.List.Elements.{All-from_recursion}
+use Rattle.sg_text.specs.declared.symbols.Symbol.TheVariants.{Semicolon}
 use Rattle.sg_kinds.specs.Sound.{HasNames}
 use Rattle.sg_kinds.specs.Values.{Bytes}
 use Rattle.sg_kinds.specs.declared.fault.SpecFault.{SpecFault}
-use Rattle.sg_kinds.specs.declared.spec.Local.{Local}
 use Rattle.sg_kinds.specs.declared.spec.Operator.{Operator}
 use Rattle.sg_kinds.specs.declared.spec.Spec.{Spec}
 use Rattle.sg_ast.specs.declared.decl.Alt.{Alt}
 use Rattle.sg_ast.specs.declared.name.Name.{Name}
 use Rattle.sg_ast.specs.Declarations.{Decl, Operators}
-use Rattle.sg_ast.specs.Spelling.{Mark, Piece, sign, bar, spell_alt, spell}
+use Rattle.sg_ast.specs.Spelling.{Mark, sign, bar, spell_alt, spell}
 use Rattle.sg_ast.specs.Spells.{EachSpells}
 use Rattle.sg_names.specs.declared.heads.Head.{Head}
-use Rattle.sg_names.specs.Names.{map_from, operator, operators_at, operators_in, phyla_in, with_local, names_of}
-use Rattle.sg_record.specs.Record.{with_scheme, record_of}
+use Rattle.sg_names.specs.Names.{map_from, operator, operators_at, operators_in, phyla_in, names_of}
+use Rattle.sg_record.specs.Record.{record_of}
 use Rattle.sg_resolve.specs.Resolved.{resolve_fault}
 use Rattle.sg_resolve.proofs.ShapeRows.{no_fault}
 use Rattle.sg_resolve.proofs.ShapeLists.{each_append, each_split}

@@ -19,7 +19,7 @@ use Rattle.sg_dependencies.specs.declared.fault.OrderFault.{OrderFault}
 use Rattle.sg_dependencies.specs.declared.fault.OrderFault.TheVariants as order
 use Rattle.sg_dependencies.specs.Faults.{IsFault}
 use Rattle.sg_dependencies.specs.Vertices.{AreInRange}
-use Rattle.sg_kinds.specs.Ordered.{IsOrdered}
+use Rattle.sg_dependencies.specs.Ordered.{IsOrdered}
 use Rattle.sg_orders.proofs.OneFault.{one_fault as one_order_fault}
 use Rattle.sg_orders.proofs.Refused.{refused}
 use Rattle.sg_reports.specs.Tables.{printed_table}

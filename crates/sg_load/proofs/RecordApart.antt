@@ -8,7 +8,7 @@ use Rattle.sg_kinds.specs.Values.{Bytes}
 use Rattle.sg_kinds.proofs.Elementary.{bytes_is}
 use Rattle.sg_ast.specs.declared.decl.Alt.{Alt}
 use Rattle.sg_ast.specs.Declarations as decl
-use Rattle.sg_ast.specs.Declarations.{Decl}
+use Rattle.sg_ast.specs.Declarations.{Decl, Right}
 use Rattle.sg_names.specs.declared.heads.Head.{Head}
 use Rattle.sg_names.specs.Heads.{is_head, with_head, base_heads}
 use Rattle.sg_names.specs.Names.{phylum_defined, nonterminal_defined, phyla_in, nonterminals_in, names_of}
@@ -17,7 +17,7 @@ use Rattle.sg_counts.specs.declared.definitions.Form.{Form}
 use Rattle.sg_counts.specs.declared.definitions.Form.TheVariants as form
 use Rattle.sg_counts.specs.declared.definitions.Definition.{Definition}
 use Rattle.sg_counts.specs.Definitions.{Space, Phyla, Callables, Key, is_same_space, is_same_key, adds_up, clashes}
-use Rattle.sg_counts.specs.Duplicates.{defined, definitions_of, definitions_in, given, duplicate}
+use Rattle.sg_counts.specs.Duplicates.{defined, expr_defined, definitions_of, definitions_in, given, duplicate}
 use Rattle.sg_resolve.proofs.Counting.{equal_bytes}
 use Rattle.sg_resolve.proofs.ShapeApart.{definitions_apart}
 use Rattle.sg_resolve.proofs.ShapeApart as places
@@ -129,7 +129,11 @@ any_flat p q f g step (x ∷ xs) e = by (list_any p (f x)) refl (sym (list_any-a
     by false h any rest = any_right q (g x) (flat_map g xs) (rest any)
 
 nonterminal_at : (n : Bytes) (d : Decl) → list_any (is_head n) (nonterminal_defined d) ≡ true → list_any (of_nonterminal n) (definitions_of d) ≡ true
-nonterminal_at n (decl.Productions m rights) e = e
+nonterminal_at n (decl.Productions m rights) e = by (bytes_eq n m.text) e
+  where
+    by : (b : Bool) → (b || false) ≡ true → (b || list_any (of_nonterminal n) (flat_map (λ (r : Right). expr_defined r.expr) rights)) ≡ true
+    by true f = refl
+    by false f = absurd (cc f)
 nonterminal_at n d e = absurd (cc e)
 
 phylum_at : (n : Bytes) (d : Decl) → list_any (is_head n) (phylum_defined d) ≡ true → list_any (of_phylum n) (definitions_of d) ≡ true

@@ -1,5 +1,5 @@
 -- The counts of the record of declarations are in their limits.
-use Rattle.std.proofs.Common.{◌≡◌, ℕ, ◌+◌, ◌≤◌, cond, List, [], ◌∷◌, ◌++◌, length, map, None, refl, sym, ap, subst, ◌∙◌, arith, length-append}
+use Rattle.std.proofs.Common.{◌≡◌, ℕ, ◌+◌, ◌<◌, ◌≤◌, ◌^◌, cond, List, [], ◌∷◌, ◌++◌, length, map, None, refl, sym, ap, subst, ◌∙◌, arith, length-append}
 use Rattle.std.specs.List.{All, AllByRecursion, count_by, sum_by, flat_map}
 use Rattle.std.proofs.lemmas.List.{length-map, map-append}
 use Rattle.std.proofs.lemmas.List.Elements.{All-from_recursion, recursion_from_All}
@@ -9,6 +9,7 @@ use Rattle.sg_kinds.specs.Sound.{AreCounted}
 use Rattle.sg_kinds.specs.declared.spec.Operator.{Operator}
 use Rattle.sg_kinds.specs.declared.spec.Production.{Production}
 use Rattle.sg_kinds.specs.declared.spec.Rule.{Rule}
+use Rattle.sg_kinds.specs.declared.spec.Scheme.{Scheme}
 use Rattle.sg_ast.specs.Declarations.{Decl, Right, Transform, Productions}
 use Rattle.sg_counts.specs.Duplicates.{duplicate}
 use Rattle.sg_counts.specs.Limits.{limit, symbols_of, is_transform}
@@ -63,9 +64,9 @@ symbols_limited t ds few =
     all_seen (λ n. n ≤ 16) (λ (r : Production). length r.right) (productions_in t 0 ds)
     (subst (AllByRecursion (λ n. n ≤ 16)) (sym (symbols_in t ds)) (recursion_from_All (λ n. n ≤ 16) (flat_map symbols_of ds) few))
 
-pub record_counted : (ds : List Decl) (rules : List Rule) (lexemes : List Lexeme) → limit ds ≡ None → duplicate ds ≡ None → AreCounted (record_of (names_of ds) ds rules lexemes)
+pub record_counted : (ds : List Decl) (rules : List Rule) (lexemes : List Lexeme) → limit ds ≡ None → duplicate ds ≡ None → length rules < 2 ^ 32 → AreCounted (record_of (names_of ds) ds rules lexemes)
 unfolding record_of
-record_counted ds rules lexemes e once =
+record_counted ds rules lexemes e once few =
     let low = within_limits ds e in
     let names = counts_names ds (record_of (names_of ds) ds rules lexemes) e (table_kept (names_of ds) ds rules lexemes (names_bare ds)) in
     record {
@@ -81,4 +82,7 @@ record_counted ds rules lexemes e once =
           (schemes_limited (names_of ds) ds (recursion_from_All (λ n. n ≤ 16) (flat_map limits.schemes_of ds) low.schemes) once);
       productions = subst (λ n. n ≤ 1024) (sym (productions_counted (names_of ds) ds)) low.productions;
       symbols = All-from_recursion (λ (r : Production). length r.right ≤ 16) (productions_in (names_of ds) 0 ds) (symbols_limited (names_of ds) ds low.symbols);
+      rules = few;
+      views = omega arith;
+      rows = All-from_recursion (λ (row : List (List Scheme)). All (λ (ss : List Scheme). length ss ≤ 16) row) [] tt;
     }

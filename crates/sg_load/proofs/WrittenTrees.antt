@@ -5,7 +5,7 @@ use Rattle.sg_text.specs.declared.words.Keyword.TheVariants as keyword
 use Rattle.sg_ast.specs.Levels.{symbol_of}
 use Rattle.sg_ast.specs.Patterns.{Pattern, Patterns, NoPattern, AndPattern}
 use Rattle.sg_ast.specs.Patterns as p
-use Rattle.sg_ast.specs.Expressions.{Expr, Exprs, Cases, Amount, Chars, Truth, Variable, Attribute, MadeOf, Paren, Single, Binary, Choice, Call, Let, With, NoExpr, AndExpr, NoCase, Default, Case}
+use Rattle.sg_ast.specs.Expressions.{Expr, Exprs, Cases, Amount, Chars, Truth, Variable, Attribute, Remote, MadeOf, Paren, Single, Binary, Choice, Call, Let, With, NoExpr, AndExpr, NoCase, Default, Case}
 use Rattle.sg_ast.specs.Spelling.{Piece, sign, word, spell_pattern, spell_patterns, spell_more_patterns, spell_expr, spell_exprs, spell_more_exprs, spell_cases}
 use Rattle.sg_ast.specs.Grouped.{HasNumbers, HaveNumbers, IsGrouped, AreGrouped, HasGrouped}
 use Rattle.sg_ast.specs.Written.{HasValues, HaveValues, AreWritten, AreWrittenAll, AreWrittenCases}
@@ -47,6 +47,7 @@ mutual
   expr_written (Truth b place) g h = tt
   expr_written (Variable n) g h = tt
   expr_written (Attribute r) g h = tt
+  expr_written (Remote r) g h = tt
   expr_written (MadeOf made n place) g h = tt
   expr_written (Paren a place) g h = expr_written a g (parts (spell_expr a) (sign RightParenthesis ∷ []) h.1).0
   expr_written (Single f a place) g h = expr_written a g.1 h.1

@@ -10,3 +10,4 @@ pub mod Only
 pub mod Loaded
 pub mod PartsOf
 pub mod PatternPlaces
+pub mod OwnExprs

@@ -10,6 +10,8 @@ rest_of spec = record {
   lexemes = spec.lexemes;
   productions = spec.productions;
   entries = spec.entries;
+  levels = spec.levels;
+  views = spec.views;
   root = spec.root;
 }
 
@@ -24,5 +26,7 @@ joined rules rest = record {
   lexemes = rest.lexemes;
   productions = rest.productions;
   entries = rest.entries;
+  levels = rest.levels;
+  views = rest.views;
   root = rest.root;
 }

@@ -14,6 +14,7 @@ ghost use Rattle.sg_load.specs.Patterns.{HasNoForm, IsEmptyLexeme, IsPatternForm
 ghost use Rattle.sg_kinds.specs.declared.spec.Operator.{Operator};
 ghost use Rattle.sg_kinds.specs.declared.spec.Spec.{Spec};
 ghost use Rattle.sg_load.specs.FreeNames.{IsFreeName, operator_names};
+ghost use Rattle.sg_load.specs.OwnExprs.{HasOwnExprs};
 ghost use Rattle.sg_load.specs.Trees.{trees_in};
 ghost use Rattle.sg_load.specs.Verdict.{Accepted, IsVerdict};
 ghost use Rattle.sg_names.specs.Names.{names_of};
@@ -21,7 +22,7 @@ ghost use Rattle.sg_names.specs.Shapes.{result_count};
 ghost use Rattle.sg_ast.specs.Written.{HaveWritten};
 ghost use Rattle.sg_record.specs.Premises.{AreApart};
 ghost use Rattle.sg_record.specs.Record.{record_of};
-ghost use Rattle.std.specs.Prelude.{◌≡◌, All, List, None, Ok, flat_map};
+ghost use Rattle.std.specs.Prelude.{◌≡◌, ◌<◌, ◌^◌, All, List, None, Ok, flat_map, length};
 
 /// The trees that are read of a text have values as their literals, and lists that may not be empty are not.
 #[tactic(auto, using(crate::proofs::WrittenLaws::read_written))]
@@ -41,11 +42,16 @@ pub fn accepted_names_are_right()
     ensures distinct { (bytes : Bytes) (spec : Spec) → IsVerdict bytes (Accepted spec) → HasNames spec }
 {}
 
-/// The counts of the record are in their limits where none of the declarations is over its own and no definition is a
-/// second one.
+/// No equation of it has the expression of a function, a transformation or an input production.
+pub fn equations_have_own_expressions()
+    ensures { (bytes : Bytes) (spec : Spec) → IsVerdict bytes (Accepted spec) → HasOwnExprs spec }
+{}
+
+/// The counts of the record are in their limits where none of the declarations is over its own, no definition is a
+/// second one, and the rules are numbers of 32 bits.
 pub fn records_are_counted()
     ensures { (ds : List Decl) (rules : List Rule) (lexemes : List Lexeme) → limit ds ≡ None → duplicate ds ≡ None
-        → AreCounted (record_of (names_of ds) ds rules lexemes) }
+        → length rules < 2 ^ 32 → AreCounted (record_of (names_of ds) ds rules lexemes) }
 {}
 
 /// Where no definition is a second one, no nonterminal has the name of a phylum.

@@ -9,4 +9,6 @@ mod patterns;
 mod trees;
 
 pub use loaded::Loaded;
-pub use loading::load;
+pub use loading::{assembled, complete, load};
+pub use parts::{Rest, join, split};
+pub use trees::read as declarations;

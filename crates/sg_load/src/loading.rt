@@ -13,7 +13,7 @@ ghost use Rattle.sg_ast.specs.FirstFault.{or_else};
 ghost use Rattle.sg_schemes.specs.Places.{scheme_kids as kids_row};
 ghost use Rattle.sg_schemes.specs.Strings.{scheme_text as text_row};
 ghost use Rattle.sg_load.specs.FirstFault as rows;
-ghost use Rattle.sg_load.specs.FirstFault.{HasNoFaultOf, HaveNoFault, late_phases, shown_phases};
+ghost use Rattle.sg_load.specs.FirstFault.{HasNoFaultOf, HaveNoFault, early_phases, late_phases, phases, shown_phases};
 ghost use Rattle.sg_load.specs.FirstFault.Phase.{Tables as TablesPhase, Order as OrderPhase};
 ghost use Rattle.sg_patterns.specs.LexemesOf.{AreLexemesOf};
 ghost use Rattle.sg_load.specs.Only.{AreTheLexemes, IsTheFault, IsTheFaultOf, IsTheJudgement, IsTheSpec, IsTheVerdict};
@@ -139,7 +139,7 @@ fn judge_order(alloc: Global, decls: &[Decl], spec: Spec) -> Result<(Spec, Plans
 }
 
 /// What is kept of a record, or the fault of its input grammar, or else of its order of evaluation.
-fn complete(alloc: Global, decls: &[Decl], spec: Spec) -> Result<Loaded, SpecFault>
+pub fn complete(alloc: Global, decls: &[Decl], spec: Spec) -> Result<Loaded, SpecFault>
     requires the { IsTheSpec (trees_of decls.now) spec }
     requires sound { IsSound spec }
     ensures same { IfOk result (λ l. l.spec ≡ spec) }
@@ -175,8 +175,9 @@ fn shown(alloc: Global, decls: &[Decl], names: &Names) -> Result<Row<Lexeme>, Sp
     Ok(lexemes)
 }
 
-/// The record of declarations, or the first fault of their schemes, lexemes and entries.
-fn assemble(
+/// The record of declarations with these names, types and rules, or the first fault of their schemes, lexemes and
+/// entries.
+fn recorded(
     alloc: Global,
     decls: &[Decl],
     names: Names,
@@ -196,6 +197,21 @@ fn assemble(
     Ok(record(alloc, decls, names, typed, rules, lexemes)?)
 }
 
+/// The record of declarations, or their first fault; but the faults of the record's input grammar and of its order of
+/// evaluation, which `complete` finds.
+pub fn assembled(alloc: Global, decls: &[Decl]) -> Result<Spec, SpecFault>
+    requires written { HaveWritten (trees_of decls.now) }
+    ensures the { IfOk result (IsTheSpec (trees_of decls.now)) }
+    ensures sound { IfOk result IsSound }
+    ensures none { OnOk result (HaveNoFault (trees_of decls.now) (early_phases ++ shown_phases)) }
+    ensures fault { IfErr result (λ f. f ≢ SpecFault.NoMemory → IsTheFault (trees_of decls.now) phases f) }
+{
+    let names = resolve(alloc, decls)?;
+    let typed = check(alloc, decls, &names)?;
+    let rules = rules(alloc, decls, &names, &typed)?;
+    recorded(alloc, decls, names, typed, rules)
+}
+
 /// What is kept of declarations, or their first fault.
 fn judge(alloc: Global, decls: &[Decl]) -> Result<Loaded, SpecFault>
     requires written { HaveWritten (trees_of decls.now) }
@@ -206,10 +222,7 @@ fn judge(alloc: Global, decls: &[Decl]) -> Result<Loaded, SpecFault>
     ensures lexemes { IfOk result (λ l. AreLexemesOf l.spec l.lexemes) }
     ensures refused { IfErr result (λ f. f ≢ SpecFault.NoMemory → IsTheJudgement (trees_of decls.now) (Refused f)) }
 {
-    let names = resolve(alloc, decls)?;
-    let typed = check(alloc, decls, &names)?;
-    let rules = rules(alloc, decls, &names, &typed)?;
-    let spec = assemble(alloc, decls, names, typed, rules)?;
+    let spec = assembled(alloc, decls)?;
     complete(alloc, decls, spec)
 }
 

@@ -6,21 +6,24 @@ ghost use Rattle.sg_load.specs.PartsOf.{rest_of, joined};
 use sg_kinds::ids::PhylumId;
 use sg_kinds::lexeme::Lexeme;
 use sg_kinds::row::Row;
-use sg_kinds::spec::{Entry, Function, Production, Rules, Spec, Transform};
+use sg_kinds::spec::{Entry, Function, LevelLine, Production, Rules, Spec, Transform};
+use sg_kinds::views::Views;
 
 /// What a record has besides its attribute equations.
 #[derive(Drop)]
-pub(crate) struct Rest {
-    functions: Row<Function>,
-    transforms: Row<Transform>,
-    lexemes: Row<Lexeme>,
-    productions: Row<Production>,
-    entries: Row<Entry>,
-    root: PhylumId,
+pub struct Rest {
+    pub functions: Row<Function>,
+    pub transforms: Row<Transform>,
+    pub lexemes: Row<Lexeme>,
+    pub productions: Row<Production>,
+    pub entries: Row<Entry>,
+    pub levels: Row<LevelLine>,
+    pub views: Views,
+    pub root: PhylumId,
 }
 
 /// The two parts of a record.
-pub(crate) fn split(spec: Spec) -> (Rules, Rest)
+pub fn split(spec: Spec) -> (Rules, Rest)
     ensures rules { result.0 ≡ rules_of spec }
     ensures rest { result.1 ≡ rest_of spec }
 {
@@ -34,6 +37,8 @@ pub(crate) fn split(spec: Spec) -> (Rules, Rest)
         lexemes,
         productions,
         entries,
+        levels,
+        views,
         root,
     } = spec;
     let rules = Rules {
@@ -48,13 +53,15 @@ pub(crate) fn split(spec: Spec) -> (Rules, Rest)
         lexemes,
         productions,
         entries,
+        levels,
+        views,
         root,
     };
     (rules, rest)
 }
 
 /// The record of two parts.
-pub(crate) fn join(rules: Rules, rest: Rest) -> Spec
+pub fn join(rules: Rules, rest: Rest) -> Spec
     ensures { result ≡ joined rules rest }
 {
     Spec {
@@ -67,6 +74,8 @@ pub(crate) fn join(rules: Rules, rest: Rest) -> Spec
         lexemes: rest.lexemes,
         productions: rest.productions,
         entries: rest.entries,
+        levels: rest.levels,
+        views: rest.views,
         root: rest.root,
     }
 }

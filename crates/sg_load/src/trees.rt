@@ -7,12 +7,10 @@ ghost use Rattle.sg_load.specs.Trees.{token_fault as fault_of, trees_in};
 
 use sg_ast::decl::Decl;
 use sg_kinds::fault::SpecFault;
+use sg_kinds::limits::TEXT_BYTES;
 use sg_reader::ReadFault;
 use sg_text::{LexFault, lex, line_at};
 use std::alloc::Global;
-
-/// The most bytes of a specification.
-const MOST: usize = 1_048_576;
 
 /// The line of a place; past the end it is the last one.
 #[tactic(auto, using(crate::proofs::Tokens::line_at_end))]
@@ -43,7 +41,7 @@ fn parsed(alloc: Global, bytes: &[u8]) -> Result<Vec<Decl>, SpecFault>
     ensures trees { IfOk result (λ ds. trees_in bytes.now ≡ Ok (trees_of ds.items)) }
     ensures fault { IfErr result (λ f. f ≢ SpecFault.NoMemory → trees_in bytes.now ≡ Err f) }
 {
-    if bytes.len() > MOST {
+    if bytes.len() > TEXT_BYTES {
         return Err(SpecFault::TooLong);
     }
     let tokens = match lex(alloc, bytes) {
@@ -58,7 +56,7 @@ fn parsed(alloc: Global, bytes: &[u8]) -> Result<Vec<Decl>, SpecFault>
 }
 
 /// The declarations of a text, or the first fault of its length, its tokens and its syntax.
-pub(crate) fn read(alloc: Global, bytes: &[u8]) -> Result<Vec<Decl>, SpecFault>
+pub fn read(alloc: Global, bytes: &[u8]) -> Result<Vec<Decl>, SpecFault>
     ensures trees { IfOk result (λ ds. trees_in bytes.now ≡ Ok (trees_of ds.items)) }
     ensures written { IfOk result (λ ds. HaveWritten (trees_of ds.items)) }
     ensures fault { IfErr result (λ f. f ≢ SpecFault.NoMemory → trees_in bytes.now ≡ Err f) }

@@ -32,18 +32,18 @@ use Rattle.sg_record.proofs.Known.{AreKnown, IsFine, phylum_known, named_of_usab
 use Rattle.sg_record.proofs.Lists.{each_parts, each_weaker}
 
 -- functions by their declarations
-abbrev made_at : List Head → ℕ → Decl → List Function
+abbrev pub made_at : List Head → ℕ → Decl → List Function
 made_at phyla k (decl.Function of n params e) = with_body (signature phyla of n params) k ∷ []
 made_at phyla k d = []
 
-functions_made : (phyla : List Head) (k : ℕ) (ds : List Decl) → with_bodies (each_from body_at k ds) (flat_map (function_at phyla) ds) ≡ each_from (made_at phyla) k ds
+pub functions_made : (phyla : List Head) (k : ℕ) (ds : List Decl) → with_bodies (each_from body_at k ds) (flat_map (function_at phyla) ds) ≡ each_from (made_at phyla) k ds
 functions_made phyla k [] = refl
 functions_made phyla k (decl.Function of n params e ∷ ds) = ap (λ (l : List Function). with_body (signature phyla of n params) k ∷ l) (functions_made phyla (k + 1) ds)
 functions_made phyla k (d ∷ ds) = functions_made phyla (k + expr_count d) ds
 
 -- expressions outside equations and productions have no bindings before their variables
 pub nothing_outside : (t : Table) → AreOutside t OfNothing []
-nothing_outside t = record { count = refl; references = λ r x h. absurd (cc h); locals = λ n x h. absurd (cc h) }
+nothing_outside t = record { count = refl; references = λ r x h. absurd (cc h); remotes = λ r x h. absurd (cc h); locals = λ n x h. absurd (cc h) }
 
 module _ (ds : List Decl) (spec : Spec) (kept : HasTable (names_of ds) spec) where
   -- the phylum of a name that is used

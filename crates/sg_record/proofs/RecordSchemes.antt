@@ -7,6 +7,7 @@ use Rattle.std.proofs.lemmas.List.{length-append}
 use Rattle.std.proofs.lemmas.List.Sums.{sum_by-cons}
 use Rattle.std.proofs.lemmas.List.Elements.{All-from_recursion}
 use Rattle.std.proofs.lemmas.Option.{slice_get_within}
+use Rattle.sg_kinds.specs.InView.{schemes_in_view}
 use Rattle.sg_kinds.specs.Sound.{HasSchemes, IsScheme, IsItem, IsShown, is_place, separators_fit, is_pair, root, argument}
 use Rattle.sg_kinds.specs.Specification.{args_of, phylum_of, has_shape, is_list_shape, is_leaf_shape}
 use Rattle.sg_kinds.specs.Typing.{slot_type}
@@ -16,6 +17,7 @@ use Rattle.sg_kinds.specs.declared.spec.Occurrence.{Occurrence}
 use Rattle.sg_kinds.specs.declared.spec.Operator.{Operator}
 use Rattle.sg_kinds.specs.declared.spec.Scheme.{Scheme}
 use Rattle.sg_kinds.specs.declared.spec.Spec.{Spec}
+use Rattle.sg_kinds.specs.declared.views.Views.{Views}
 use Rattle.sg_kinds.proofs.Elementary.{eq_is, eq_itself}
 use Rattle.sg_ast.specs.declared.decl.Item.{Item as Written}
 use Rattle.sg_ast.specs.declared.decl.Item.TheVariants.{Writes, Child, Shows, Separates}
@@ -236,11 +238,20 @@ module _ (t : Table) (spec : Spec) (kept : HasTable t spec) where
   shown_kept (argument op p q own is there) =
       argument op p q (sym (phylum_kept t spec kept op) ∙ own) (shown_kept is) (subst (λ (l : List ℕ). Contains l q) (args_kept t spec kept op) there)
 
+-- without views no operator has schemes in one
+none_viewed : (v op : ℕ) → schemes_in_view (record { names = []; rows = [] }) v op ≡ []
+none_viewed zero op = refl
+none_viewed (suc v) op = refl
+
 -- the schemes of the record fit their operators, and the operators of shown phyla have some
 pub record_schemes : (ds : List Decl) (spec : Spec) → HasTable (names_of ds) spec → spec.ops ≡ with_schemes (schemes_of (names_of ds) ds) (names_of ds).ops → Each IsWritten ds
-    → IsNoScheme (names_of ds) ds None → scheme_kids (names_of ds) ds ≡ None → first_hidden (names_of ds) ds ≡ None → HasSchemes spec
-record_schemes ds spec kept made written none kids hid = record { shown = shown_have; schemes = schemes_fit }
+    → IsNoScheme (names_of ds) ds None → scheme_kids (names_of ds) ds ≡ None → first_hidden (names_of ds) ds ≡ None
+    → spec.views ≡ record { names = []; rows = [] } → HasSchemes spec
+record_schemes ds spec kept made written none kids hid viewed = record { shown = shown_have; schemes = schemes_fit; views = in_views }
   where
+    in_views : (v op : ℕ) → op < length spec.ops → All (IsScheme spec op) (schemes_in_view spec.views v op)
+    in_views v op low = subst (All (IsScheme spec op)) (sym (ap (λ (x : Views). schemes_in_view x v op) viewed ∙ none_viewed v op)) (All-from_recursion (IsScheme spec op) [] tt)
+
     schemes_fit : (op : ℕ) (o : Operator) → slice_get spec.ops op ≡ Some o → All (IsScheme spec op) o.schemes
     schemes_fit op o at =
         let there = made_there (with_scheme (schemes_of (names_of ds) ds)) (names_of ds).ops op o (ap (λ l. slice_get l op) (sym made) ∙ at) in

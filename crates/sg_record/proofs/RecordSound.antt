@@ -71,7 +71,7 @@ module _ (ds : List Decl) (rules : List Rule) (lexemes : List Lexeme) (written :
 
   pub record_shown : IsNoScheme (names_of ds) ds None → scheme_kids (names_of ds) ds ≡ None → first_fault (names_of ds) ds ≡ None → HasShapes (record_of (names_of ds) ds rules lexemes) → HasSchemes (record_of (names_of ds) ds rules lexemes)
   unfolding record_of
-  record_shown none kids typed shapes = record_schemes ds (record_of (names_of ds) ds rules lexemes) kept refl written none kids (no_hidden (names_of ds) ds typed)
+  record_shown none kids typed shapes = record_schemes ds (record_of (names_of ds) ds rules lexemes) kept refl written none kids (no_hidden (names_of ds) ds typed) refl
 
   pub record_entered : unknown_name (names_of ds) ds ≡ None → result_count (names_of ds) ≡ None → entry_twice (names_of ds) ds ≡ None → entry_type (names_of ds) ds ≡ None → HasEntries (record_of (names_of ds) ds rules lexemes)
   unfolding record_of

@@ -192,6 +192,7 @@ module _ (t : Table) (parts : List Part) (G : List ℕ) (have : PartsHave t part
   production_outside left = record {
     count = parts_count t parts G have;
     references = reference_there left;
+    remotes = λ r x h. absurd (cc h);
     locals = λ n x h. absurd (cc h);
   }
 

@@ -1,6 +1,7 @@
 -- The record of a specification: what its names mean, what is kept of its expressions, its rules and its lexemes, and
--- from its declarations the schemes, the bodies of functions, the transformations, the productions and the entries. A
--- name that means nothing has the number 0; where no name is unknown, there is none.
+-- from its declarations the schemes, the bodies of functions, the transformations, the productions, the entries and the
+-- precedence lines. It has no views. A name that means nothing has the number 0; where no name is unknown, there is
+-- none.
 use Rattle.std.specs.Prelude.{ℕ, ◌+◌, List, [], ◌∷◌, ◌++◌, map, flat_map, Option, Some, None, unwrap_or}
 use Rattle.sg_kinds.specs.Values.{Bytes}
 use Rattle.sg_kinds.specs.Lexemes.{Lexeme}
@@ -16,6 +17,7 @@ use Rattle.sg_kinds.specs.declared.spec.Transform.{Transform}
 use Rattle.sg_kinds.specs.declared.spec.Symbol.{Symbol}
 use Rattle.sg_kinds.specs.declared.spec.Production.{Production}
 use Rattle.sg_kinds.specs.declared.spec.Entry.{Entry}
+use Rattle.sg_kinds.specs.declared.spec.LevelLine.{LevelLine}
 use Rattle.sg_kinds.specs.declared.spec.Spec.{Spec}
 use Rattle.sg_kinds.specs.declared.spec.Item.TheVariants.{Writes, Child, Shows, Separates}
 use Rattle.sg_kinds.specs.declared.spec.Symbol.TheVariants.{Quoted, Lexical, Nonterminal}
@@ -153,6 +155,11 @@ abbrev pub entry_at : Table → Decl → List Entry
 entry_at t (decl.Entry n m a) = record { phylum = phylum_in t n.text; nonterminal = nonterminal_in t m.text } ∷ []
 entry_at t d = []
 
+-- precedence lines
+abbrev pub levels_at : Decl → List LevelLine
+levels_at (decl.Precedence g ls place) = record { group = g; literals = map (λ (s : String). s.text) ls } ∷ []
+levels_at d = []
+
 -- the record, from the table of the declarations' names, their rules and their lexemes
 unfoldable pub record_of : Table → List Decl → List Rule → List Lexeme → Spec
 record_of t ds rules lexemes = record {
@@ -165,5 +172,7 @@ record_of t ds rules lexemes = record {
   lexemes = lexemes;
   productions = productions_in t 0 ds;
   entries = flat_map (entry_at t) ds;
+  levels = flat_map levels_at ds;
+  views = record { names = []; rows = [] };
   root = t.root;
 }

@@ -8,7 +8,6 @@ use sg_ast::decl::Decl;
 use sg_kinds::expr::Expr;
 use sg_kinds::ids::ExprId;
 use sg_kinds::memory::NoMemory;
-use sg_kinds::row::Row;
 use sg_kinds::spec::Function;
 use sg_names::table::Signature;
 use sg_typing::{TypedExpr, expr_count};

@@ -4,6 +4,7 @@
 mod bodies;
 pub mod entries;
 pub mod laws;
+mod levels;
 pub mod pieces;
 mod productions;
 pub mod record;

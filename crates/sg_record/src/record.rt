@@ -10,6 +10,7 @@ ghost use Rattle.sg_typing.specs.declared.bodies.TypedExpr.{TypedExpr};
 
 use crate::bodies::{bodies, exprs, with_bodies};
 use crate::entries::entries;
+use crate::levels::levels;
 use crate::productions::productions;
 use crate::schemes::{schemes, with_schemes};
 use crate::transforms::transforms;
@@ -20,7 +21,8 @@ use sg_kinds::lexeme::Lexeme;
 use sg_kinds::memory::NoMemory;
 use sg_kinds::pattern::Pattern;
 use sg_kinds::row::Row;
-use sg_kinds::spec::{Entry, Production, Rule, Scheme, Spec, Transform};
+use sg_kinds::spec::{Entry, LevelLine, Production, Rule, Scheme, Spec, Transform};
+use sg_kinds::views::Views;
 use sg_names::groups::Groups;
 use sg_names::names::Names;
 use sg_names::table::Table;
@@ -34,6 +36,7 @@ pub(crate) struct Given {
     transforms: Vec<Transform>,
     productions: Vec<Production>,
     entries: Vec<Entry>,
+    levels: Vec<LevelLine>,
     bodies: Vec<ExprId>,
 }
 
@@ -50,12 +53,14 @@ fn parts(
     let schemes = schemes(alloc, decls, names)?;
     let productions = productions(alloc, decls, names)?;
     let entries = entries(alloc, decls, names)?;
+    let levels = levels(alloc, decls)?;
     let bodies = bodies(alloc, decls)?;
     Ok(Given {
         schemes,
         transforms,
         productions,
         entries,
+        levels,
         bodies,
     })
 }
@@ -84,6 +89,8 @@ fn assembled(
         lexemes,
         productions: Row::new(parts.productions),
         entries: Row::new(parts.entries),
+        levels: Row::new(parts.levels),
+        views: Views::none(alloc),
         root: table.root,
     })
 }

@@ -6,7 +6,6 @@ ghost use Rattle.sg_typing.specs.Bodies.{patterns_in};
 
 use crate::bodies::{after, expr_id};
 use sg_ast::decl::Decl;
-use sg_ast::name::{Name, Quoted};
 use sg_kinds::ids::PhylumId;
 use sg_kinds::memory::NoMemory;
 use sg_kinds::pattern::Pattern;

@@ -1,5 +1,5 @@
 -- The symbols of the grammar as they are printed.
-use Rattle.std.specs.Prelude.{ℕ, suc, if◌then◌else◌, nat_eq, List, [], ◌∷◌, ◌++◌, map, slice_get, slice_index_or, option_map, unwrap_or}
+use Rattle.std.specs.Prelude.{ℕ, suc, if◌then◌else◌, nat_eq, List, [], ◌∷◌, ◌++◌, map, slice_index_or}
 use Rattle.sg_kinds.specs.Values.{Bytes}
 use Rattle.sg_kinds.specs.Specification.{is_lexical_shape, phylum_name}
 use Rattle.sg_kinds.specs.declared.spec.Phylum.{Phylum}

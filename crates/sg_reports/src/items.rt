@@ -43,7 +43,7 @@ fn left_of(
 }
 
 /// An item as it is printed.
-pub(crate) fn printed_item(
+pub fn printed_item(
     alloc: Global,
     spec: &Spec,
     grammar: &Grammar,

@@ -1,10 +1,10 @@
 //! Faults of tables and of ordering, as they are printed.
 #![tactic(auto)]
 
-mod items;
+pub mod items;
 pub mod laws;
 pub mod orders;
-mod places;
-mod symbols;
+pub mod places;
+pub mod symbols;
 pub mod tables;
-mod vertices;
+pub mod vertices;

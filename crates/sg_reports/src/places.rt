@@ -3,7 +3,6 @@ ghost use Rattle.std.specs.Prelude.{◌≡◌, ◌++◌, map, flat_map, IfOk, On
 ghost use Rattle.sg_ast.specs.View.{tree_of, trees_of, right_of};
 ghost use Rattle.sg_ast.specs.Declarations.{Right as RightTree};
 ghost use Rattle.sg_ast.specs.declared.decl.Alt.{Alt as AltTree};
-ghost use Rattle.sg_ast.specs.FirstFault.{first};
 ghost use Rattle.sg_ast.specs.Parts.{head_at, head_place, op_places_at};
 ghost use Rattle.sg_reports.specs.Places as spec;
 
@@ -15,8 +14,8 @@ use std::alloc::Global;
 /// Where what is not there stands.
 const NOWHERE: Position = Position { token: 0, line: 0 };
 
-/// The place at a number.
-pub(crate) fn place_in(places: &[Position], k: u32) -> Position
+/// The place at a number; token 0 of line 0 past the last.
+pub fn place_in(places: &[Position], k: u32) -> Position
     ensures { result ≡ spec.place_in places.now k }
 {
     match places.get(k as usize) {
@@ -67,7 +66,7 @@ fn push_rights_at(places: &mut Vec<Position>, decl: &Decl) -> Result<(), NoMemor
 }
 
 /// The places of all operators, in their order.
-pub(crate) fn operator_places(alloc: Global, decls: &[Decl]) -> Result<Vec<Position>, NoMemory>
+pub fn operator_places(alloc: Global, decls: &[Decl]) -> Result<Vec<Position>, NoMemory>
     ensures { IfOk result (λ v. v.items ≡ spec.operator_places (trees_of decls.now)) }
 {
     let mut places = Vec::new(alloc);
@@ -100,7 +99,7 @@ fn push_entries(places: &mut Vec<Position>, decls: &[Decl]) -> Result<(), NoMemo
 }
 
 /// The places of all productions in their order, and behind them those of the entries.
-pub(crate) fn production_places(alloc: Global, decls: &[Decl]) -> Result<Vec<Position>, NoMemory>
+pub fn production_places(alloc: Global, decls: &[Decl]) -> Result<Vec<Position>, NoMemory>
     ensures { IfOk result (λ v. v.items ≡ spec.production_places (trees_of decls.now)) }
 {
     let mut places = Vec::new(alloc);
@@ -119,8 +118,8 @@ fn head_at(name: &[u8], decl: &Decl) -> Option<Position>
     }
 }
 
-/// Where the first declaration of productions of a nonterminal names it.
-pub(crate) fn head_place(name: &[u8], decls: &[Decl]) -> Position
+/// Where the first declaration of productions of a nonterminal names it; token 0 of line 0 where none does.
+pub fn head_place(name: &[u8], decls: &[Decl]) -> Position
     ensures { result ≡ head_place name.now (trees_of decls.now) }
 {
     for decl in decls {

@@ -1,6 +1,5 @@
 //! The symbols of the grammar as they are printed.
 ghost use Rattle.std.specs.Prelude.{◌≡◌, ◌++◌, map, IfOk, OnOk};
-ghost use Rattle.sg_patterns.specs.Lexemes.{literals_of};
 ghost use Rattle.sg_kinds.specs.Specification.{phylum_name};
 ghost use Rattle.sg_reports.specs.Symbols.{marker_of, lexeme_symbols, nonterminal_symbols, printed_symbols, symbol_in, name_of};
 
@@ -14,12 +13,8 @@ use sg_kinds::text::Text;
 use sg_patterns::Lexemes;
 use std::alloc::Global;
 
-/// The name of a phylum.
-pub(crate) fn phylum_name(
-    alloc: Global,
-    phyla: &Row<Phylum>,
-    phylum: PhylumId,
-) -> Result<Text, NoMemory>
+/// The name of a phylum, empty past the last.
+pub fn phylum_name(alloc: Global, phyla: &Row<Phylum>, phylum: PhylumId) -> Result<Text, NoMemory>
     ensures { IfOk result (λ t. t ≡ phylum_name phyla.now phylum) }
 {
     match phyla.place(phylum.number) {
@@ -96,7 +91,7 @@ fn push_nonterminals(
 }
 
 /// The symbols of the grammar of a specification, in the order of their numbers.
-pub(crate) fn printed_symbols(alloc: Global, spec: &Spec) -> Result<Vec<PrintedSymbol>, NoMemory>
+pub fn printed_symbols(alloc: Global, spec: &Spec) -> Result<Vec<PrintedSymbol>, NoMemory>
     ensures { IfOk result (λ v. v.items ≡ printed_symbols spec.now) }
 {
     let lexemes = Lexemes::new(alloc, spec)?;
@@ -121,8 +116,8 @@ fn copy(alloc: Global, symbol: &PrintedSymbol) -> Result<PrintedSymbol, NoMemory
     }
 }
 
-/// The symbol with a number.
-pub(crate) fn symbol_in(
+/// The symbol with a number, `End` past the last.
+pub fn symbol_in(
     alloc: Global,
     symbols: &[PrintedSymbol],
     x: u32,
@@ -136,7 +131,7 @@ pub(crate) fn symbol_in(
 }
 
 /// The symbols with these numbers.
-pub(crate) fn symbols_in(
+pub fn symbols_in(
     alloc: Global,
     symbols: &[PrintedSymbol],
     numbers: &[u32],
@@ -150,8 +145,8 @@ pub(crate) fn symbols_in(
     Ok(Row::new(found))
 }
 
-/// The name of the symbol with a number, if it has one.
-pub(crate) fn name_in(alloc: Global, symbols: &[PrintedSymbol], x: u32) -> Result<Text, NoMemory>
+/// The name of the symbol with a number, empty where it has none.
+pub fn name_in(alloc: Global, symbols: &[PrintedSymbol], x: u32) -> Result<Text, NoMemory>
     ensures { IfOk result (λ t. t ≡ name_of (symbol_in symbols.now x)) }
 {
     match symbols.get(x as usize) {

@@ -108,7 +108,7 @@ fn push_arguments(
 }
 
 /// The vertices of an operator, in the order of their numbers.
-fn vertices_of(
+pub fn vertices_of(
     alloc: Global,
     phyla: &Row<Phylum>,
     operator: &Operator,
@@ -163,8 +163,8 @@ fn vertex_in(alloc: Global, vertices: &[PrintedVertex], m: usize) -> Result<Prin
     }
 }
 
-/// A cycle of an operator as it is printed.
-pub(crate) fn printed_cycle(
+/// A cycle of an operator, by the numbers of its vertices, as it is printed.
+pub fn printed_cycle(
     alloc: Global,
     spec: &Spec,
     op: OpId,
@@ -180,8 +180,8 @@ pub(crate) fn printed_cycle(
     Ok(Row::new(printed))
 }
 
-/// The name of an operator.
-pub(crate) fn operator_name(alloc: Global, spec: &Spec, op: OpId) -> Result<Text, NoMemory>
+/// The name of an operator, empty past the last.
+pub fn operator_name(alloc: Global, spec: &Spec, op: OpId) -> Result<Text, NoMemory>
     ensures { IfOk result (λ t. t ≡ operator_name spec.now op) }
 {
     match spec.ops.place(op.number) {

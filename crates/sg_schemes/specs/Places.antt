@@ -1,6 +1,5 @@
 -- The first scheme whose places are not the arguments of its operator, or which has a separator where none may stand.
 use Rattle.std.specs.Prelude.{ℕ, suc, Bool, true, false, ◌&&◌, if◌then◌else◌, List, [], ◌∷◌, length, count_by, nat_eq, Option, Some, None, option_and_then}
-use Rattle.sg_kinds.specs.Values.{Bytes}
 use Rattle.sg_kinds.specs.Specification.{args_of, has_shape, is_list_shape}
 use Rattle.sg_kinds.specs.declared.fault.SpecFault.{SpecFault}
 use Rattle.sg_kinds.specs.declared.fault.SpecFault.TheVariants as fault

@@ -1,5 +1,5 @@
 //! Places of schemes.
-ghost use Rattle.std.specs.Prelude.{◌≡◌, length, count_by, nat_eq, IfOk};
+ghost use Rattle.std.specs.Prelude.{◌≡◌, count_by, IfOk};
 ghost use Rattle.std.specs.Prelude.{◌&&◌};
 ghost use Rattle.sg_kinds.specs.Specification.{has_shape, is_list_shape};
 ghost use Rattle.sg_ast.specs.FirstFault.{first};

@@ -1,5 +1,5 @@
 use Rattle.std.proofs.Common.{sym, subst}
-use Rattle.sg_kinds.specs.Ordered.{IsOrdered}
+use Rattle.sg_dependencies.specs.Ordered.{IsOrdered}
 use Rattle.sg_ast.specs.View.{trees_of}
 use Rattle.sg_dependencies.specs.Vertices.{AreInRange}
 use Rattle.sg_dependencies.specs.Proper.{AreProper}

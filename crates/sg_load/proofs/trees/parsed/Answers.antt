@@ -8,4 +8,4 @@ pub read-requires : goal.read-requires
 read-requires c =
     let few : length c.in-Ok.tokens.items ≤ length c.args.bytes.now = token_count c.args.bytes.now c.in-Ok.tokens.items c.in-Ok.ensures.each c.in-Ok.ensures.in_order in
     let P : List Token → Type 0 = λ ts. length ts < 4294967296 in
-    record { short = subst P (sym c.deref.ensures.value) (grind (arith, nat_tests, few, c.if-bytes-gt-MOST.false)) }
+    record { short = subst P (sym c.deref.ensures.value) (grind (arith, nat_tests, few, c.if-bytes-gt-TEXT_BYTES.false)) }

@@ -1,7 +1,6 @@
 use Rattle.std.proofs.Common.{◌≡◌, drop}
-use Rattle.sg_ast.specs.FirstFault.{first}
 use Rattle.sg_ast.specs.View.{trees_of}
-use Rattle.sg_schemes.specs.Strings.{decl_fault, scheme_text}
+use Rattle.sg_schemes.specs.Strings.{scheme_text}
 use Rattle.sg_schemes.proofs.strings.scheme_text.Given as goal
 
 abbrev pub invariant-loop-decl : goal.invariant-loop-decl
