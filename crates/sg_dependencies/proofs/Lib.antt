@@ -8,12 +8,9 @@ pub mod Spreads
 pub mod Gathers
 pub mod Closed
 pub mod Directs
-pub mod Slotted
 pub mod Sound
 pub mod Whole
 pub mod RoundSteps
 pub mod Reports
 pub mod Saturated
-pub mod Apart
-pub mod Distinct
 pub mod SoundRules

@@ -8,8 +8,8 @@ use Rattle.sg_sets.proofs.CyclesLemmas.{IsCycle-wider, StartsLeast-narrower, IsS
 use Rattle.sg_sets.proofs.PathsLemmas.{Path-append}
 use Rattle.sg_kinds.specs.declared.spec.Rules.{Rules}
 use Rattle.sg_kinds.specs.declared.spec.Occurrence.{Occurrence}
-use Rattle.sg_kinds.specs.Ordered as order
-use Rattle.sg_kinds.specs.Ordered.{Leads, IsAcyclic}
+use Rattle.sg_dependencies.specs.Ordered as order
+use Rattle.sg_dependencies.specs.Ordered.{Leads, IsAcyclic}
 use Rattle.sg_kinds.specs.Visits.{vertex}
 use Rattle.sg_dependencies.specs.Vertices.{Numbered, AreRowsOf}
 use Rattle.sg_dependencies.specs.Reported.{IsReported}

@@ -1,19 +1,20 @@
 -- The equations of a sound specification are in range, and define what is theirs, and nothing twice.
-use Rattle.std.specs.Prelude.{◌≡◌, ◌≢◌, ℕ, zero, suc, ◌+◌, ◌*◌, ◌<◌, ◌≤◌, ◌&&◌, Bool, true, false, not, nat_eq, bytes_eq, cond, List, [], ◌∷◌, length, map, count_by, Option, None, Some, slice_get, option_map, option_and_then, unwrap_or, is_some, All, AllPairs, IsTrue}
-use Rattle.std.proofs.Common.{refl, ap, ◌∙◌, subst, get_or, arith, inl, inr, length-append}
+use Rattle.std.specs.Prelude.{◌≡◌, ℕ, zero, suc, ◌+◌, ◌<◌, ◌≤◌, ◌&&◌, Bool, true, false, not, nat_eq, bytes_eq, cond, List, [], ◌∷◌, length, map, count_by, Option, None, Some, slice_get, option_map, option_and_then, unwrap_or, is_some, All, AllPairs, IsTrue}
+use Rattle.std.proofs.Common.{refl, ap, ◌∙◌, subst, get_or, arith, length-append}
 use Rattle.std.proofs.lemmas.Bool.{false≢true, and_parts, and_from, eq-eqb}
-use Rattle.std.proofs.lemmas.List.{length-map, get_or-map}
-use Rattle.std.proofs.lemmas.List.Sums.{sum_by-cons, get_or-le-sum_by}
-use Rattle.std.proofs.lemmas.Option.{slice_get_within, slice_get_cases}
+use Rattle.std.proofs.lemmas.List.{length-map}
+use Rattle.std.proofs.lemmas.List.Filters.{length-filter_both}
+use Rattle.std.proofs.lemmas.List.Sums.{sum_by-cons, get_or-le-sum_by, length-filter}
+use Rattle.std.proofs.lemmas.Option.{slice_get_within}
 use Rattle.sg_kinds.specs.declared.spec.Spec.{Spec}
 use Rattle.sg_kinds.specs.declared.spec.Rule.{Rule}
-use Rattle.sg_kinds.specs.declared.spec.Operator.{Operator}
 use Rattle.sg_kinds.specs.declared.spec.Phylum.{Phylum}
 use Rattle.sg_kinds.specs.declared.spec.Local.{Local}
 use Rattle.sg_kinds.specs.declared.spec.Attr.{Attr}
 use Rattle.sg_kinds.specs.declared.spec.Occurrence.{Occurrence}
 use Rattle.sg_kinds.specs.Specification.{attrs_of, args_of, locals_of, phylum_of, is_inherited, is_way_inherited, is_lexical_shape, rules_of}
 use Rattle.sg_kinds.specs.Instances.{attr_count, defines}
+use Rattle.sg_kinds.specs.Far.{is_far, is_written}
 use Rattle.sg_kinds.specs.Dependencies.{is_inherited_there, phylum_there, occurrence}
 use Rattle.sg_kinds.specs.Sound as sound
 use Rattle.sg_kinds.specs.Sound.{AreCounted, HasShapes, HasRules, is_rule_typed}
@@ -21,8 +22,6 @@ use Rattle.sg_kinds.specs.Typing.{whitespace, is_usable, slot_type, slots_there,
 use Rattle.sg_dependencies.specs.Proper.{is_owed, AreApart, AreProper}
 use Rattle.sg_dependencies.specs.Vertices.{IsVertex, locals_there, AreInRange}
 use Rattle.sg_dependencies.proofs.Directs.{op_there}
-use Rattle.sg_dependencies.proofs.Distinct.{distinct_few}
-use Rattle.sg_dependencies.proofs.Numbers.{vertex_there}
 
 usable_low : (spec : Spec) (p : ℕ) → IsTrue (is_usable spec p) → p < length spec.phyla
 usable_low spec p is = by (slice_get spec.phyla p) refl is
@@ -107,9 +106,6 @@ count_two p (x ∷ xs) (suc i) (suc j) d less low first second =
     omega (arith, sum_by-cons (λ y. cond (p y) 1 0) x xs, rest)
 
 module _ (spec : Spec) (counted : AreCounted spec) (shapes : HasShapes spec) (rules : HasRules spec) where
-  owed_at : (k : ℕ) (r : Rule) → k < length spec.rules → get_or spec.rules k r ≡ r → IsVertex (rules_of spec) r.op r.target × (is_owed (rules_of spec) r.op r.target.at r.target.slot ≡ true)
-  owed_at k r low at = owed_vertex spec r.op r.target.at r.target.slot (subst (λ (x : Rule). IsTrue (sound.is_owed spec x.op x.target.at x.target.slot)) at (rules.no_other k r low))
-
   targets : All (λ (r : Rule). IsVertex (rules_of spec) r.op r.target) spec.rules
   targets k d low = (owed_vertex spec (get_or spec.rules k d).op (get_or spec.rules k d).target.at (get_or spec.rules k d).target.slot (rules.no_other k d low)).0
 
@@ -133,108 +129,17 @@ module _ (spec : Spec) (counted : AreCounted spec) (shapes : HasShapes spec) (ru
     once = apart;
   }
 
-  -- what an equation defines, as a number
-  code : Rule → ℕ
-  code r = (r.op * 17 + r.target.at) * 64 + r.target.slot
-
-  record IsCoded (r : Rule) : Type 0 where
-    op : r.op < 2048
-    at : r.target.at < 17
-    slot : r.target.slot < 64
-
-  attrs_few : (o : Option ℕ) → attr_count (rules_of spec) o ≤ 32
-  attrs_few None = omega arith
-  attrs_few (Some X) = elim (slice_get_cases spec.phyla X).1 [
-    | inl is ↦
-        let few = counted.attrs X is.0 is.1 in
-        let same : length (attrs_of spec.phyla X) ≡ length is.0.attrs = ap (λ o. length (unwrap_or (option_map (λ (x : Phylum). x.attrs) o) [])) is.2 in
-        omega (arith, few, same, ap (λ (x : Phylum). length x.attrs) is.3)
-    | inr past ↦
-        let none : length (attrs_of spec.phyla X) ≡ 0 = ap (λ o. length (unwrap_or (option_map (λ (x : Phylum). x.attrs) o) [])) past.1 in
-        omega (arith, none)
-  ]
-
-  locals_few : (p k : ℕ) → locals_there (rules_of spec) p k ≤ 32
-  locals_few p (suc k) = omega arith
-  locals_few p zero = elim (slice_get_cases spec.ops p).1 [
-    | inl is ↦
-        let few = counted.locals p is.0 is.1 in
-        let same : length (locals_of spec.ops p) ≡ length is.0.locals = ap (λ o. length (unwrap_or (option_map (λ (x : Operator). x.locals) o) [])) is.2 in
-        omega (arith, few, same, ap (λ (x : Operator). length x.locals) is.3)
-    | inr past ↦
-        let none : length (locals_of spec.ops p) ≡ 0 = ap (λ o. length (unwrap_or (option_map (λ (x : Operator). x.locals) o) [])) past.1 in
-        omega (arith, none)
-  ]
-
-  args_few : (p : ℕ) → length (args_of spec.ops p) ≤ 16
-  args_few p = elim (slice_get_cases spec.ops p).1 [
-    | inl is ↦
-        let few = counted.args p is.0 is.1 in
-        let same : length (args_of spec.ops p) ≡ length is.0.args = ap (λ o. length (unwrap_or (option_map (λ (x : Operator). x.args) o) [])) is.2 in
-        omega (arith, few, same, ap (λ (x : Operator). length x.args) is.3)
-    | inr past ↦
-        let none : length (args_of spec.ops p) ≡ 0 = ap (λ o. length (unwrap_or (option_map (λ (x : Operator). x.args) o) [])) past.1 in
-        omega (arith, none)
-  ]
-
-  coded : (k : ℕ) (d : Rule) → k < length spec.rules → IsCoded (get_or spec.rules k d)
-  coded k d low =
-      let r = get_or spec.rules k d in
-      let is = targets k d low in
-      let op = op_there (rules_of spec) r.op r.target is in
-      let few = counted.ops in
-      let at = vertex_there (rules_of spec) r.op r.target is in
-      let args = args_few r.op in
-      let attrs = attrs_few (phylum_there spec.ops r.op r.target.at) in
-      let locals = locals_few r.op r.target.at in
-      record { op = omega (arith, op, few); at = omega (arith, at, args); slot = omega (arith, is, attrs, locals) }
-
-  no_rule : Rule
-  no_rule = record { op = 0; target = record { at = 0; slot = 0 }; args = []; expr = 0 }
-
-  same_target : (x y : Occurrence) → x.at ≡ y.at → x.slot ≡ y.slot → x ≡ y
-  same_target x y e f = ap (λ k. occurrence k x.slot) e ∙ ap (λ a. occurrence y.at a) f
-
-  codes_apart : AllPairs ◌≢◌ (map code spec.rules)
-  unfolding code
-  codes_apart i j d less low same =
-      let there : j < length spec.rules = omega (arith, low, length-map spec.rules code) in
-      let before : i < length spec.rules = omega (arith, less, there) in
-      let x = get_or spec.rules i no_rule in
-      let y = get_or spec.rules j no_rule in
-      let first : get_or (map code spec.rules) i d ≡ (x.op * 17 + x.target.at) * 64 + x.target.slot = get_or-map code spec.rules i no_rule d before in
-      let second : get_or (map code spec.rules) j d ≡ (y.op * 17 + y.target.at) * 64 + y.target.slot = get_or-map code spec.rules j no_rule d there in
-      let c = coded i no_rule before in
-      let e = coded j no_rule there in
-      let c_at = c.at in
-      let c_slot = c.slot in
-      let e_at = e.at in
-      let e_slot = e.slot in
-      let slots : x.target.slot ≡ y.target.slot = omega (arith, same, first, second, c_slot, e_slot) in
-      let ats : x.target.at ≡ y.target.at = omega (arith, same, first, second, slots, c_at, e_at) in
-      let ops : x.op ≡ y.op = omega (arith, same, first, second, slots, ats) in
-      apart i j no_rule less there ops (same_target x.target y.target ats slots)
-
-  codes_low : All (λ n. n < 2228224) (map code spec.rules)
-  unfolding code
-  codes_low k d low =
-      let there : k < length spec.rules = omega (arith, low, length-map spec.rules code) in
-      let x = get_or spec.rules k no_rule in
-      let at : get_or (map code spec.rules) k d ≡ (x.op * 17 + x.target.at) * 64 + x.target.slot = get_or-map code spec.rules k no_rule d there in
-      let c = coded k no_rule there in
-      let op = c.op in
-      let place = c.at in
-      let slot = c.slot in
-      omega (arith, at, op, place, slot)
-
   pub sound_range : AreInRange (rules_of spec)
   sound_range = record {
     few = record {
       ops = let f = counted.ops in omega (arith, f);
-      attrs = λ k d low. let f = counted.attrs k d low in omega (arith, f);
+      attrs = λ k d low.
+          let f = counted.attrs k d low in
+          let all = (get_or spec.phyla k d).attrs in
+          omega (arith, f.0, f.1, length-filter_both is_written is_far (λ a. refl) all, length-filter is_written all, length-filter is_far all);
       args = λ k d low. let f = counted.args k d low in omega (arith, f);
       locals = λ k d low. let f = counted.locals k d low in omega (arith, f);
-      equations = let n = distinct_few 2228224 (map code spec.rules) codes_apart codes_low in omega (arith, n, length-map spec.rules code);
+      equations = counted.rules;
     };
     phyla = record {
       left = shapes.ops;

@@ -4,7 +4,7 @@ use Rattle.sg_kinds.specs.declared.spec.Rules.{Rules}
 use Rattle.sg_kinds.specs.declared.spec.Occurrence.{Occurrence}
 use Rattle.sg_kinds.specs.Dependencies as depend
 use Rattle.sg_kinds.specs.Layers.{IsLayering, Extended}
-use Rattle.sg_kinds.specs.Ordered.{IsAcyclic}
+use Rattle.sg_dependencies.specs.Ordered.{IsAcyclic}
 use Rattle.sg_dependencies.specs.Vertices.{Numbered}
 use Rattle.sg_dependencies.specs.Reported.{IsReported}
 use Rattle.sg_dependencies.specs.declared.fault.OrderFault.{OrderFault}

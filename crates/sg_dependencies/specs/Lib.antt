@@ -1,7 +1,7 @@
 pub mod Vertices
-pub mod Slots
 pub mod Reported
 pub mod Induced
+pub mod Ordered
 pub mod Faults
 pub mod Frames
 pub mod Rounds

@@ -1,5 +1,5 @@
 -- The steps from the direct dependencies to all of them.
-use Rattle.std.specs.Prelude.{◌≡◌, ◌↔◌, ◌⊎◌, ℕ, ◌+◌, ◌<◌, ◌≤◌, ◌^◌, Bool, false, List, [], length, replicate, slice_index_or, Contains, All}
+use Rattle.std.specs.Prelude.{◌≡◌, ℕ, ◌+◌, ◌<◌, ◌≤◌, ◌^◌, Bool, false, List, [], length, replicate, slice_index_or, Contains, All}
 use Rattle.sg_sets.specs.Rows.{Holds}
 use Rattle.sg_sets.specs.Paths.{Path}
 use Rattle.sg_sets.specs.Cycles.{HasNoCycle}

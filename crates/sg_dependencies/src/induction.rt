@@ -10,7 +10,7 @@ ghost use Rattle.sg_dependencies.specs.Vertices.{AreInRange, AreRowsOf};
 
 use crate::cycles::first_cycle;
 use crate::dependencies::Dependencies;
-use crate::direct::direct;
+use crate::equations::direct;
 use crate::fault::OrderFault;
 use crate::frame::Frame;
 use crate::rounds::saturate;

@@ -1,6 +1,6 @@
 //! Rounds over all operators, until the dependencies of no phylum grow.
 ghost use Rattle.std.specs.Prelude.{◌≡◌, ℕ, ◌+◌, ◌<◌, ◌≤◌, ◌^◌, ◌↔◌, ◌⊎◌, if◌then◌else◌, length, sum_by, All, IfOk, OnOk};
-ghost use Rattle.std.specs.Bool.{OnTrue, OnFalse};
+ghost use Rattle.std.specs.Bool.{OnFalse};
 ghost use Rattle.sg_sets.specs.Paths.{Path};
 ghost use Rattle.sg_sets.specs.Rows.{Holds, all_missing};
 ghost use Rattle.sg_dependencies.specs.Induced.{relation_at};

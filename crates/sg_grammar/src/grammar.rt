@@ -1,5 +1,5 @@
 //! `Grammar`, productions over numbered symbols.
-ghost use Rattle.std.specs.Prelude.{◌≡◌, ◌+◌, ◌<◌, ◌≤◌, ◌↔◌, ◌++◌, ◌^◌, ℕ, suc, length, slice_get, All, IsTrue, IfOk, IfSome, IfNone, Some};
+ghost use Rattle.std.specs.Prelude.{◌≡◌, ◌+◌, ◌<◌, ◌≤◌, ◌↔◌, ◌^◌, ℕ, length, slice_get, All, IsTrue, IfOk, IfSome, IfNone, Some};
 ghost use Rattle.sg_grammar.specs.Grammar.{grammar, right_of, symbol_at};
 ghost use Rattle.sg_grammar.specs.WellFormed.{AreBetween, IsRule, IsStart, IsWellFormed};
 

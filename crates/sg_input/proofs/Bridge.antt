@@ -7,8 +7,8 @@ use Rattle.std.proofs.lemmas.Option.{same_Some, none-some, slice_get-get_or}
 use Rattle.sg_kinds.specs.Values.{Bytes, Value, Chars}
 use Rattle.sg_kinds.specs.Outcome.{outcome_of}
 use Rattle.sg_kinds.specs.Sound.{IsSound}
-use Rattle.sg_kinds.specs.Derivation as named
-use Rattle.sg_kinds.specs.Derivation.{InputPiece}
+use Rattle.sg_input.specs.Derivation as named
+use Rattle.sg_kinds.specs.InputPieces.{InputPiece}
 use Rattle.sg_kinds.specs.declared.spec.Production as record_of
 use Rattle.sg_kinds.specs.declared.spec.Spec.{Spec}
 use Rattle.sg_kinds.specs.declared.spec.Symbol.{Symbol}

@@ -8,3 +8,4 @@ pub mod Answering
 pub mod Entries
 pub mod Texts
 pub mod Worked
+pub mod Derived

@@ -9,7 +9,8 @@ use Rattle.std.proofs.lemmas.Option.{same_Some, none-some}
 use Rattle.sg_kinds.specs.Values.{Bytes, Value, Fault, is_text, is_text_byte}
 use Rattle.sg_kinds.specs.SameValue.{both}
 use Rattle.sg_kinds.specs.Sound.{IsSound}
-use Rattle.sg_kinds.specs.Derivation.{InputPiece, IsSentence, derives}
+use Rattle.sg_kinds.specs.InputPieces.{InputPiece}
+use Rattle.sg_input.specs.Derivation.{IsSentence, derives}
 use Rattle.sg_kinds.specs.declared.marks.FaultKind.{FaultKind}
 use Rattle.sg_kinds.specs.declared.spec.Entry.{Entry}
 use Rattle.sg_kinds.specs.declared.spec.Spec.{Spec}

@@ -9,7 +9,7 @@ use Rattle.sg_kinds.specs.Values.{Bytes, Value, Chars}
 use Rattle.sg_kinds.specs.Evaluation.{untyped}
 use Rattle.sg_kinds.specs.Outcome.{outcome_of}
 use Rattle.sg_kinds.specs.Sound.{IsSound}
-use Rattle.sg_kinds.specs.Derivation.{derives}
+use Rattle.sg_input.specs.Derivation.{derives}
 use Rattle.sg_kinds.specs.declared.spec.Spec.{Spec}
 use Rattle.sg_pool.specs.Pools.{value_at, IsGrown, StandsFor}
 use Rattle.sg_patterns.specs.declared.scanning.InToken.{InToken}

@@ -2,7 +2,7 @@
 use Rattle.std.proofs.Common.{◌≡◌, ℕ, ◌+◌, ◌<◌, inl, inr, true, List, [], ◌∷◌, length, refl, sym, subst, Some, None}
 use Rattle.std.specs.Prelude.{◌⊎◌, Option}
 use Rattle.sg_kinds.specs.Values.{Bytes, Value, Truth, Number, Chars, Tree, Fault, is_text}
-use Rattle.sg_kinds.specs.Derivation.{derives}
+use Rattle.sg_input.specs.Derivation.{derives}
 use Rattle.sg_kinds.specs.Sound.{IsSound}
 use Rattle.sg_kinds.specs.declared.spec.Spec.{Spec}
 use Rattle.sg_patterns.specs.LexemesOf.{AreLexemesOf}

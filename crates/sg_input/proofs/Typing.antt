@@ -16,7 +16,8 @@ use Rattle.sg_kinds.specs.SameValue.{both}
 use Rattle.sg_kinds.specs.Sound.{IsSound, symbol_type, symbol_types, result_type}
 use Rattle.sg_kinds.specs.Specification.{has_shape, is_lexical_shape}
 use Rattle.sg_kinds.specs.Typing.{is_usable, is_accepted}
-use Rattle.sg_kinds.specs.Derivation.{InputPiece, Derives, nothing, literal, lexeme, under, derives}
+use Rattle.sg_kinds.specs.InputPieces.{InputPiece}
+use Rattle.sg_input.specs.Derivation.{Derives, nothing, literal, lexeme, under, derives}
 use Rattle.sg_kinds.specs.declared.marks.Shape.{Shape}
 use Rattle.sg_kinds.specs.declared.marks.Shape.TheVariants as shape
 use Rattle.sg_kinds.specs.declared.spec.Entry.{Entry}

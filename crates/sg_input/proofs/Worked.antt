@@ -5,7 +5,8 @@ use Rattle.std.proofs.lemmas.List.{length-append}
 use Rattle.sg_kinds.specs.Values.{Bytes, Value, Number, Chars, Tree, NoValue, AndValue}
 use Rattle.sg_kinds.specs.Matches.{none}
 use Rattle.sg_kinds.specs.Outcome.{outcome_of}
-use Rattle.sg_kinds.specs.Derivation.{InputPiece, Derives, derives, nothing, literal, lexeme, under}
+use Rattle.sg_kinds.specs.InputPieces.{InputPiece}
+use Rattle.sg_input.specs.Derivation.{Derives, derives, nothing, literal, lexeme, under}
 use Rattle.sg_kinds.specs.declared.spec.Symbol.{Symbol}
 use Rattle.sg_kinds.specs.declared.spec.Symbol.TheVariants.{Quoted, Lexical, Nonterminal}
 use Rattle.sg_kinds.specs.declared.spec.Production.{Production}

@@ -1,3 +1,4 @@
+pub mod Derivation
 pub mod Pieces
 pub mod Failing
 pub mod Entered

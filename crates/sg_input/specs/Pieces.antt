@@ -2,7 +2,7 @@
 use Rattle.std.specs.Prelude.{ℕ, ◌-◌, ◌<◌, ◌≤◌, Bool, false, if◌then◌else◌, nat_eq, nat_lt, List, [], length, map, take, drop, slice_index_or, All}
 use Rattle.std.specs.List.{position_or_len}
 use Rattle.sg_kinds.specs.Values.{Bytes}
-use Rattle.sg_kinds.specs.Derivation.{InputPiece}
+use Rattle.sg_kinds.specs.InputPieces.{InputPiece}
 use Rattle.sg_kinds.specs.declared.marks.Shape.{Shape}
 use Rattle.sg_kinds.specs.declared.marks.Shape.TheVariants as shape
 use Rattle.sg_kinds.specs.declared.spec.Phylum.{Phylum}

@@ -1,6 +1,7 @@
 //! Laws of what texts become, each as the contract of a function without code.
 ghost use Rattle.std.specs.Prelude.{◌≡◌, ℕ, ◌<◌, List, length};
-ghost use Rattle.sg_kinds.specs.Derivation.{InputPiece, IsSentence};
+ghost use Rattle.sg_kinds.specs.InputPieces.{InputPiece};
+ghost use Rattle.sg_input.specs.Derivation.{IsSentence};
 ghost use Rattle.sg_kinds.specs.Sound.{IsSound};
 ghost use Rattle.sg_kinds.specs.Values.{Bytes};
 ghost use Rattle.sg_kinds.specs.declared.spec.Spec.{Spec};

@@ -1,6 +1,6 @@
 //! The parser over tables.
 ghost use Rattle.std.specs.Prelude.{◌≡◌, ◌<◌, IfOk, IfErr, MatchResult, length};
-ghost use Rattle.sg_kinds.specs.Derivation.{derives};
+ghost use Rattle.sg_input.specs.Derivation.{derives};
 ghost use Rattle.sg_kinds.specs.Sound.{IsSound};
 ghost use Rattle.sg_kinds.specs.Values.{Value as IsValue};
 ghost use Rattle.sg_grammar.specs.Numbered.{grammar_of};

@@ -1,5 +1,5 @@
 //! The stacks of the parser.
-ghost use Rattle.std.specs.Prelude.{◌≡◌, ℕ, ◌-◌, ◌+◌, ◌<◌, ◌≤◌, List, [], ◌∷◌, ◌++◌, map, take, drop, length, slice_index, All, IfOk, OnOk};
+ghost use Rattle.std.specs.Prelude.{◌≡◌, ℕ, ◌-◌, ◌+◌, ◌<◌, ◌≤◌, [], ◌∷◌, ◌++◌, map, take, drop, length, slice_index, All, IfOk, OnOk};
 ghost use Rattle.sg_kinds.specs.Values.{Value, Chars};
 ghost use Rattle.sg_pool.specs.Pools.{value_at, StandsFor, IsGrown};
 ghost use Rattle.sg_grammar.specs.Numbered.{first_lexeme};

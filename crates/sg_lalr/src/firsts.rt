@@ -2,7 +2,7 @@
 ghost use Rattle.std.specs.Prelude.{◌≡◌, ℕ, ◌<◌, ◌≤◌, ◌↔◌, ◌⊎◌, length, take, All, Contains, IfOk, OnOk, IsTrue};
 ghost use Rattle.sg_sets.specs.Members.{Has};
 ghost use Rattle.sg_sets.specs.Paths.{Linked};
-ghost use Rattle.sg_sets.specs.Rows.{Holds, AreRows};
+ghost use Rattle.sg_sets.specs.Rows.{Holds};
 ghost use Rattle.sg_grammar.specs.declared.grammar.Production.{Production};
 ghost use Rattle.sg_lalr.specs.Firsts.{First, StandsBehind, IsNullable};
 

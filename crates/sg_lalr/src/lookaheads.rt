@@ -1,7 +1,5 @@
 //! The lookaheads of the items of all states.
-ghost use Rattle.std.specs.Prelude.{◌≡◌, ℕ, suc, ◌+◌, ◌<◌, ◌≤◌, ◌↔◌, ◌⊎◌, List, Some, length, map, slice_index, All, IfOk, IfSome, IfNone, OnOk, IsTrue};
-ghost use Rattle.sg_sets.specs.Members.{Has};
-ghost use Rattle.sg_sets.specs.Paths.{Linked};
+ghost use Rattle.std.specs.Prelude.{◌≡◌, ℕ, suc, ◌+◌, ◌<◌, ◌≤◌, ◌↔◌, List, Some, length, map, slice_index, IfOk, IfSome, IfNone, OnOk, IsTrue};
 ghost use Rattle.sg_sets.specs.Rows.{Holds, SameShape};
 ghost use Rattle.sg_lalr.specs.Closure.{InRange, HasLeft};
 ghost use Rattle.sg_lalr.specs.Items.{Item, item, Before, symbol_of};

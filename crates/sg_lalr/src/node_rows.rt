@@ -1,5 +1,5 @@
 //! `NodeRows`, the lookaheads of nodes in rows that some of them share.
-ghost use Rattle.std.specs.Prelude.{◌≡◌, ℕ, ◌<◌, ◌↔◌, length, map, All, IsTrue};
+ghost use Rattle.std.specs.Prelude.{◌≡◌, ◌<◌, ◌↔◌, length, map, All, IsTrue};
 ghost use Rattle.sg_sets.specs.Rows.{Holds, row_of, table};
 
 use sg_sets::{BitSet, Rows};

@@ -1,6 +1,5 @@
 //! The reductions of states: their completed items, each with its lookaheads.
-ghost use Rattle.std.specs.Prelude.{◌≡◌, ℕ, suc, ◌<◌, ◌≤◌, ◌↔◌, length, slice_index, IfOk, IfSome, IfNone, OnOk};
-ghost use Rattle.sg_sets.specs.Rows.{row_of};
+ghost use Rattle.std.specs.Prelude.{◌≡◌, ℕ, suc, ◌<◌, ◌≤◌, ◌↔◌, length, slice_index, IfOk, IfSome, IfNone};
 ghost use Rattle.sg_lalr.specs.Closure.{InRange};
 ghost use Rattle.sg_lalr.specs.Lookaheads.{node_at, IsLaid};
 ghost use Rattle.sg_lalr.specs.Reductions.{ReducesBy, DoesReduce, reductions_at};

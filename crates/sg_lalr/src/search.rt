@@ -1,5 +1,5 @@
 //! The least conflict of all states.
-ghost use Rattle.std.specs.Prelude.{◌≡◌, ◌≢◌, ℕ, suc, ◌<◌, ◌≤◌, List, length, slice_index, map, reverse, IfOk, IfSome, IfNone};
+ghost use Rattle.std.specs.Prelude.{◌≡◌, ℕ, suc, ◌<◌, ◌≤◌, List, length, slice_index, map, reverse, IfOk, IfSome, IfNone};
 ghost use Rattle.sg_grammar.specs.Derives.{AllProductive};
 ghost use Rattle.sg_lalr.specs.Automaton.{origin_at, IsWhole, FoundBy};
 ghost use Rattle.sg_lalr.specs.Lookaheads.{IsLaid, AreLookaheads};

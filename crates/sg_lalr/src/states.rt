@@ -1,5 +1,5 @@
 //! The states of the automaton, found by breadth in the order of symbols.
-ghost use Rattle.std.specs.Prelude.{◌≡◌, ℕ, ◌<◌, ◌≤◌, ◌++◌, ◌∷◌, [], suc, ◌↔◌, length, map, Contains, IfOk, OnOk, IfSome, IfNone};
+ghost use Rattle.std.specs.Prelude.{◌≡◌, ℕ, ◌<◌, ◌≤◌, ◌++◌, ◌∷◌, [], suc, length, map, Contains, IfOk, OnOk, IfSome, IfNone};
 ghost use Rattle.std.specs.Bool.{OnTrue, OnFalse};
 ghost use Rattle.sg_lalr.specs.Closure.{AreOpenings, IsClosure};
 ghost use Rattle.sg_lalr.specs.Automaton.{row_at, start_items, Entered, IsPart, IsWhole, Overflows};
@@ -9,11 +9,12 @@ use crate::items::Item;
 use crate::spread::{empty_rows, spread};
 use indexmap::IndexSet;
 use sg_grammar::Grammar;
+use sg_kinds::limits::STATES;
 use sg_kinds::row::Row;
 use std::alloc::{AllocError, Global};
 
 /// The most states.
-pub const MOST_STATES: usize = 65_536;
+pub const MOST_STATES: usize = STATES;
 
 /// A move of a state.
 #[derive(Clone, Copy)]

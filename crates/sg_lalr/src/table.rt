@@ -1,9 +1,8 @@
 //! `Tables`, what each state of a grammar does on each symbol.
-ghost use Rattle.std.specs.Prelude.{◌≡◌, ◌≢◌, ℕ, ◌<◌, ◌≤◌, length, map, reverse, slice_get, Some, IfOk, IfErr, IfSome, IfNone};
+ghost use Rattle.std.specs.Prelude.{◌≡◌, ◌<◌, length, slice_get, Some, IfOk, IfErr, IfSome, IfNone};
 ghost use Rattle.sg_grammar.specs.Derives.{AllProductive};
 ghost use Rattle.sg_lalr.specs.Items.{HasNext};
-ghost use Rattle.sg_lalr.specs.Automaton.{row_at, IsWhole};
-ghost use Rattle.sg_lalr.specs.Lookaheads.{IsLaid, AreLookaheads};
+ghost use Rattle.sg_lalr.specs.Automaton.{row_at};
 ghost use Rattle.sg_lalr.specs.Prefixes.{TooMany};
 ghost use Rattle.sg_lalr.specs.Tables.{Decided, IsTables, Leads, IsAction, IsTableFault};
 ghost use Rattle.sg_lalr.specs.declared.table.TableFault.TheVariants as fault;

@@ -8,8 +8,8 @@ use Rattle.sg_kinds.specs.Specification.{args_of}
 use Rattle.sg_kinds.specs.Instances.{attr_count}
 use Rattle.sg_kinds.specs.Dependencies.{phylum_there, IsAttr, occurrence, Direct, InOperator, direct}
 use Rattle.sg_kinds.specs.Layers.{Extended, within, layered}
-use Rattle.sg_kinds.specs.Ordered as order
-use Rattle.sg_kinds.specs.Ordered.{Leads, IsAcyclic}
+use Rattle.sg_dependencies.specs.Ordered as order
+use Rattle.sg_dependencies.specs.Ordered.{Leads, IsAcyclic}
 use Rattle.sg_kinds.specs.Visits.{vertex}
 use Rattle.sg_dependencies.specs.Faults.{AreAcyclic}
 use Rattle.sg_dependencies.specs.Frames.{spot_of, spots_of, frames_of}

@@ -21,7 +21,7 @@ use Rattle.sg_kinds.specs.Instances.{below, attr_count, Site, site_at, site_abov
 use Rattle.sg_kinds.specs.Dependencies.{occurrence}
 use Rattle.sg_kinds.specs.FromScratch.{leaf_or, site_value, scratch, value_in}
 use Rattle.sg_kinds.specs.Outcome.{outcome}
-use Rattle.sg_kinds.specs.Keys.{key, IsLess}
+use Rattle.sg_orders.specs.Keys.{key, IsLess}
 use Rattle.sg_dependencies.specs.Vertices.{IsVertex, AreInRange}
 use Rattle.sg_dependencies.proofs.Below.{length-below, get_or-below}
 use Rattle.sg_orders.specs.LiveSites.{IsLive}
@@ -56,7 +56,7 @@ one_less (x ∷ xs) (y ∷ ys) other = elim (cases_order x y) [
 ]
 
 -- and a test
-is_less : List ℕ → List ℕ → Bool
+pub is_less : List ℕ → List ℕ → Bool
 is_less xs [] = false
 is_less [] (y ∷ ys) = true
 is_less (x ∷ xs) (y ∷ ys) = nat_lt x y || (nat_eq x y && is_less xs ys)
@@ -209,7 +209,7 @@ module _ (spec : Spec) (ranges : AreInRange (rules_of spec)) (plans : Plans) (ti
   abbrev precedes : Site Place → Reference Place → Bool
   precedes i a = precedes_by (site_of rules net a) i
 
-  abbrev rank : Site Place → ℕ
+  abbrev pub rank : Site Place → ℕ
   rank i = count_by (precedes i) all
 
   precedes_on : (i j : Site Place) → IsLess (key rules plans t j) (key rules plans t i) → (o : Option (Site Place)) → precedes_by o j ≡ true → precedes_by o i ≡ true
@@ -220,14 +220,14 @@ module _ (spec : Spec) (ranges : AreInRange (rules_of spec)) (plans : Plans) (ti
   not_itself j = false_from_ne_true (is_less (key rules plans t j) (key rules plans t j)) (λ is. less_itself (key rules plans t j) (less_from (key rules plans t j) (key rules plans t j) is))
 
   -- a smaller key has a smaller rank
-  rank_falls : (i j : Site Place) (b : Reference Place) → site_of rules net b ≡ Some j → IsLess (key rules plans t j) (key rules plans t i) → rank j < rank i
+  pub rank_falls : (i j : Site Place) (b : Reference Place) → site_of rules net b ≡ Some j → IsLess (key rules plans t j) (key rules plans t i) → rank j < rank i
   rank_falls i j b is less =
       let in' = among b j is in
       count_lt (precedes j) (precedes i) all (λ k d low. precedes_on i j less (site_of rules net (get_or all k d))) in'.0 b in'.1
       (subst (λ a. precedes j a ≡ false) (sym in'.2) (ap (λ o. precedes_by o j) is ∙ not_itself j))
       (subst (λ a. precedes i a ≡ true) (sym in'.2) (ap (λ o. precedes_by o i) is ∙ less_to (key rules plans t j) (key rules plans t i) less))
 
-  rank_low : (i : Site Place) (a : Reference Place) → site_of rules net a ≡ Some i → rank i < length all
+  pub rank_low : (i : Site Place) (a : Reference Place) → site_of rules net a ≡ Some i → rank i < length all
   rank_low i a is =
       let in' = among a i is in
       let less = count_lt (precedes i) (λ b. true) all (λ k d low h. refl) in'.0 a in'.1 (subst (λ b. precedes i b ≡ false) (sym in'.2) (ap (λ o. precedes_by o i) is ∙ not_itself i)) refl in

@@ -19,7 +19,7 @@ use Rattle.sg_kinds.specs.Places.{Place, child, sub}
 use Rattle.sg_kinds.specs.Nets.{NodeLabel, Operation, Holding, Missing, phylum_at, referred, label_of, net_of}
 use Rattle.sg_kinds.specs.Instances.{attr_count, Site, defines, rule_for, rule_under, site_at, site_above, is_inherited_at, site_of}
 use Rattle.sg_kinds.specs.Dependencies.{phylum_there, IsAttr, occurrence}
-use Rattle.sg_kinds.specs.Keys.{operation, operator_in, key_up, key, IsLess}
+use Rattle.sg_orders.specs.Keys.{operation, operator_in, key_up, key, IsLess}
 use Rattle.sg_kinds.specs.Visits.{position_in, belongs, seat}
 use Rattle.sg_dependencies.specs.Vertices.{IsVertex, AreInRange}
 use Rattle.sg_orders.specs.LiveSites.{IsLive}

@@ -8,8 +8,8 @@ use Rattle.sg_kinds.specs.declared.spec.Occurrence.{Occurrence}
 use Rattle.sg_kinds.specs.Specification.{attrs_of}
 use Rattle.sg_kinds.specs.Dependencies.{IsAttr, occurrence, InOperator, Chain, InPhylum, induced, one, more, joined}
 use Rattle.sg_kinds.specs.Layers.{IsLayering, MayBeTaken}
-use Rattle.sg_kinds.specs.Ordered as order
-use Rattle.sg_kinds.specs.Ordered.{Leads, IsAcyclic}
+use Rattle.sg_dependencies.specs.Ordered as order
+use Rattle.sg_dependencies.specs.Ordered.{Leads}
 use Rattle.sg_dependencies.specs.Faults.{AreAcyclic}
 use Rattle.sg_dependencies.specs.Induced.{AreRowsOfPhylum}
 use Rattle.sg_dependencies.proofs.Directs.{op_there}

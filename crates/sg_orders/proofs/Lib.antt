@@ -22,3 +22,6 @@ pub mod Owns
 pub mod Pairs
 pub mod ValidFacts
 pub mod OneFault
+pub mod Orders
+pub mod NotOrdered
+pub mod UsesOrdered

@@ -6,10 +6,10 @@ use Rattle.sg_sets.specs.Paths as path
 use Rattle.sg_kinds.specs.declared.spec.Rules.{Rules}
 use Rattle.sg_kinds.specs.declared.spec.Occurrence.{Occurrence}
 use Rattle.sg_kinds.specs.Dependencies as depend
-use Rattle.sg_kinds.specs.Dependencies.{phylum_there, IsAttr, occurrence, InOperator}
+use Rattle.sg_kinds.specs.Dependencies.{InOperator}
 use Rattle.sg_kinds.specs.Layers.{IsLayering, Extended, within, layered}
-use Rattle.sg_kinds.specs.Ordered as order
-use Rattle.sg_kinds.specs.Ordered.{Leads, IsAcyclic, IsOrdered}
+use Rattle.sg_dependencies.specs.Ordered as order
+use Rattle.sg_dependencies.specs.Ordered.{Leads, IsAcyclic, IsOrdered}
 use Rattle.sg_kinds.specs.Visits.{vertex}
 use Rattle.sg_dependencies.specs.Faults.{IsFault}
 use Rattle.sg_dependencies.specs.Vertices.{AreInRange, Numbered}

@@ -1,5 +1,5 @@
 -- What is found among what is filtered, one number after another.
-use Rattle.std.specs.Prelude.{◌≡◌, ℕ, zero, suc, ◌+◌, ◌<◌, ◌&&◌, min, Bool, true, false, cond, List, [], ◌∷◌, ◌++◌, length, map, filter, find, Option, None, Some, unwrap_or, is_some}
+use Rattle.std.specs.Prelude.{◌≡◌, ℕ, zero, suc, ◌+◌, ◌<◌, ◌&&◌, ◌||◌, min, Bool, true, false, cond, List, [], ◌∷◌, ◌++◌, length, map, filter, find, Option, None, Some, unwrap_or, is_some}
 use Rattle.std.proofs.Common.{refl, sym, ap, ◌∙◌, subst, get_or, arith, add-one}
 use Rattle.std.proofs.lemmas.Bool.{or_from}
 use Rattle.std.proofs.lemmas.List.{append-nil}
@@ -7,7 +7,6 @@ use Rattle.std.proofs.lemmas.List.Elements.{filter-append}
 use Rattle.sg_kinds.specs.Instances.{below}
 use Rattle.sg_kinds.specs.Visits.{least}
 use Rattle.sg_dependencies.proofs.Below.{length-below, get_or-below, length-map-below, get_or-map-below}
-use Rattle.sg_orders.proofs.Owns.{found_push}
 use Rattle.sg_orders.proofs.Seating.{filter_has}
 
 pub filter_next : (g : ℕ → Bool) (n : ℕ) → filter g (below (n + 1)) ≡ filter g (below n) ++ cond (g n) (n ∷ []) []
@@ -43,6 +42,19 @@ sought_here g p n a low given is =
     let here : get_or (below n) a 0 ≡ a = get_or-below n a 0 low in
     let found = filter_has g (below n) a 0 (omega (arith, low, length-below n)) (subst (λ b. g b ≡ true) (sym here) given) in
     found_at p (filter g (below n)) found.0 0 found.1 (subst (λ b. p b ≡ true) (sym (found.2 0 ∙ here)) is)
+
+-- whether something is found, one element on
+found_push : {X : Type 0} (p : X → Bool) (xs : List X) (x : X) → is_some (find p (xs ++ x ∷ [])) ≡ (is_some (find p xs) || p x)
+found_push p [] x = by (p x)
+  where
+    by : (b : Bool) → is_some (cond b (Some x) None) ≡ (false || b)
+    by true = refl
+    by false = refl
+found_push p (y ∷ ys) x = by (p y) (found_push p ys x)
+  where
+    by : (b : Bool) → is_some (find p (ys ++ x ∷ [])) ≡ (is_some (find p ys) || p x) → is_some (cond b (Some y) (find p (ys ++ x ∷ []))) ≡ (is_some (cond b (Some y) (find p ys)) || p x)
+    by true rest = refl
+    by false rest = rest
 
 pub sought_more : (g p : ℕ → Bool) (n : ℕ) → is_some (find p (filter g (below n))) ≡ false → (g n && p n) ≡ false → is_some (find p (filter g (below (n + 1)))) ≡ false
 sought_more g p n none here = by (g n) refl here

@@ -9,8 +9,8 @@ use Rattle.sg_kinds.specs.Fits.{Fits}
 use Rattle.sg_kinds.specs.Specification.{rules_of}
 use Rattle.sg_kinds.specs.Places.{Place}
 use Rattle.sg_kinds.specs.Nets.{Reference, referred, net_of}
-use Rattle.sg_kinds.specs.Instances.{Site, site_of}
-use Rattle.sg_kinds.specs.Keys.{key, IsLess}
+use Rattle.sg_kinds.specs.Instances.{Site, instances, site_of}
+use Rattle.sg_orders.specs.Keys.{key, IsLess}
 use Rattle.sg_kinds.specs.FromScratch.{leaf_or, site_value, value_in}
 use Rattle.sg_kinds.specs.Dependencies.{IsAttr}
 use Rattle.sg_kinds.specs.ValidPlans.{AreValid}
@@ -69,3 +69,14 @@ keys_fall spec plans t root ranges valid fits = keys.argument_less spec ranges p
 pub from_scratch_values : (spec : Spec) (plans : Plans) (t : Term) (root : ℕ) → AreInRange (rules_of spec) → AreValid (rules_of spec) plans → Fits spec t root
     → (a : Reference Place) → value_in spec t a ≡ leaf_or ((net_of t).label a.node) (site_value spec (net_of t) (value_in spec t) (site_of (rules_of spec) (net_of t) a))
 from_scratch_values spec plans t root ranges valid fits = values.fixpoint spec ranges plans (valid_timed (rules_of spec) plans valid) t root fits
+
+pub ranks : (spec : Spec) (plans : Plans) (t : Term) (root : ℕ) → AreInRange (rules_of spec) → AreValid (rules_of spec) plans → Fits spec t root
+    → (rank : Site Place → ℕ)
+    × ((a : Reference Place) (i : Site Place) → site_of (rules_of spec) (net_of t) a ≡ Some i → rank i < length (instances (rules_of spec) t))
+    × ((i j : Site Place) (b : Reference Place) → site_of (rules_of spec) (net_of t) b ≡ Some j → IsLess (key (rules_of spec) plans t j) (key (rules_of spec) plans t i) → rank j < rank i)
+ranks spec plans t root ranges valid fits =
+    let timed = valid_timed (rules_of spec) plans valid in (
+      values.rank spec ranges plans timed t root fits,
+      λ a i is. values.rank_low spec ranges plans timed t root fits i a is,
+      λ i j b is less. values.rank_falls spec ranges plans timed t root fits i j b is less,
+    )

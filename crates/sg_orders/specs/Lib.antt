@@ -1,3 +1,4 @@
+pub mod Keys
 pub mod StrictOrders
 pub mod LeastLayers
 pub mod Layerings

@@ -14,7 +14,7 @@ pub use Rattle.sg_orders.specs.declared.timing.Timing.{Timing}
 
 -- plans with these visits and positions alone
 abbrev pub timed : Timing → Plans
-timed timing = record { visits = timing.visits; places = timing.places; steps = []; readers = [] }
+timed timing = record { visits = timing.visits; places = timing.places; steps = [] }
 
 pub record AreTimed (rules : Rules) (plans : Plans) : Type 0 where
   pub layer : ℕ → ℕ → ℕ

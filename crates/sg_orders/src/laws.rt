@@ -3,11 +3,11 @@ ghost use Rattle.std.specs.Prelude.{◌≡◌, ◌≢◌, ℕ, ◌<◌, ◌≤�
 ghost use Rattle.sg_kinds.specs.Dependencies.{IsAttr};
 ghost use Rattle.sg_kinds.specs.Fits.{Fits};
 ghost use Rattle.sg_kinds.specs.FromScratch.{leaf_or, site_value, value_in};
-ghost use Rattle.sg_kinds.specs.Instances.{Site, site_of};
-ghost use Rattle.sg_kinds.specs.Keys.{key, IsLess};
+ghost use Rattle.sg_kinds.specs.Instances.{Site, instances, site_of};
+ghost use Rattle.sg_orders.specs.Keys.{key, IsLess};
 ghost use Rattle.sg_kinds.specs.Layers.{IsLayering};
 ghost use Rattle.sg_kinds.specs.Nets.{Reference, referred, net_of};
-ghost use Rattle.sg_kinds.specs.Ordered.{IsOrdered};
+ghost use Rattle.sg_dependencies.specs.Ordered.{IsOrdered};
 ghost use Rattle.sg_kinds.specs.Places.{Place};
 ghost use Rattle.sg_kinds.specs.Specification.{rules_of};
 ghost use Rattle.sg_kinds.specs.Terms.{Term};
@@ -70,6 +70,17 @@ pub fn keys_fall()
         → (o : Occurrence) → Contains i.rule.args o → (j : Site Place)
         → site_of (rules_of spec) (net_of t) (referred (net_of t) i.node o) ≡ Some j
         → IsLess (key (rules_of spec) plans t j) (key (rules_of spec) plans t i) }
+{}
+
+/// The sites of equations in a term have ranks: that of a site which some instance has is below the number of all
+/// instances, and a site with a smaller key has a smaller rank.
+pub fn ranks()
+    ensures { (spec : Spec) (plans : Plans) (t : Term) (root : ℕ) → AreInRange (rules_of spec)
+        → AreValid (rules_of spec) plans → Fits spec t root → (rank : Site Place → ℕ)
+        × ((a : Reference Place) (i : Site Place) → site_of (rules_of spec) (net_of t) a ≡ Some i
+        → rank i < length (instances (rules_of spec) t))
+        × ((i j : Site Place) (b : Reference Place) → site_of (rules_of spec) (net_of t) b ≡ Some j
+        → IsLess (key (rules_of spec) plans t j) (key (rules_of spec) plans t i) → rank j < rank i) }
 {}
 
 /// A from-scratch value is the outcome of its equation on the from-scratch values of its arguments: the bound on

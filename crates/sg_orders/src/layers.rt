@@ -1,5 +1,5 @@
 //! The layers of a phylum's attributes.
-ghost use Rattle.std.specs.Prelude.{◌≡◌, ℕ, ◌+◌, ◌*◌, ◌%◌, ◌<◌, ◌≤◌, ◌^◌, nat_eq, length, slice_index, IfOk};
+ghost use Rattle.std.specs.Prelude.{◌≡◌, ℕ, ◌+◌, ◌%◌, ◌<◌, ◌≤◌, ◌^◌, nat_eq, length, slice_index, IfOk};
 ghost use Rattle.sg_sets.specs.Rows.{Holds};
 ghost use Rattle.sg_kinds.specs.Specification.{is_way_inherited};
 ghost use Rattle.sg_orders.specs.LeastLayers.{AreLeastLayers};

@@ -6,12 +6,13 @@ mod grown;
 pub mod laws;
 mod layers;
 mod ordering;
+mod owning;
 mod planning;
 mod positions;
-mod readers;
 mod seats;
 mod steps;
 mod timing;
 mod visits;
 
+pub use extension::all_layers;
 pub use ordering::order;

@@ -6,7 +6,7 @@ ghost use Rattle.sg_dependencies.specs.Vertices.{AreInRange};
 ghost use Rattle.sg_dependencies.specs.Proper.{AreProper};
 ghost use Rattle.sg_dependencies.specs.declared.fault.OrderFault.TheVariants as fault;
 ghost use Rattle.sg_kinds.specs.Layers.{Extended};
-ghost use Rattle.sg_kinds.specs.Ordered.{IsOrdered};
+ghost use Rattle.sg_dependencies.specs.Ordered.{IsOrdered};
 ghost use Rattle.sg_kinds.specs.ValidPlans.{AreValid};
 ghost use Rattle.sg_orders.specs.Extensions.{IsExtension};
 ghost use Rattle.sg_orders.specs.Layerings.{layer_in};

@@ -6,7 +6,7 @@ ghost use Rattle.sg_dependencies.specs.Proper.{AreProper};
 ghost use Rattle.sg_dependencies.specs.Vertices.{AreInRange};
 ghost use Rattle.sg_orders.specs.Timed.{IsTiming};
 
-use crate::readers::{owned, readers};
+use crate::owning::owned;
 use crate::steps::{Scene, behind, steps};
 use crate::timing::Timing;
 use sg_dependencies::Frame;
@@ -16,7 +16,7 @@ use sg_kinds::row::Row;
 use sg_kinds::spec::Rules;
 use std::alloc::Global;
 
-/// The plans with these visits and positions, and the steps and readers of each operator.
+/// The plans with these visits and positions, and the steps of each operator.
 pub fn plan(
     alloc: Global,
     rules: &Rules,
@@ -31,7 +31,6 @@ pub fn plan(
 {
     let owned = owned(alloc, rules)?;
     let mut all_steps = Vec::new(alloc);
-    let mut all_readers = Vec::new(alloc);
     for (op, frame) in frames.iter().enumerate() {
         let own = owned[op].as_slice();
         let scene = Scene {
@@ -42,12 +41,10 @@ pub fn plan(
             end: behind(&timing, op),
         };
         all_steps.push(steps(alloc, &scene, own)?)?;
-        all_readers.push(readers(alloc, rules, op, frame, own)?)?;
     }
     Ok(Plans {
         visits: timing.visits,
         places: timing.places,
         steps: Row::new(all_steps),
-        readers: Row::new(all_readers),
     })
 }

@@ -1,5 +1,5 @@
 //! The seats of an argument's visits, and the visits to which positions belong.
-ghost use Rattle.std.specs.Prelude.{◌≡◌, ℕ, ◌+◌, ◌<◌, ◌≤◌, ◌&&◌, max, min, length, nat_le, slice_index, unwrap_or};
+ghost use Rattle.std.specs.Prelude.{◌≡◌, ◌+◌, ◌<◌, ◌≤◌, ◌&&◌, max, min, length, unwrap_or};
 ghost use Rattle.sg_kinds.specs.Visits.{greatest as greatest_of};
 ghost use Rattle.sg_orders.specs.SeatRows.{is_given as is_given_by, seat_in, gives_in, belongs_in};
 

@@ -1,7 +1,7 @@
 //! Places of a text from which a pattern is known to match no further, so that no later token walks on from there.
 //! The idea is that of Reps, "Maximal-munch tokenization in linear time" (1998), whose table has each place; here a
 //! logarithmic number of them is kept.
-ghost use Rattle.std.specs.Prelude.{◌≡◌, ℕ, ◌+◌, ◌<◌, List, length, IfOk};
+ghost use Rattle.std.specs.Prelude.{◌≡◌, ℕ, ◌+◌, ◌<◌, length, IfOk};
 ghost use Rattle.std.specs.Bool.{OnTrue};
 ghost use Rattle.sg_kinds.specs.Lexemes as plain;
 ghost use Rattle.sg_kinds.specs.Values.{Bytes};

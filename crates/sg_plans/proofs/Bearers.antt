@@ -17,7 +17,7 @@ use Rattle.sg_kinds.specs.Places.{Place, sub}
 use Rattle.sg_kinds.specs.Nets.{Net, Reference, Operation, Holding, phylum_at, referred, label_of, net_of}
 use Rattle.sg_kinds.specs.Instances.{Site, rule_for, rule_under, site_at, site_above, is_inherited_at, site_of}
 use Rattle.sg_kinds.specs.Dependencies.{is_inherited_there, occurrence}
-use Rattle.sg_kinds.specs.Keys.{operation, operator_in}
+use Rattle.sg_orders.specs.Keys.{operation, operator_in}
 use Rattle.sg_dependencies.specs.Proper.{is_owed, IsOwed, AreProper}
 use Rattle.sg_dependencies.specs.Vertices.{IsVertex, AreInRange}
 use Rattle.sg_dependencies.proofs.SoundRules.{sound_range, sound_proper}

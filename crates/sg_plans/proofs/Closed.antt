@@ -12,7 +12,7 @@ use Rattle.sg_kinds.specs.Places.{Place}
 use Rattle.sg_kinds.specs.Nets.{Net, Reference, phylum_at, referred, net_of}
 use Rattle.sg_kinds.specs.Instances.{Site, site_of}
 use Rattle.sg_kinds.specs.Dependencies.{is_inherited_there, IsAttr, phylum_there, occurrence}
-use Rattle.sg_kinds.specs.Keys.{operation, operator_in}
+use Rattle.sg_orders.specs.Keys.{operation, operator_in}
 use Rattle.sg_kinds.specs.declared.plans.Plans.{Plans}
 use Rattle.sg_kinds.specs.Visits.{row_at, belongs, seat, position_in, visit_count}
 use Rattle.sg_dependencies.specs.Proper.{is_owed}

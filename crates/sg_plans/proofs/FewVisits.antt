@@ -7,9 +7,9 @@ use Rattle.sg_kinds.specs.Specification.{attrs_of, phylum_of}
 use Rattle.sg_kinds.specs.ValidPlans.{AreValid, AreVisits}
 use Rattle.sg_kinds.specs.Visits.{row_at, visit_count}
 use Rattle.sg_dependencies.specs.Vertices.{AreInRange}
-use Rattle.sg_dependencies.proofs.Distinct.{distinct_few}
 use Rattle.sg_dependencies.proofs.Ranges.{attrs_small, phylum_in}
 use Rattle.sg_orders.proofs.Seating.{IsGivenAt, given_in_visit}
+use Rattle.sg_plans.proofs.Distinct.{distinct_few}
 
 module _ (rules : Rules) (X : ℕ) (layer : ℕ → ℕ) (plans : Plans) (are : AreVisits rules X layer plans) where
   -- an attribute of each of the visits n to 1

@@ -1,3 +1,4 @@
+pub mod Distinct
 pub mod Equations
 pub mod Nodes
 pub mod Bearers

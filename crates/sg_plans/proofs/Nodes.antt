@@ -13,7 +13,7 @@ use Rattle.sg_kinds.specs.declared.marks.Shape.{Shape}
 use Rattle.sg_kinds.specs.Specification.{args_of, phylum_of, has_shape, is_leaf_shape}
 use Rattle.sg_kinds.specs.Places.{Place, child, sub}
 use Rattle.sg_kinds.specs.Nets.{Operation, Holding, Missing, phylum_at, label_of}
-use Rattle.sg_kinds.specs.Keys.{operation, operator_in}
+use Rattle.sg_orders.specs.Keys.{operation, operator_in}
 pub use Rattle.sg_plans.specs.Segments.{IsNodeAt}
 
 pub node_label : (t : Term) (u : Place) (op : ℕ) → label_of (sub t u) ≡ Operation op → IsNodeAt t u

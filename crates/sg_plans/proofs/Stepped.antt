@@ -15,7 +15,7 @@ use Rattle.sg_kinds.specs.Fits.{Fits}
 use Rattle.sg_kinds.specs.Places.{Place, sub}
 use Rattle.sg_kinds.specs.Nets.{Net, Reference, Operation, referred, label_of, net_of}
 use Rattle.sg_kinds.specs.Instances.{Site}
-use Rattle.sg_kinds.specs.Keys.{operation, operator_in}
+use Rattle.sg_orders.specs.Keys.{operation, operator_in}
 use Rattle.sg_kinds.specs.ValidPlans.{IsStepAt, AreStepsOf}
 use Rattle.sg_kinds.specs.declared.plans.Plans.{Plans}
 use Rattle.sg_kinds.specs.Visits.{row_at, belongs, seat, position_in, visit_count}
@@ -29,7 +29,7 @@ use Rattle.sg_plans.specs.Segments.{position_at, position_of, IsOfVisit, IsGiven
 use Rattle.sg_plans.specs.Stepping.{steps_of, IsOfStep, IsReady, leaf, taken, earlier, before}
 use Rattle.sg_plans.proofs.Bearers.{ranges, live_node}
 use Rattle.sg_plans.proofs.Closed as named
-use Rattle.sg_plans.proofs.Closed.{IsNamed, IsBefore, given_from, taken_before, given_before}
+use Rattle.sg_plans.proofs.Closed.{IsBefore, given_from, taken_before, given_before}
 use Rattle.sg_plans.proofs.Equations.{no_leaf_operator}
 use Rattle.sg_plans.proofs.Nodes.{IsNodeAt, IsNode, leaf_fits, leaf_or_node, node_at, below_at, node_on_way}
 use Rattle.sg_plans.proofs.Ways.{position_joins, one_way, visits_rise, visit_low, visit_high}

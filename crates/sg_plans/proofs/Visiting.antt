@@ -15,7 +15,7 @@ use Rattle.sg_kinds.specs.Specification.{rules_of}
 use Rattle.sg_kinds.specs.Places.{Place}
 use Rattle.sg_kinds.specs.Nets.{Reference, referred, net_of}
 use Rattle.sg_kinds.specs.Instances.{Site, site_of}
-use Rattle.sg_kinds.specs.Keys.{operator_in}
+use Rattle.sg_orders.specs.Keys.{operator_in}
 use Rattle.sg_kinds.specs.Visits.{row_at, visit_count}
 use Rattle.sg_orders.specs.LiveSites.{IsLive}
 use Rattle.sg_plans.specs.Planned.{IsPlanned}

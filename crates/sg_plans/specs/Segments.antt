@@ -7,7 +7,7 @@ use Rattle.sg_kinds.specs.Specification.{phylum_of, is_inherited}
 use Rattle.sg_kinds.specs.Places.{Place, sub}
 use Rattle.sg_kinds.specs.Nets.{Reference, Operation, Holding, label_of, phylum_at, referred, net_of}
 use Rattle.sg_kinds.specs.Instances.{Site, site_of}
-use Rattle.sg_kinds.specs.Keys.{operator_in}
+use Rattle.sg_orders.specs.Keys.{operator_in}
 use Rattle.sg_kinds.specs.declared.plans.Plans.{Plans}
 use Rattle.sg_kinds.specs.Visits.{row_at, visit_count, belongs, seat, position_in}
 use Rattle.sg_orders.specs.LiveSites.{IsLive}

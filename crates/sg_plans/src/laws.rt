@@ -4,7 +4,7 @@ ghost use Rattle.sg_kinds.specs.Dependencies.{occurrence};
 ghost use Rattle.sg_kinds.specs.Fits.{Fits};
 ghost use Rattle.sg_kinds.specs.FromScratch.{value_in};
 ghost use Rattle.sg_kinds.specs.Instances.{Site, args_at, site_of};
-ghost use Rattle.sg_kinds.specs.Keys.{operator_in};
+ghost use Rattle.sg_orders.specs.Keys.{operator_in};
 ghost use Rattle.sg_kinds.specs.Nets.{Reference, Holding, label_of, net_of, referred};
 ghost use Rattle.sg_kinds.specs.Outcome.{outcome};
 ghost use Rattle.sg_kinds.specs.Places.{Place, put, sub};

@@ -1,6 +1,6 @@
 use Rattle.std.specs.Prelude.{◌≡◌, IfErr}
 use Rattle.std.proofs.lemmas.Result.{IfErr-weaker}
-use Rattle.sg_kinds.specs.Ordered.{IsOrdered}
+use Rattle.sg_dependencies.specs.Ordered.{IsOrdered}
 use Rattle.sg_dependencies.specs.Faults.{IsFault}
 use Rattle.sg_dependencies.specs.declared.fault.OrderFault.TheVariants as fault
 use Rattle.std.proofs.Common.{rules}

@@ -22,19 +22,11 @@ steps-requires c =
       own = n.own_is;
     }
 
-pub readers-requires : goal.readers-requires
-readers-requires c =
-    let low : c.loop-op.op < length c.args.frames.now = omega arith in
-    let rules = c.args.rules.now in
-    let n = next_operator rules c.args.frames.now c.index-frames-op.result c.in_ok-owned.owned.items c.index.result.now c.as_slice-own.result.now c.loop-op.op c.requires.frames low c.index-frames-op.is c.in_ok-owned.ensures c.index.ensures c.as_slice-own.ensures in
-    record { range = c.requires.range; there = n.there; frame = n.frame_is; own = n.own_is }
-
 pub loop-op-preserved : goal.loop-op-preserved
 loop-op-preserved c =
-    planned_more c.args.rules.now c.args.timing c.loop-op.all_steps.items c.push.new.self.items c.loop-op.all_readers.items c.push-in-loop-op.new.self.items c.loop-op.op c.in_ok-steps.field-0 c.in_ok-readers.field-0 c.loop-op.invariant
-    c.in_ok-steps.ensures c.in_ok-readers.ensures c.in_ok-push.ensures.items c.in_ok-push-2.ensures.items
+    planned_more c.args.rules.now c.args.timing c.loop-op.all_steps.items c.push.new.self.items c.loop-op.op c.in_ok-steps.field-0 c.loop-op.invariant c.in_ok-steps.ensures c.in_ok-push.ensures.items
 
 pub returns : goal.returns
 returns c =
     let end : c.loop-op.op ≡ length c.args.rules.now.ops = omega (arith, ap length c.requires.frames, frames_count c.args.rules.now) in
-    valid_by c.args.rules.now c.args.timing c.loop-op.all_steps.items c.loop-op.all_readers.items c.loop-op.op c.requires.timing c.loop-op.invariant end c.new.result c.new-2.result c.new.ensures c.new-2.ensures
+    valid_by c.args.rules.now c.args.timing c.loop-op.all_steps.items c.loop-op.op c.requires.timing c.loop-op.invariant end c.new.result c.new.ensures

@@ -1,4 +1,4 @@
-use Rattle.std.proofs.Common.{◌≡◌, ◌++◌, ◌≤◌, ◌^◌, length, drop}
+use Rattle.std.proofs.Common.{◌≡◌, ◌++◌, drop}
 use Rattle.sg_grammar.specs.Numbered.{starts_of}
 use Rattle.sg_grammar.proofs.numbering.Numbering.starts.Given as goal
 

@@ -1,5 +1,0 @@
-use Rattle.sg_dependencies.proofs.Directs.{DirectTo}
-use Rattle.sg_dependencies.proofs.direct.direct.Given as goal
-
-abbrev pub invariant-loop-rule : goal.invariant-loop-rule
-invariant-loop-rule l = DirectTo l.rules l.relations.items l.rule-index
