@@ -1,0 +1,10 @@
+pub mod Counting
+pub mod Ranks
+pub mod Tops
+pub mod Spreads
+pub mod Between
+pub mod Descent
+pub mod RisingRows
+pub mod Table
+pub mod Made
+pub mod Worked

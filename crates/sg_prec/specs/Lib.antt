@@ -1,0 +1,6 @@
+pub mod Precedence
+pub mod WellGrouped
+pub mod Levels
+pub mod LineTable
+pub mod Spread
+pub mod LevelDerives

@@ -1,0 +1,13 @@
+//! Precedence lines: how infix literals group, and the grammar of levels that groups so by itself.
+#![tactic(auto)]
+
+pub mod laws;
+pub mod levels;
+mod lines;
+pub mod named;
+mod productions;
+mod spreading;
+
+pub use levels::Levels;
+pub use productions::{From, LevelSymbol, Spread};
+pub use spreading::spread;
