@@ -1,0 +1,2 @@
+pub mod FarValues
+pub mod NearSame

@@ -1,0 +1,9 @@
+pub mod Flags
+pub mod Least
+pub mod Members
+pub mod Borne
+pub mod FirstBare
+pub mod Knowing
+pub mod Longer
+pub mod TextOrder
+pub mod BareNodes

@@ -1,0 +1,7 @@
+pub mod Atoms
+pub mod Lists
+pub mod Reach
+pub mod Bearing
+pub mod Longer
+pub mod Handing
+pub mod NoEnclosing
