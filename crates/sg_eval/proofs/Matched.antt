@@ -1,20 +1,17 @@
 -- Values that match patterns.
-use Rattle.std.specs.Prelude.{◌≡◌, refl, ℕ, zero, suc, ◌+◌, ◌<◌, ◌≤◌, Bool, true, false, cond, List, [], ◌∷◌, ◌++◌, length, map, Option, Some, None, slice_get, option_map, option_and_then, Result, Ok, Err, IfOk, MatchOption, All}
+use Rattle.std.specs.Prelude.{◌≡◌, refl, ℕ, suc, ◌+◌, ◌<◌, ◌≤◌, Bool, true, false, cond, List, [], ◌∷◌, ◌++◌, length, map, Option, Some, None, option_map, option_and_then, Result, Ok, Err, IfOk, All}
 use Rattle.std.proofs.Common.{sym, ◌∙◌, ap, subst, arith, append_assoc, rules}
 use Rattle.std.proofs.lemmas.List.{map-append}
-use Rattle.sg_kinds.specs.Values.{Value, Values, Truth, Number, Chars, Tree, Fault, NoValue, AndValue, size_of, sizes_of, row_of}
+use Rattle.sg_kinds.specs.Values.{Value, Values, Truth, Number, Chars, Tree, Fault, AndValue, size_of, sizes_of, row_of}
 use Rattle.sg_kinds.specs.Expressions.{Pattern, Patterns, Applied, NoPattern, AndPattern}
 use Rattle.sg_kinds.specs.declared.spec.Spec.{Spec}
 use Rattle.sg_kinds.specs.Evaluation.{bound_by, bound_by_all, nothing_if}
 use Rattle.sg_kinds.specs.SameValue.{nat_same}
-use Rattle.sg_pool.specs.Pools.{value_at, StandsFor, tree_over, IsGrown}
-use Rattle.sg_pool.specs.PoolEntries.{entry_value}
-use Rattle.sg_pool.specs.declared.entry.PoolEntry.{PoolEntry}
-use Rattle.sg_pool.specs.declared.entry.PoolEntry.TheVariants as entry
-use Rattle.sg_pool.proofs.Grown.{grown_longer, stands_at}
-use Rattle.sg_eval.specs.Lives.{value_in, IsKnown, AreKnown, kids_from, values_from, IsMatched}
+use Rattle.sg_pool.specs.Pools.{value_at, tree_over, IsGrown}
+use Rattle.sg_pool.proofs.Grown.{grown_longer}
+use Rattle.sg_eval.specs.Lives.{value_in, AreKnown, IsMatched}
 use Rattle.sg_eval.specs.declared.live.Live.{Live}
-use Rattle.sg_eval.proofs.Bindings.{known_more, value_stays, live_stays, lives_stay}
+use Rattle.sg_eval.proofs.Bindings.{known_more, lives_stay}
 
 -- how large patterns are
 abbrev mutual
@@ -87,43 +84,13 @@ matched_later pool later o p before after b g e m = record {
   bound = e ∙ m.bound ∙ ap (λ bs. cond b (Some bs) None) (sym (lives_stay pool later m.more g m.known));
 }
 
--- the children of a tree, from a place on
-kid_there : (f : ℕ → Value) (ks : List ℕ) (n k : ℕ) → slice_get ks n ≡ Some k → values_from n (row_of (map f ks)) ≡ AndValue (f k) (values_from (suc n) (row_of (map f ks)))
-kid_there f [] n k h = cc
-kid_there f (j ∷ ks) zero k h = let e : j ≡ k = cc in ap (λ i. AndValue (f i) (row_of (map f ks))) e
-kid_there f (j ∷ ks) (suc n) k h = kid_there f ks n k h
-
-nothing_from : (n : ℕ) → values_from n NoValue ≡ NoValue
-nothing_from zero = refl
-nothing_from (suc n) = refl
-
-kid_past : (f : ℕ → Value) (ks : List ℕ) (n : ℕ) → slice_get ks n ≡ None → values_from n (row_of (map f ks)) ≡ NoValue
-kid_past f [] n h = nothing_from n
-kid_past f (j ∷ ks) zero h = cc
-kid_past f (j ∷ ks) (suc n) h = kid_past f ks n h
-
-pub kid_is : (pool : List Value) (id n : ℕ) (e : PoolEntry) (op : ℕ) (kids : List ℕ) (o : Option ℕ) → StandsFor pool id (entry_value pool e) → e ≡ entry.Tree op kids → o ≡ slice_get kids n
-    → MatchOption o (kids_from n (value_at pool id) ≡ NoValue) (λ k. kids_from n (value_at pool id) ≡ AndValue (value_at pool k) (kids_from (suc n) (value_at pool id)))
-kid_is pool id n e op kids o stands is there = by o there
-  where
-    tree : value_at pool id ≡ tree_over pool op kids
-    tree = stands_at pool id (entry_value pool e) stands ∙ ap (entry_value pool) is
-
-    by : (o : Option ℕ) → o ≡ slice_get kids n → MatchOption o (kids_from n (value_at pool id) ≡ NoValue) (λ k. kids_from n (value_at pool id) ≡ AndValue (value_at pool k) (kids_from (suc n) (value_at pool id)))
-    by None h = ap (kids_from n) tree ∙ kid_past (value_at pool) kids n (sym h)
-    by (Some k) h = ap (kids_from n) tree ∙ kid_there (value_at pool) kids n k (sym h) ∙ ap (λ v. AndValue (value_at pool k) (kids_from (suc n) v)) (sym tree)
-
-pub kid_later : (us vs : List Value) (id kid n : ℕ) → IsGrown us vs → id < length us → kid < length us → kids_from n (value_at us id) ≡ AndValue (value_at us kid) (kids_from (suc n) (value_at us id))
-    → kids_from n (value_at vs id) ≡ AndValue (value_at vs kid) (kids_from (suc n) (value_at vs id))
-kid_later us vs id kid n g low under h = rw (value_stays us vs id g low, value_stays us vs kid g under) h
-
--- the tree of an operator
-pub matched_tree : (spec : Spec) (us vs : List Value) (op : ℕ) (ps : Patterns) (x : Live) (id : ℕ) (before after : List Live) (b : Bool) → IsGrown us vs → IsKnown (length us) x → id < length us → value_in us x ≡ Tree op (kids_from 0 (value_at us id))
-    → IsMatched vs (bound_by_all spec ps (kids_from 0 (value_at vs id))) before after b → IsMatched vs (bound_by spec (Applied op ps) (value_in vs x)) before after b
-matched_tree spec us vs op ps x id before after b g known low is m =
-    let there : value_in vs x ≡ Tree op (kids_from 0 (value_at vs id)) = live_stays us vs x g known ∙ is ∙ ap (λ v. Tree op (kids_from 0 v)) (sym (value_stays us vs id g low)) in
-    let same : bound_by spec (Applied op ps) (value_in vs x) ≡ bound_by_all spec ps (kids_from 0 (value_at vs id)) = ap (bound_by spec (Applied op ps)) there ∙ ap (λ c. cond c (bound_by_all spec ps (kids_from 0 (value_at vs id))) None) (nat_same op) in
-    subst (λ o. IsMatched vs o before after b) (sym same) m
+-- the tree of an operator, by the numbers of its children
+pub matched_tree : (spec : Spec) (pool : List Value) (op : ℕ) (ps : Patterns) (x : Live) (kids : List ℕ) (before after : List Live) (b : Bool) → value_in pool x ≡ tree_over pool op kids
+    → IsMatched pool (bound_by_all spec ps (row_of (map (value_at pool) kids))) before after b → IsMatched pool (bound_by spec (Applied op ps) (value_in pool x)) before after b
+matched_tree spec pool op ps x kids before after b is m =
+    let vs = row_of (map (value_at pool) kids) in
+    let same : bound_by spec (Applied op ps) (value_in pool x) ≡ bound_by_all spec ps vs = ap (bound_by spec (Applied op ps)) is ∙ ap (λ c. cond c (bound_by_all spec ps vs) None) (nat_same op) in
+    subst (λ o. IsMatched pool o before after b) (sym same) m
 
 pub if_ok_more : {A E : Type 0} → (r : Result A E) (P Q : A → Type 0) → ((x : A) → P x → Q x) → IfOk r P → IfOk r Q
 if_ok_more (Ok x) P Q f h = f x h

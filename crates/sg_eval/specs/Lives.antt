@@ -1,6 +1,6 @@
 -- What stands for values while an expression is evaluated.
-use Rattle.std.specs.Prelude.{◌≡◌, ℕ, zero, suc, ◌<◌, Bool, true, false, not, cond, List, [], ◌∷◌, ◌++◌, map, Option, Some, None, Result, Ok, Err, IsTrue, ⊤, nat_eq, length, ℤ}
-use Rattle.sg_kinds.specs.Values.{Value, Values, Truth, Number, Chars, Tree, Fault, NoValue, AndValue, is_within}
+use Rattle.std.specs.Prelude.{◌≡◌, ℕ, ◌<◌, Bool, true, false, not, cond, List, [], ◌∷◌, ◌++◌, map, Option, Some, None, Result, Ok, Err, IsTrue, ⊤, nat_eq, length, ℤ}
+use Rattle.sg_kinds.specs.Values.{Value, Truth, Number, Chars, Tree, Fault, is_within}
 use Rattle.sg_pool.specs.Pools.{value_at}
 use Rattle.sg_kinds.specs.Evaluation.{Reached, Operands, Gives, Every, Halted}
 use Rattle.sg_kinds.specs.declared.marks.FaultKind.TheVariants.{Overflow}
@@ -67,16 +67,6 @@ IsHalted stop.NoMemory left o = ⊤
 abbrev pub is_tree_of : ℕ → Value → Bool
 is_tree_of op (Tree q vs) = nat_eq op q
 is_tree_of op v = false
-
--- the children of a tree from a place on
-abbrev pub values_from : ℕ → Values → Values
-values_from zero vs = vs
-values_from (suc n) NoValue = NoValue
-values_from (suc n) (AndValue v vs) = values_from n vs
-
-abbrev pub kids_from : ℕ → Value → Values
-kids_from n (Tree op vs) = values_from n vs
-kids_from n v = NoValue
 
 -- whether a pattern matched, and what was put behind the bindings for it
 pub record IsMatched (pool : List Value) (o : Option (List Value)) (before after : List Live) (b : Bool) : Type 0 where

@@ -274,7 +274,9 @@ fn apply(
     ensures made { AreMade scope.now.spec.now made.new pool.new }
 {
     let kids = row(scope, parts, env, room, fuel, pool, made)?;
-    tree(scope.alloc, op, &kids, pool)
+    let reached = tree(scope.alloc, op, &kids, pool);
+    made.leave_row(kids);
+    reached
 }
 
 // a function on its arguments, whose body is evaluated inside the call
@@ -310,7 +312,9 @@ fn call(
         spec: scope.spec,
         args: &[],
     };
-    enter(&inside, &body.tree, &mut args, room, fuel, pool, made)
+    let reached = enter(&inside, &body.tree, &mut args, room, fuel, pool, made);
+    made.leave_row(args);
+    reached
 }
 
 // `let`
@@ -429,7 +433,7 @@ fn row(
     ensures grown { IsGrown pool.old pool.new }
     ensures made { AreMade scope.now.spec.now made.new pool.new }
 {
-    let mut values = Vec::new(scope.alloc);
+    let mut values = made.take_row(scope.alloc);
     let mut rest = parts;
     while let ExprList::More(e, next) = rest {
         values.push(enter(scope, e, env, room, fuel, pool, made)?)?;

@@ -1,5 +1,5 @@
 // The evaluator of a specification.
-ghost use Rattle.std.specs.Prelude.{◌≡◌, ℕ, ◌<◌, ◌⊎◌, List, [], ◌∷◌, ◌++◌, map, length, All, slice_get, Some, IfOk, OnOk, OnErr};
+ghost use Rattle.std.specs.Prelude.{◌≡◌, ℕ, ◌<◌, ◌⊎◌, [], ◌∷◌, ◌++◌, map, length, All, slice_get, Some, IfOk, OnOk, OnErr};
 ghost use Rattle.sg_kinds.specs.declared.spec.Rule.{Rule};
 ghost use Rattle.sg_pool.specs.Pools.{value_at, StandsFor, IsGrown};
 ghost use Rattle.sg_kinds.specs.Evaluation.{Reached, outcome_in, clipped};
@@ -14,6 +14,7 @@ use crate::journal::{Instance, Journal};
 use crate::live::{Live, Stop};
 use crate::made::MadeTerms;
 use sg_kinds::ids::{ExprId, RuleId, ValueId};
+use sg_kinds::limits::{FUEL, NESTING};
 use sg_kinds::marks::FaultKind;
 use sg_kinds::memory::NoMemory;
 use sg_kinds::row::item;
@@ -22,13 +23,6 @@ use sg_kinds::value::Value;
 use sg_pool::pool::Pool;
 use std::alloc::Global;
 use std::marker::Model;
-
-/// How many nodes of an expression one evaluation may enter. 73,717 of them were measured to take about a millisecond.
-pub const FUEL: u32 = 100_000;
-
-/// How many nodes may be entered and not left. A call nested so often, alone or through `with`, was measured to end
-/// in `depth` within 640 KiB of stack as LLVM builds it, and within 1,536 KiB as Rattle's own compiler does.
-pub const NESTING: u32 = 2_048;
 
 /// The evaluator of a specification, of which it keeps a copy. Contracts see it as that specification.
 #[derive(Drop)]
@@ -166,9 +160,12 @@ fn evaluate(
     match spec.exprs.place(e.number) {
         Some(expr) => {
             let scope = Scope { alloc, spec, args };
-            let mut env = Vec::new(alloc);
+            let mut env = made.take_row(alloc);
+            // 73,717 nodes were measured to take about a millisecond, and a call nested 2,048 times 640 KiB of stack as
+            // LLVM builds it, 1,536 KiB as Rattle's own compiler does
             let mut fuel = FUEL;
             let reached = enter(&scope, &expr.tree, &mut env, NESTING, &mut fuel, pool, made);
+            made.leave_row(env);
             settled(reached, pool)
         }
         None => pool.put_fault(FaultKind::NoMatch),

@@ -1,9 +1,10 @@
 //! The pool numbers of made terms.
-ghost use Rattle.std.specs.Prelude.{◌≡◌, List, Some, None, length, replicate, slice_get, slice_set, option_and_then, IfOk};
+ghost use Rattle.std.specs.Prelude.{◌≡◌, List, [], Some, None, length, replicate, slice_get, slice_set, option_and_then, IfOk};
 ghost use Rattle.sg_kinds.specs.Values.{Value};
 ghost use Rattle.sg_kinds.specs.declared.marks.Made.{Made};
 ghost use Rattle.sg_eval.specs.MadeTerms.{kept_of, kept_at, with_kept, AreMade};
 
+use crate::live::Live;
 use sg_kinds::ids::{PhylumId, ValueId};
 use sg_kinds::marks::Made;
 use sg_kinds::memory::NoMemory;
@@ -12,11 +13,12 @@ use std::alloc::Global;
 use std::marker::Model;
 
 /// The numbers that the values of completing terms and of placeholders have in a pool, by phylum. Each is kept from its
-/// first use on. Contracts see the two lists.
+/// first use on. Contracts see the two lists. Beside them stand the rows of calls that have ended, for later calls.
 #[derive(Drop)]
 pub struct MadeTerms {
     completing: Vec<Option<ValueId>>,
     placeholders: Vec<Option<ValueId>>,
+    rows: Vec<Vec<Live>>,
 }
 
 impl Model for MadeTerms {
@@ -38,6 +40,7 @@ impl MadeTerms {
         Ok(MadeTerms {
             completing: nothing(alloc, count)?,
             placeholders: nothing(alloc, count)?,
+            rows: Vec::new(alloc),
         })
     }
 
@@ -59,6 +62,25 @@ impl MadeTerms {
             Made::Completing => keep_in(&mut self.completing, p, id),
             Made::Placeholder => keep_in(&mut self.placeholders, p, id),
         }
+    }
+
+    // an empty row: that of a call that has ended, else a new one
+    pub(crate) fn take_row(&mut self, alloc: Global) -> Vec<Live>
+        ensures empty { result.items ≡ [] }
+        ensures same { self.new ≡ self.old }
+    {
+        let Some(mut row) = self.rows.pop() else {
+            return Vec::new(alloc);
+        };
+        row.clear();
+        row
+    }
+
+    // keeps the row of a call that has ended, where there is memory for it
+    pub(crate) fn leave_row(&mut self, row: Vec<Live>)
+        ensures { self.new ≡ self.old }
+    {
+        let _ = self.rows.push(row);
     }
 }
 

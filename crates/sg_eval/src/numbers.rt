@@ -1,5 +1,5 @@
 // Operators on numbers, and the numbers that texts write.
-ghost use Rattle.std.specs.Prelude.{◌≡◌, ℕ, ◌≤◌, ◌<◌, ◌^◌, neg_ℤ, List, Some, MatchOption};
+ghost use Rattle.std.specs.Prelude.{◌≡◌, ℕ, ◌<◌, ◌^◌, neg_ℤ, List, Some, MatchOption};
 ghost use Rattle.sg_kinds.specs.Values.{Value, Fault, Number};
 ghost use Rattle.sg_kinds.specs.Evaluation.{Gives, limited, arithmetic as arithmetic_of, quotient as quotient_of, remainder as remainder_of, in_range as in_range_of, natural as natural_of, integer, converted as converted_of};
 ghost use Rattle.sg_kinds.specs.declared.marks.FaultKind.TheVariants.{Convert};

@@ -1,10 +1,10 @@
 // Patterns over values.
-ghost use Rattle.std.specs.Prelude.{◌≡◌, ◌<◌, ◌^◌, suc, All, map, length, IfOk, MatchOption, IfSome, slice_get, false};
-ghost use Rattle.sg_kinds.specs.Values.{Tree, NoValue, AndValue, row_of, same_value, same_values};
-ghost use Rattle.sg_pool.specs.Pools.{value_at, IsGrown};
+ghost use Rattle.std.specs.Prelude.{◌≡◌, ◌<◌, All, map, length, IfOk, MatchOption, IfSome, false};
+ghost use Rattle.sg_kinds.specs.Values.{row_of, same_value, same_values};
+ghost use Rattle.sg_pool.specs.Pools.{value_at, tree_over, IsGrown};
 ghost use Rattle.sg_kinds.specs.PatternView.{literal_of, pattern_of, patterns_of};
 ghost use Rattle.sg_kinds.specs.Evaluation.{bound_by, bound_by_all, made_value};
-ghost use Rattle.sg_eval.specs.Lives.{value_in, IsKnown, is_tree_of, kids_from, IsMatched};
+ghost use Rattle.sg_eval.specs.Lives.{value_in, IsKnown, is_tree_of, IsMatched};
 ghost use Rattle.sg_eval.specs.MadeTerms.{AreMade};
 
 use crate::live::Live;
@@ -21,8 +21,8 @@ use sg_pool::pool::Pool;
 use std::alloc::Global;
 
 /// Whether a value matches a pattern. What its variables are bound to is put behind `bound`, from left to right. The
-/// numbers of the made terms that it meets are kept.
-#[cycle(matching)]
+/// number of a made term that it meets is kept.
+#[tactic(auto, using(crate::proofs::MadeLater::made_later))]
 pub fn matches(
     alloc: Global,
     spec: &Spec,
@@ -40,91 +40,129 @@ pub fn matches(
     ensures grown { IsGrown pool.old pool.new }
     ensures made { AreMade spec.now made.new pool.new }
 {
+    let mut wanted = None;
+    let given = Given {
+        alloc,
+        spec,
+        pool,
+        made,
+    };
+    let matched = fits(&given, pattern, x, bound, &mut wanted)?;
+    if let Some((kind, p)) = wanted {
+        keep_made(alloc, spec, kind, p, pool, made)?;
+    }
+    Ok(matched)
+}
+
+// what a matching reads
+#[derive(Clone, Copy)]
+struct Given<'a> {
+    alloc: Global,
+    spec: &'a Spec,
+    pool: &'a Pool,
+    made: &'a MadeTerms,
+}
+
+// whether a value matches a pattern. A made term that has no number yet is named in `wanted`
+#[cycle(fitting)]
+fn fits(
+    given: &Given,
+    pattern: &PatternTree,
+    x: Live,
+    bound: &mut Vec<Live>,
+    wanted: &mut Option<(Made, PhylumId)>,
+) -> Result<bool, NoMemory>
+    requires known { IsKnown (length given.now.pool.now) x }
+    requires made { AreMade given.now.spec.now given.now.made.now given.now.pool.now }
+    ensures { IfOk result (λ b. IsMatched given.now.pool.now
+        (bound_by given.now.spec.now (pattern_of pattern.now) (value_in given.now.pool.now x))
+        bound.old.items bound.new.items b) }
+{
     match pattern {
-        PatternTree::Literal(literal) => Ok(is_literal(literal, x, pool)),
+        PatternTree::Literal(literal) => Ok(is_literal(literal, x, given.pool)),
         PatternTree::Anything => Ok(true),
         PatternTree::Variable => {
             bound.push(x)?;
             Ok(true)
         }
-        PatternTree::Made(kind, p) => is_made(alloc, spec, *kind, *p, x, pool, made),
-        PatternTree::Operator(op, parts) => match tree_of(*op, x, pool) {
-            Some(id) => all_match(alloc, spec, parts, id, 0, pool, made, bound),
+        PatternTree::Made(kind, p) => is_made(given, *kind, *p, x, wanted),
+        PatternTree::Operator(op, parts) => match kids_of(*op, x, given.pool) {
+            Some(kids) => all_fit(given, parts, kids, bound, wanted),
             None => Ok(false),
         },
     }
 }
 
-// whether the children of a number's value, from a place on, match these patterns, each its own
-#[cycle(matching)]
-fn all_match(
-    alloc: Global,
-    spec: &Spec,
+// whether the values of these numbers match these patterns, each its own
+#[cycle(fitting)]
+fn all_fit(
+    given: &Given,
     patterns: &PatternList,
-    id: ValueId,
-    from: usize,
-    pool: &mut Pool,
-    made: &mut MadeTerms,
+    kids: &[ValueId],
     bound: &mut Vec<Live>,
+    wanted: &mut Option<(Made, PhylumId)>,
 ) -> Result<bool, NoMemory>
-    requires known { id < length pool.old }
-    requires made { AreMade spec.now made.old pool.old }
-    ensures matched { IfOk result
-        (λ b. IsMatched pool.new (bound_by_all spec.now (patterns_of patterns.now)
-        (kids_from from (value_at pool.new id))) bound.old.items bound.new.items b) }
-    ensures grown { IsGrown pool.old pool.new }
-    ensures made { AreMade spec.now made.new pool.new }
+    requires known { All (λ k. k < length given.now.pool.now) kids.now }
+    requires made { AreMade given.now.spec.now given.now.made.now given.now.pool.now }
+    ensures { IfOk result (λ b. IsMatched given.now.pool.now
+        (bound_by_all given.now.spec.now (patterns_of patterns.now)
+        (row_of (map (value_at given.now.pool.now) kids.now))) bound.old.items bound.new.items b) }
 {
     match patterns {
-        PatternList::End => Ok(kid_at(id, from, pool).is_none()),
+        PatternList::End => Ok(kids.is_empty()),
         PatternList::More(first, rest) => {
-            let Some(kid) = kid_at(id, from, pool) else {
+            let Some((kid, kids)) = kids.split_first() else {
                 return Ok(false);
             };
-            if !matches(
-                alloc,
-                spec,
-                first,
-                Live::Kept(kid.number),
-                pool,
-                made,
-                bound,
-            )? {
+            if !fits(given, first, Live::Kept(kid.number), bound, wanted)? {
                 return Ok(false);
             }
-            all_match(alloc, spec, rest, id, from + 1, pool, made, bound)
+            all_fit(given, rest, kids, bound, wanted)
         }
     }
 }
 
-// whether a value is that of `[p]` or `<p>`. Its number is kept from the first use on; a value over a limit has none.
-#[tactic(auto, using(crate::proofs::MadeLater::made_later, crate::proofs::MadeLater::made_more))]
+// whether a value is that of `[p]` or `<p>`
 fn is_made(
+    given: &Given,
+    kind: Made,
+    p: PhylumId,
+    x: Live,
+    wanted: &mut Option<(Made, PhylumId)>,
+) -> Result<bool, NoMemory>
+    requires known { IsKnown (length given.now.pool.now) x }
+    requires made { AreMade given.now.spec.now given.now.made.now given.now.pool.now }
+    ensures { IfOk result
+        (λ b. b ≡ same_value (made_value given.now.spec.now kind p) (value_in given.now.pool.now x)) }
+{
+    if let Some(id) = given.made.number(kind, p) {
+        return Ok(has_number(id, x, given.pool));
+    }
+    *wanted = Some((kind, p));
+    let value = value_of_made(given.alloc, given.spec, kind, p)?;
+    Ok(is_value(&value, x, given.pool))
+}
+
+// keeps the number of `[p]` or `<p>`; a value over a limit has none
+#[tactic(auto, using(crate::proofs::MadeLater::made_later, crate::proofs::MadeLater::made_more))]
+fn keep_made(
     alloc: Global,
     spec: &Spec,
     kind: Made,
     p: PhylumId,
-    x: Live,
     pool: &mut Pool,
     made: &mut MadeTerms,
-) -> Result<bool, NoMemory>
-    requires known { IsKnown (length pool.old) x }
-    requires made { AreMade spec.now made.old pool.old }
-    ensures same { IfOk result (λ b. b ≡ same_value (made_value spec.now kind p) (value_in pool.new x)) }
+) -> Result<(), NoMemory>
+    requires { AreMade spec.now made.old pool.old }
     ensures grown { IsGrown pool.old pool.new }
     ensures made { AreMade spec.now made.new pool.new }
 {
-    if let Some(id) = made.number(kind, p) {
-        return Ok(has_number(id, x, pool));
-    }
     let value = value_of_made(alloc, spec, kind, p)?;
-    let same = is_value(&value, x, pool);
-    if !value.is_within() {
-        return Ok(same);
+    if value.is_within() {
+        let id = pool.put(&value)?;
+        made.keep(kind, p, id);
     }
-    let id = pool.put(&value)?;
-    made.keep(kind, p, id);
-    Ok(same)
+    Ok(())
 }
 
 // whether a value is that of a number: equal values have one number
@@ -208,42 +246,18 @@ fn are_values_at(vs: &[Value], ids: &[ValueId], pool: &Pool) -> bool
     is_value_at(v, *id, pool) && are_values_at(vs, ids, pool)
 }
 
-// the number of a tree of this operator
-fn tree_of(op: OpId, x: Live, pool: &Pool) -> Option<ValueId>
+// the numbers of the children of a tree of this operator
+fn kids_of<'a>(op: OpId, x: Live, pool: &'a Pool) -> Option<&'a [ValueId]>
     requires { IsKnown (length pool.now) x }
     ensures value { MatchOption result (is_tree_of op (value_in pool.now x) ≡ false)
-        (λ id. value_in pool.now x ≡ Tree op (kids_from 0 (value_at pool.now id))) }
-    ensures known { IfSome result (λ id. id < length pool.now) }
+        (λ kids. value_in pool.now x ≡ tree_over pool.now op kids.now) }
+    ensures known { IfSome result (λ kids. All (λ k. k < length pool.now) kids.now) }
 {
     let Live::Kept(number) = x else {
         return None;
     };
-    let id = ValueId { number };
-    match pool.entry(id) {
-        PoolEntry::Tree(q, _) if *q == op => Some(id),
+    match pool.entry(ValueId { number }) {
+        PoolEntry::Tree(q, kids) if *q == op => Some(kids.as_slice()),
         _ => None,
     }
-}
-
-// the child at a place of a number's value
-fn kid_at(id: ValueId, at: usize, pool: &Pool) -> Option<ValueId>
-    requires { id < length pool.now }
-    ensures value { MatchOption result (kids_from at (value_at pool.now id) ≡ NoValue)
-        (λ kid. kids_from at (value_at pool.now id) ≡ AndValue (value_at pool.now kid)
-        (kids_from (suc at) (value_at pool.now id))) }
-    ensures known { IfSome result (λ kid. kid < length pool.now) }
-    ensures place { IfSome result (λ kid. at < 2 ^ 63) }
-{
-    match pool.entry(id) {
-        PoolEntry::Tree(_, kids) => number_at(kids.as_slice(), at),
-        _ => None,
-    }
-}
-
-// the number at a place
-fn number_at(ids: &[ValueId], at: usize) -> Option<ValueId>
-    ensures number { result ≡ slice_get ids.now at }
-    ensures place { IfSome result (λ id. at < 2 ^ 63) }
-{
-    ids.get(at).copied()
 }

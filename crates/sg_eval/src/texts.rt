@@ -1,5 +1,5 @@
 // Operators on texts.
-ghost use Rattle.std.specs.Prelude.{◌≡◌, ℕ, ◌++◌, List, pos, length, MatchOption, IsTrue, false};
+ghost use Rattle.std.specs.Prelude.{◌≡◌, ℕ, List, length, MatchOption, IsTrue, false};
 ghost use Rattle.std.specs.Fmt.{signed_decimal};
 ghost use Rattle.sg_kinds.specs.Values.{Value, Chars, Number};
 ghost use Rattle.sg_pool.specs.Pools.{value_at, IsGrown};
@@ -11,9 +11,9 @@ ghost use Rattle.sg_eval.specs.Lives.{IsReached, is_settled, is_chars};
 use crate::live::{Live, Stop};
 use crate::numbers::converted;
 use sg_kinds::ids::ValueId;
+use sg_kinds::limits::VALUE_SIZE;
 use sg_kinds::marks::FaultKind;
 use sg_kinds::text::Text;
-use sg_kinds::value::SIZE_LIMIT;
 use sg_pool::entry::PoolEntry;
 use sg_pool::pool::Pool;
 use std::alloc::Global;
@@ -24,7 +24,7 @@ pub fn text(bytes: Vec<u8>, pool: &mut Pool) -> Result<Live, Stop>
         IsReached last result left (limited (Gives (Chars bytes.items) left)) }
     ensures grown { IsGrown pool.old pool.new }
 {
-    if bytes.len() >= SIZE_LIMIT as usize {
+    if bytes.len() >= VALUE_SIZE as usize {
         return Err(Stop::Fault(FaultKind::Size));
     }
     let id = pool.put_text(Text::new(bytes))?;

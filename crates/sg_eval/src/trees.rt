@@ -1,5 +1,5 @@
 // Trees of operators, and made terms.
-ghost use Rattle.std.specs.Prelude.{◌≡◌, ℕ, ◌<◌, List, length, map, IfOk, IsTrue};
+ghost use Rattle.std.specs.Prelude.{◌≡◌, ℕ, ◌<◌, List, length, map, IfOk};
 ghost use Rattle.sg_kinds.specs.Values.{Value, Tree, row_of};
 ghost use Rattle.sg_kinds.specs.Terms.{kids_of};
 ghost use Rattle.sg_kinds.specs.ValueOf.{value_of as value_of_term, values_of as values_of_terms};
@@ -13,7 +13,7 @@ use sg_kinds::marks::{FaultKind, Made};
 use sg_kinds::memory::NoMemory;
 use sg_kinds::spec::Spec;
 use sg_kinds::term::{Term, TermNode};
-use sg_kinds::value::{DEPTH_LIMIT, Kids, SIZE_LIMIT, Value};
+use sg_kinds::value::{Kids, Value};
 use sg_pool::entry::PoolEntry;
 use sg_pool::pool::{Pool, PoolFault};
 use std::alloc::Global;
@@ -96,7 +96,7 @@ pub fn read(id: ValueId, pool: &Pool) -> Result<Live, Stop>
         PoolEntry::Int(n) => Ok(Live::Number(*n)),
         PoolEntry::Fault(kind) => Err(Stop::Fault(*kind)),
         _ => {
-            if pool.size(id) <= SIZE_LIMIT as u64 && pool.depth(id) <= DEPTH_LIMIT {
+            if pool.is_within(id) {
                 Ok(Live::Kept(id.number))
             } else {
                 Err(Stop::Fault(FaultKind::Size))

@@ -1,6 +1,6 @@
 -- A pool of the code as the list of its values.
-use Rattle.std.specs.Prelude.{◌≡◌, ℕ, suc, ◌<◌, List, [], ◌∷◌, ◌++◌, map, ⊤}
-use Rattle.sg_kinds.specs.Values.{Value, size_of, depth_of}
+use Rattle.std.specs.Prelude.{◌≡◌, ℕ, suc, ◌<◌, ◌&&◌, nat_le, List, [], ◌∷◌, ◌++◌, map, ⊤}
+use Rattle.sg_kinds.specs.Values.{Value, size_of, depth_of, size_limit, depth_limit}
 use Rattle.sg_pool.specs.Pools.{AreDifferent}
 use Rattle.sg_pool.specs.PoolEntries.{PoolEntry, entry_value, kid_numbers}
 use Rattle.sg_pool.specs.declared.pool.Measure.{Measure}
@@ -23,9 +23,12 @@ abbrev pub AreOrdered : ℕ → List PoolEntry → Type 0
 AreOrdered n [] = ⊤
 AreOrdered n (e ∷ es) = AreBelow n (kid_numbers e) × AreOrdered (suc n) es
 
--- what is kept of a value: its size and its depth
+-- what is kept of a value: its size and its depth, and whether they are in the limits
+abbrev pub measured : ℕ → ℕ → Measure
+measured size depth = record { size = size; depth = depth; within = nat_le size size_limit && nat_le depth depth_limit }
+
 abbrev pub measure_of : Value → Measure
-measure_of v = record { size = size_of v; depth = depth_of v }
+measure_of v = measured (size_of v) (depth_of v)
 
 pub record IsPooled (es : List PoolEntry) (ms : List Measure) : Type 0 where
   pub ordered : AreOrdered 0 es

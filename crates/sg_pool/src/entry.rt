@@ -1,5 +1,5 @@
 // The entries of a pool.
-ghost use Rattle.std.specs.Prelude.{◌≡◌, ◌↔◌, IsTrue};
+ghost use Rattle.std.specs.Prelude.{◌≡◌};
 ghost use Rattle.sg_kinds.specs.Values.{fault_number};
 ghost use Rattle.sg_pool.specs.PoolEntries.{same_entry, entry_writes};
 ghost use Rattle.sg_pool.specs.SameEntry.{entry_partial, entry_equal, entry_alike};

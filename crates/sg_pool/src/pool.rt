@@ -1,19 +1,20 @@
 // The pool of shared values.
-ghost use Rattle.std.specs.Prelude.{◌≡◌, ℕ, ◌<◌, ◌↔◌, [], length, map, All, IsTrue, IsErrOf, MatchOption, IfOk, OnOk, OnErr, IfErr, MatchResult, true, false, slice_get, Some};
-ghost use Rattle.sg_kinds.specs.Values.{row_of, Truth, Number, Chars, Tree, Fault, size_of, depth_of, is_within};
+ghost use Rattle.std.specs.Prelude.{◌≡◌, ℕ, ◌<◌, ◌↔◌, [], length, map, All, IsTrue, IsErrOf, MatchOption, IfOk, OnOk, OnErr, true, false, Some};
+ghost use Rattle.sg_kinds.specs.Values.{row_of, Truth, Number, Chars, Tree, Fault, size_of, depth_of, is_within as is_within_limits};
 ghost use Rattle.sg_pool.specs.Pools.{value_at, StandsFor, tree_over, with_value, interned, interned_all, is_kept, IsGrown, AreDifferent};
 ghost use Rattle.sg_pool.specs.PoolEntries.{entry_value, kid_numbers};
-ghost use Rattle.sg_pool.specs.PoolView.{AreBelow, measure_of};
+ghost use Rattle.sg_pool.specs.PoolView.{AreBelow, measured as measured_of, measure_of};
 ghost use Rattle.sg_pool.specs.declared.pool.PoolFault.TheVariants.{NoMemory as PoolNoMemory};
 
 use crate::entry::PoolEntry;
 use indexmap::IndexSet;
 use sg_kinds::ids::{OpId, ValueId};
+use sg_kinds::limits::{VALUE_DEPTH, VALUE_SIZE};
 use sg_kinds::marks::FaultKind;
 use sg_kinds::memory::NoMemory;
 use sg_kinds::row::{Row, item};
 use sg_kinds::text::Text;
-use sg_kinds::value::{DEPTH_LIMIT, Kids, SIZE_LIMIT, Value, ValueNode};
+use sg_kinds::value::{Kids, Value, ValueNode};
 use std::alloc::Global;
 use std::marker::Model;
 
@@ -33,15 +34,31 @@ impl From<NoMemory> for PoolFault {
     }
 }
 
-// what is kept of a value
+// what is kept of a value: its size and its depth, and whether it is in the limits of values
 #[derive(Clone, Copy)]
 struct Measure {
     size: u64,
     depth: u32,
+    within: bool,
 }
 
 // of a value that is no text and no tree
-const LEAF: Measure = Measure { size: 1, depth: 1 };
+const LEAF: Measure = Measure {
+    size: 1,
+    depth: 1,
+    within: true,
+};
+
+// of a value of this size and depth
+fn measured(size: u64, depth: u32) -> Measure
+    ensures { result ≡ measured_of size depth }
+{
+    Measure {
+        size,
+        depth,
+        within: size <= VALUE_SIZE as u64 && depth <= VALUE_DEPTH,
+    }
+}
 
 /// Values that are shared: a value has one number, and equal numbers are equal values. Contracts see the values in the
 /// order of their numbers. A pool only grows, and each number keeps its value.
@@ -124,6 +141,14 @@ impl Pool {
         self.measures.get(id.number).unwrap().depth
     }
 
+    /// Whether a number's value is in the limits of values.
+    pub fn is_within(&self, id: ValueId) -> bool
+        requires { id < length self.now }
+        ensures { result ≡ is_within_limits (value_at self.now id) }
+    {
+        self.measures.get(id.number).unwrap().within
+    }
+
     /// The value of a number.
     #[cycle(value)]
     pub fn value(&self, alloc: Global, id: ValueId) -> Result<Value, NoMemory>
@@ -177,10 +202,7 @@ impl Pool {
                 let numbers = self.put_all(kids)?;
                 self.enter(
                     PoolEntry::Tree(*op, Row::new(numbers)),
-                    Measure {
-                        size: size as u64,
-                        depth,
-                    },
+                    measured(size as u64, depth),
                 )
             }
             ValueNode::Fault(kind) => self.put_fault(*kind),
@@ -229,7 +251,7 @@ impl Pool {
         ensures grown { IsGrown self.old self.new }
     {
         let size = text.as_slice().len() as u64 + 1;
-        self.enter(PoolEntry::Text(text), Measure { size, depth: 1 })
+        self.enter(PoolEntry::Text(text), measured(size, 1))
     }
 
     /// The number of a fault.
@@ -248,7 +270,7 @@ impl Pool {
         requires { All (λ k. k < length self.old) kids.now }
         ensures stands { IfOk result (λ id. StandsFor self.new id (tree_over self.old op kids.now)) }
         ensures pool { OnOk result (self.new ≡ with_value self.old (tree_over self.old op kids.now)) }
-        ensures size { IsErrOf result PoolFault.Size ↔ (is_within (tree_over self.old op kids.now) ≡ false) }
+        ensures size { IsErrOf result PoolFault.Size ↔ (is_within_limits (tree_over self.old op kids.now) ≡ false) }
         ensures err { OnErr result (self.new ≡ self.old) }
         ensures grown { IsGrown self.old self.new }
     {
@@ -262,21 +284,21 @@ impl Pool {
     // the measure of a tree over the values of these numbers, none where it is over a limit
     fn measure_over(&self, kids: &[ValueId]) -> Option<Measure>
         requires { All (λ k. k < length self.now) kids.now }
-        ensures { MatchOption result (is_within (tree_over self.now 0 kids.now)
+        ensures { MatchOption result (is_within_limits (tree_over self.now 0 kids.now)
             ≡ false) (λ m. (m ≡ measure_of (tree_over self.now 0 kids.now))
-            × (is_within (tree_over self.now 0 kids.now) ≡ true)) }
+            × (is_within_limits (tree_over self.now 0 kids.now) ≡ true)) }
     {
         let mut size: u64 = 1;
         let mut depth: u32 = 1;
         for kid in kids {
             let (kid_size, kid_depth) = (self.size(*kid), self.depth(*kid));
-            if kid_size > SIZE_LIMIT as u64 - size || kid_depth >= DEPTH_LIMIT {
+            if kid_size > VALUE_SIZE as u64 - size || kid_depth >= VALUE_DEPTH {
                 return None;
             }
             size += kid_size;
             depth = depth.max(kid_depth + 1);
         }
-        Some(Measure { size, depth })
+        Some(measured(size, depth))
     }
 
     // the number of an entry, which is put last where it is not there

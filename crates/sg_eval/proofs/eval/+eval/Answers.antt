@@ -67,13 +67,13 @@ call-returns-in_err-args-clause-value t c = λ last g.
     let p = err_from_is_err_and c.from_residual.result c.from_residual.ensures.1 in
     rw (p.1, p.2) (halted last c.in_err-args.field-0.0 c.row.new.fuel _ _ (c.in_err-args.ensures.value last g))
 
-pub apply-tree-requires : goal.apply-tree-requires
-apply-tree-requires t c = subst (AreUsable c.row.new.pool) (sym c.deref.ensures.value) (c.in_ok-kids.ensures.value c.row.new.pool (grown_itself c.row.new.pool)).1
+pub apply-tree-reached-requires : goal.apply-tree-reached-requires
+apply-tree-reached-requires t c = subst (AreUsable c.row.new.pool) (sym c.deref.ensures.value) (c.in_ok-kids.ensures.value c.row.new.pool (grown_itself c.row.new.pool)).1
 
 pub apply-returns-clause-value : goal.apply-returns-clause-value
 apply-returns-clause-value t c = λ last g.
-    row_goes last c.in_ok-kids.kids.items c.row.new.fuel _ _ c.tree.result c.row.new.fuel (c.in_ok-kids.ensures.value last (grown_twice _ _ _ c.tree.ensures.grown g))
-    (subst (λ l. IsReached last c.tree.result c.row.new.fuel (limited (Gives (Tree c.args.op (row_of (map (value_in last) l))) c.row.new.fuel))) c.deref.ensures.value (c.tree.ensures.value last c.row.new.fuel g))
+    row_goes last c.in_ok-kids.kids.items c.row.new.fuel _ _ c.tree-reached.result c.row.new.fuel (c.in_ok-kids.ensures.value last (grown_twice _ _ _ c.tree-reached.ensures.grown g))
+    (subst (λ l. IsReached last c.tree-reached.result c.row.new.fuel (limited (Gives (Tree c.args.op (row_of (map (value_in last) l))) c.row.new.fuel))) c.deref.ensures.value (c.tree-reached.ensures.value last c.row.new.fuel g))
 
 pub call-returns-in_default-clause-value : goal.call-returns-in_default-clause-value
 call-returns-in_default-clause-value t c = λ last g.
@@ -86,16 +86,16 @@ call-returns-in_default-place-clause-value t c = λ last g.
     (no_body (value_within c.args.scope.now.spec.now c.args.room) last _ _ c.row.new.fuel (body_there c.args.scope.now.spec.now c.args.f c.in-Some.function.now _ c.in-Some.ensures
     (subst (λ k. slice_get c.args.scope.now.spec.now.exprs k ≡ None) (ap (λ (f : Function). f.body) c.function.view_is) c.in_default-place.ensures)))
 
-pub call-enter-requires : goal.call-enter-requires
-call-enter-requires t c = (search rules, (all_usable_known c.row.new.pool c.in_ok-args.args.items (c.in_ok-args.ensures.value c.row.new.pool (grown_itself c.row.new.pool)).1, c.row.ensures.made))
+pub call-enter-reached-requires : goal.call-enter-reached-requires
+call-enter-reached-requires t c = (search rules, (all_usable_known c.row.new.pool c.in_ok-args.args.items (c.in_ok-args.ensures.value c.row.new.pool (grown_itself c.row.new.pool)).1, c.row.ensures.made))
 
 pub call-returns-clause-value : goal.call-returns-clause-value
 call-returns-clause-value t c = λ last g.
-    row_goes last c.in_ok-args.args.items c.row.new.fuel _ _ c.enter.result c.enter.new.fuel (c.in_ok-args.ensures.value last (grown_twice _ _ _ c.enter.ensures.grown g))
-    (with_body (value_within c.args.scope.now.spec.now c.args.room) last _ (expr_of c.body.inside.tree) _ c.row.new.fuel c.enter.new.fuel c.enter.result
+    row_goes last c.in_ok-args.args.items c.row.new.fuel _ _ c.enter-reached.result c.enter-reached.new.fuel (c.in_ok-args.ensures.value last (grown_twice _ _ _ c.enter-reached.ensures.grown g))
+    (with_body (value_within c.args.scope.now.spec.now c.args.room) last _ (expr_of c.body.inside.tree) _ c.row.new.fuel c.enter-reached.new.fuel c.enter-reached.result
     (body_there c.args.scope.now.spec.now c.args.f c.in-Some.function.now _ c.in-Some.ensures
     (subst (λ k. slice_get c.args.scope.now.spec.now.exprs k ≡ Some c.in-Some-place.body.now) (ap (λ (f : Function). f.body) c.function.view_is) c.in-Some-place.ensures ∙ ap Some (sym c.body.view_is)))
-    (c.enter.ensures.value last g))
+    (c.enter-reached.ensures.value last g))
 
 pub bind-enter-requires-2 : goal.bind-enter-requires-2
 bind-enter-requires-2 t c = (
@@ -301,7 +301,7 @@ pub cons-returns-clause-made : goal.cons-returns-clause-made
 cons-returns-clause-made t c = made_later _ _ _ _ c.enter-2.ensures.made c.tree.ensures.grown
 
 pub apply-returns-clause-made : goal.apply-returns-clause-made
-apply-returns-clause-made t c = made_later _ _ _ _ c.row.ensures.made c.tree.ensures.grown
+apply-returns-clause-made t c = rw c.leave_row.ensures (made_later _ _ _ _ c.row.ensures.made c.tree-reached.ensures.grown)
 
 pub step-returns-in-Call-clause-value : goal.step-returns-in-Call-clause-value
 step-returns-in-Call-clause-value t c = λ last g. rw c.in-Call.is (c.call.ensures.value last g)

@@ -15,7 +15,7 @@ returns-in-None-clause-outcome c =
 
 pub enter-reached-requires-clause-known : goal.enter-reached-requires-clause-known
 enter-reached-requires-clause-known c =
-    subst (λ l. AreKnown (length c.args.pool.now) (bindings c.args.args.now l)) (sym c.new-env.ensures.items) (known_args (length c.args.pool.now) c.args.args.now c.requires.args)
+    subst (λ l. AreKnown (length c.args.pool.now) (bindings c.args.args.now l)) (sym c.take_row-env.ensures.empty) (known_args (length c.args.pool.now) c.args.args.now c.requires.args)
 
 pub returns-in-Some-clause-outcome : goal.returns-in-Some-clause-outcome
 returns-in-Some-clause-outcome c =
@@ -25,7 +25,7 @@ returns-in-Some-clause-outcome c =
     let x = c.in-Some.expr.now in
     let h : slice_get spec.exprs c.args.e ≡ Some x = ap (slice_get spec.exprs) (sym c.e.view_is) ∙ c.in-Some.ensures in
     subst (λ v. IfOk c.settled.result (λ id. StandsFor c.settled.new.pool id v))
-    (ap (λ y. outcome_in (value_within spec 2048 y (bound_in pool args c.new-env.result.items) 100000)) c.expr.view_is
-    ∙ ap (λ b. outcome_in (value_within spec 2048 x b 100000)) (ap (bound_in pool args) c.new-env.ensures.items ∙ bound_later c.args.pool.now pool args c.enter-reached.ensures.grown c.requires.args)
+    (ap (λ y. outcome_in (value_within spec 2048 y (bound_in pool args c.take_row-env.result.items) 100000)) c.expr.view_is
+    ∙ ap (λ b. outcome_in (value_within spec 2048 x b 100000)) (ap (bound_in pool args) c.take_row-env.ensures.empty ∙ bound_later c.args.pool.now pool args c.enter-reached.ensures.grown c.requires.args)
     ∙ sym (outcome_there spec c.args.e x (map (value_at c.args.pool.now) args) h))
     (c.settled.ensures.ok _ _ (c.enter-reached.ensures.value pool (grown_itself pool)))

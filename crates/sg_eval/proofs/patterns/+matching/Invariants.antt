@@ -1,9 +1,0 @@
-use Rattle.sg_kinds.specs.PatternView.{pattern_of, patterns_of}
-use Rattle.sg_eval.proofs.Matched.{weight_of, weights_of}
-use Rattle.sg_eval.proofs.patterns.+matching.Given as goal
-
-abbrev pub decreases-matches : goal.decreases-matches
-decreases-matches l = weight_of (pattern_of l.pattern.now)
-
-abbrev pub decreases-all_match : goal.decreases-all_match
-decreases-all_match l = weights_of (patterns_of l.patterns.now)
