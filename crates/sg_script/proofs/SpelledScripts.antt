@@ -16,7 +16,7 @@ use Rattle.sg_script.specs.declared.command.Command.TheVariants.{New, Load, Swit
 use Rattle.sg_script.specs.declared.lines.Said.TheVariants as said
 use Rattle.sg_script.specs.declared.fault.ScriptFault.TheVariants.{Long, Line, Many}
 use Rattle.sg_script.specs.Forms.{is_name, name_of, is_file_name, file_name_of, count_of}
-use Rattle.sg_script.specs.Commands.{one_name, one_file, one_count, one_string, loaded, placed, command_of}
+use Rattle.sg_script.specs.Commands.{one_name, one_file, one_count, one_string, loaded, placed, command_of, rows, edit_rows, text_rows, is_word}
 use Rattle.sg_script.specs.Script.{says_nothing, meaning_of, commands_said, commands_in, is_unknown, bad_line, fault_in, verdict, script_of}
 use Rattle.sg_script.specs.Spelled.{string_of, line_of, is_position, is_text, has_forms, text_of, is_script}
 use Rattle.sg_script.proofs.Spelled.{is_plain, first_word, name_word, name_plain, name_there, name_is, name_last, file_plain, file_is, file_last, place_word, place_plain, place_there, place_is, place_last, unescaped_escaped, string_last, plain_append, string_plain}
@@ -47,7 +47,7 @@ placed_is l c h k =
 
 -- a command is that of the line that spells it
 pub spelled : (c : Command) → has_forms c ≡ true → command_of (line_of c) ≡ Some c
-unfolding command_of
+unfolding command_of rows edit_rows text_rows is_word
 spelled (New b) h = ap (option_map New) (one_name_is b h)
 spelled (Load b f) h = let p = and_parts (is_name b) (is_file_name f) h in loaded_is b f p.0 p.1
 spelled (Switch b) h = ap (option_map Switch) (one_name_is b h)

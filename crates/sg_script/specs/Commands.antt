@@ -1,10 +1,9 @@
 -- The commands by their words.
-use Rattle.std.specs.Prelude.{ℕ, List, [], ◌∷◌, Option, Some, None, option_map, option_and_then, find, codes, bytes_eq, if◌then◌else◌}
+use Rattle.std.specs.Prelude.{ℕ, Bool, List, [], ◌∷◌, Option, Some, None, option_map, option_and_then, codes, bytes_eq, if◌then◌else◌}
+use Rattle.std.specs.Map.{lookup}
 use Rattle.sg_text.specs.Strings.{unescaped}
 use Rattle.sg_script.specs.declared.command.Command.{Command}
 use Rattle.sg_script.specs.declared.command.Command.TheVariants as command
-use Rattle.sg_script.specs.declared.verbs.Verb.{Verb}
-use Rattle.sg_script.specs.declared.verbs.Verb.TheVariants.{New, Load, Switch, Show, Next, Prev, Up, First, Sibling, Goto, Extend, Shrink, Find, Do, ReplaceAll, Delete, Remove, InsertBefore, InsertAfter, Cut as CutOut, Copy, Paste, Text, TypeIn, Erase, Enter, Abandon, Alternate, Elide, Undo, Redo, Save, SaveText}
 use Rattle.sg_script.specs.Words.{word_at, next_word, is_end, last_word, last_string}
 use Rattle.sg_script.specs.Forms.{name_of, file_name_of, count_of}
 
@@ -46,53 +45,65 @@ placed rest =
     option_and_then (λ c. option_and_then (λ line. option_map (command.Goto line) (one_count c.1)) (count_of c.0))
     (next_word rest)
 
--- the table of commands: the word of each, and how the rest of its line is read
-abbrev pub row_of : Verb → List ℕ × (List ℕ → Option Command)
-row_of New = (codes "new", named command.New)
-row_of Load = (codes "load", loaded)
-row_of Switch = (codes "switch", named command.Switch)
-row_of Show = (codes "show", alone command.Show)
-row_of Next = (codes "next", alone command.Next)
-row_of Prev = (codes "prev", alone command.Prev)
-row_of Up = (codes "up", alone command.Up)
-row_of First = (codes "first", alone command.First)
-row_of Sibling = (codes "sibling", alone command.Sibling)
-row_of Goto = (codes "goto", placed)
-row_of Extend = (codes "extend", alone command.Extend)
-row_of Shrink = (codes "shrink", alone command.Shrink)
-row_of Find = (codes "find", quoted command.Find)
-row_of Do = (codes "do", quoted command.Do)
-row_of ReplaceAll = (codes "replace-all", quoted command.ReplaceAll)
-row_of Delete = (codes "delete", alone command.Delete)
-row_of Remove = (codes "remove", alone command.Remove)
-row_of InsertBefore = (codes "insert-before", alone command.InsertBefore)
-row_of InsertAfter = (codes "insert-after", alone command.InsertAfter)
-row_of CutOut = (codes "cut", alone command.Cut)
-row_of Copy = (codes "copy", alone command.Copy)
-row_of Paste = (codes "paste", alone command.Paste)
-row_of Text = (codes "text", quoted command.Text)
-row_of TypeIn = (codes "type", quoted command.TypeIn)
-row_of Erase = (codes "erase", alone command.Erase)
-row_of Enter = (codes "enter", alone command.Enter)
-row_of Abandon = (codes "abandon", alone command.Abandon)
-row_of Alternate = (codes "alternate", alone command.Alternate)
-row_of Elide = (codes "elide", alone command.Elide)
-row_of Undo = (codes "undo", alone command.Undo)
-row_of Redo = (codes "redo", alone command.Redo)
-row_of Save = (codes "save", filed command.Save)
-row_of SaveText = (codes "save-text", filed command.SaveText)
+-- a row of the table of commands: the word of one, and how the rest of its line is read
+abbrev pub Row : Type 0
+Row = List ℕ × (List ℕ → Option Command)
 
--- all of its rows
-abbrev pub verbs : List Verb
-verbs =
-    New ∷ Load ∷ Switch ∷ Show ∷ Next ∷ Prev ∷ Up ∷ First ∷ Sibling ∷ Goto ∷ Extend ∷ Shrink ∷ Find ∷ Do ∷ ReplaceAll
-    ∷ Delete ∷ Remove ∷ InsertBefore ∷ InsertAfter ∷ CutOut ∷ Copy ∷ Paste ∷ Text ∷ TypeIn ∷ Erase ∷ Enter ∷ Abandon
-    ∷ Alternate ∷ Elide ∷ Undo ∷ Redo ∷ Save ∷ SaveText ∷ []
+-- the table: texts, the way back and files; before them what an edit is; before these buffers and moves
+unfoldable pub text_rows : List Row
+text_rows =
+    (codes "text", quoted command.Text)
+    ∷ (codes "type", quoted command.TypeIn)
+    ∷ (codes "erase", alone command.Erase)
+    ∷ (codes "enter", alone command.Enter)
+    ∷ (codes "abandon", alone command.Abandon)
+    ∷ (codes "alternate", alone command.Alternate)
+    ∷ (codes "elide", alone command.Elide)
+    ∷ (codes "undo", alone command.Undo)
+    ∷ (codes "redo", alone command.Redo)
+    ∷ (codes "save", filed command.Save)
+    ∷ (codes "save-text", filed command.SaveText)
+    ∷ []
 
--- the row of a word
-abbrev pub verb_of : List ℕ → Option Verb
-verb_of word = find (λ v. bytes_eq (row_of v).0 word) verbs
+unfoldable pub edit_rows : List Row
+edit_rows =
+    (codes "extend", alone command.Extend)
+    ∷ (codes "shrink", alone command.Shrink)
+    ∷ (codes "find", quoted command.Find)
+    ∷ (codes "do", quoted command.Do)
+    ∷ (codes "replace-all", quoted command.ReplaceAll)
+    ∷ (codes "delete", alone command.Delete)
+    ∷ (codes "remove", alone command.Remove)
+    ∷ (codes "insert-before", alone command.InsertBefore)
+    ∷ (codes "insert-after", alone command.InsertAfter)
+    ∷ (codes "cut", alone command.Cut)
+    ∷ (codes "copy", alone command.Copy)
+    ∷ (codes "paste", alone command.Paste)
+    ∷ text_rows
+
+unfoldable pub rows : List Row
+rows =
+    (codes "new", named command.New)
+    ∷ (codes "load", loaded)
+    ∷ (codes "switch", named command.Switch)
+    ∷ (codes "show", alone command.Show)
+    ∷ (codes "next", alone command.Next)
+    ∷ (codes "prev", alone command.Prev)
+    ∷ (codes "up", alone command.Up)
+    ∷ (codes "first", alone command.First)
+    ∷ (codes "sibling", alone command.Sibling)
+    ∷ (codes "goto", placed)
+    ∷ edit_rows
+
+-- whether a row's word is this one
+unfoldable pub is_word : List ℕ → List ℕ → Bool
+is_word name word = bytes_eq name word
+
+-- how the row of a word reads the rest of a line
+abbrev pub read_by : List Row → List ℕ → List ℕ → Option Command
+read_by rows word rest =
+    option_and_then (λ (read : List ℕ → Option Command). read rest) (lookup (λ name. is_word name word) rows)
 
 -- the command of a line
 unfoldable pub command_of : List ℕ → Option Command
-command_of line = option_and_then (λ v. (row_of v).1 (word_at line).1) (verb_of (word_at line).0)
+command_of line = read_by rows (word_at line).0 (word_at line).1

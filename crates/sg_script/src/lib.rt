@@ -9,10 +9,9 @@ mod lines;
 mod message;
 mod rows;
 mod script;
-mod verbs;
 mod words;
 
 pub use command::{Command, FileName};
 pub use fault::ScriptFault;
-pub use message::{Message, write_message, write_number};
+pub use message::{Message, write_message};
 pub use script::read;

@@ -1,8 +1,8 @@
 // Messages.
 ghost use Rattle.std.specs.Prelude.{◌≡◌, ◌++◌, OnOk};
-ghost use Rattle.std.specs.Fmt.{decimal};
 ghost use Rattle.sg_script.specs.Message.{kind_text, words, message_text};
 
+use sg_kinds::decimal::write_number;
 use sg_kinds::marks::FaultKind;
 use sg_kinds::memory::NoMemory;
 use std::alloc::Global;
@@ -118,15 +118,6 @@ fn words(message: Message) -> &'static [u8]
         Message::FormAt(_) => b"form at ",
         Message::TooManyFiles => b"too many files",
     }
-}
-
-/// Writes a number in decimal.
-pub fn write_number(alloc: Global, out: &mut Vec<u8>, n: u64) -> Result<(), NoMemory>
-    ensures { OnOk result (out.new.items ≡ out.old.items ++ decimal n) }
-{
-    let text = n.to_string(alloc)?;
-    out.extend_from_slice(text.as_bytes())?;
-    Ok(())
 }
 
 /// Writes a message.

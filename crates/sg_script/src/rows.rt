@@ -1,12 +1,11 @@
 // The command of a line, by the table of commands.
 ghost use Rattle.std.specs.Prelude.{◌≡◌, IfOk};
 ghost use Rattle.sg_script.specs.declared.command.Command.TheVariants as spec;
-ghost use Rattle.sg_script.specs.Commands.{one_name, one_file, one_string, alone, named, filed, quoted, loaded, placed, row_of, command_of};
+ghost use Rattle.sg_script.specs.Commands.{one_name, one_file, one_string, alone, named, filed, quoted, loaded, placed, is_word, text_rows, edit_rows, rows, read_by, command_of};
 
 use crate::command::{Command, FileName};
 use crate::forms::{count_of, name_of};
-use crate::verbs::{Verb, verb_of};
-use crate::words::{is_end, last_string, last_word, next_word, word_at};
+use crate::words::{Cut, is_end, last_string, last_word, next_word, word_at};
 use sg_kinds::memory::NoMemory;
 use sg_kinds::text::Text;
 use sg_text::unescape;
@@ -135,44 +134,74 @@ fn alone(command: Command, rest: &[u8]) -> Option<Command>
     if is_end(rest) { Some(command) } else { None }
 }
 
-// the command of a word and of the rest of its line
-fn command_by(alloc: Global, verb: Verb, rest: &[u8]) -> Result<Option<Command>, NoMemory>
-    ensures { IfOk result (λ o. o ≡ (row_of verb).1 rest.now) }
+// whether a row's word is this one
+#[tactic(auto, unfolding(crate::specs::Commands::is_word))]
+fn is_word(word: &[u8], name: &[u8]) -> bool
+    ensures { result ≡ is_word name.now word.now }
 {
-    match verb {
-        Verb::New => new_of(alloc, rest),
-        Verb::Load => loaded(alloc, rest),
-        Verb::Switch => switch_of(alloc, rest),
-        Verb::Show => Ok(alone(Command::Show, rest)),
-        Verb::Next => Ok(alone(Command::Next, rest)),
-        Verb::Prev => Ok(alone(Command::Prev, rest)),
-        Verb::Up => Ok(alone(Command::Up, rest)),
-        Verb::First => Ok(alone(Command::First, rest)),
-        Verb::Sibling => Ok(alone(Command::Sibling, rest)),
-        Verb::Goto => Ok(placed(rest)),
-        Verb::Extend => Ok(alone(Command::Extend, rest)),
-        Verb::Shrink => Ok(alone(Command::Shrink, rest)),
-        Verb::Find => find_of(alloc, rest),
-        Verb::Do => do_of(alloc, rest),
-        Verb::ReplaceAll => replace_all_of(alloc, rest),
-        Verb::Delete => Ok(alone(Command::Delete, rest)),
-        Verb::Remove => Ok(alone(Command::Remove, rest)),
-        Verb::InsertBefore => Ok(alone(Command::InsertBefore, rest)),
-        Verb::InsertAfter => Ok(alone(Command::InsertAfter, rest)),
-        Verb::Cut => Ok(alone(Command::Cut, rest)),
-        Verb::Copy => Ok(alone(Command::Copy, rest)),
-        Verb::Paste => Ok(alone(Command::Paste, rest)),
-        Verb::Text => text_of(alloc, rest),
-        Verb::TypeIn => type_of(alloc, rest),
-        Verb::Erase => Ok(alone(Command::Erase, rest)),
-        Verb::Enter => Ok(alone(Command::Enter, rest)),
-        Verb::Abandon => Ok(alone(Command::Abandon, rest)),
-        Verb::Alternate => Ok(alone(Command::Alternate, rest)),
-        Verb::Elide => Ok(alone(Command::Elide, rest)),
-        Verb::Undo => Ok(alone(Command::Undo, rest)),
-        Verb::Redo => Ok(alone(Command::Redo, rest)),
-        Verb::Save => save_of(alloc, rest),
-        Verb::SaveText => save_text_of(alloc, rest),
+    word == name
+}
+
+// the command of a word and of the rest of its line: texts, the way back and files
+#[tactic(auto, unfolding(crate::specs::Commands::text_rows))]
+fn text_command(alloc: Global, word: &[u8], rest: &[u8]) -> Result<Option<Command>, NoMemory>
+    ensures { IfOk result (λ o. o ≡ read_by text_rows word.now rest.now) }
+{
+    match word {
+        _ if is_word(word, b"text") => text_of(alloc, rest),
+        _ if is_word(word, b"type") => type_of(alloc, rest),
+        _ if is_word(word, b"erase") => Ok(alone(Command::Erase, rest)),
+        _ if is_word(word, b"enter") => Ok(alone(Command::Enter, rest)),
+        _ if is_word(word, b"abandon") => Ok(alone(Command::Abandon, rest)),
+        _ if is_word(word, b"alternate") => Ok(alone(Command::Alternate, rest)),
+        _ if is_word(word, b"elide") => Ok(alone(Command::Elide, rest)),
+        _ if is_word(word, b"undo") => Ok(alone(Command::Undo, rest)),
+        _ if is_word(word, b"redo") => Ok(alone(Command::Redo, rest)),
+        _ if is_word(word, b"save") => save_of(alloc, rest),
+        _ if is_word(word, b"save-text") => save_text_of(alloc, rest),
+        _ => Ok(None),
+    }
+}
+
+// edits, and what is behind them in the table
+#[tactic(auto, unfolding(crate::specs::Commands::edit_rows))]
+fn edit_command(alloc: Global, word: &[u8], rest: &[u8]) -> Result<Option<Command>, NoMemory>
+    ensures { IfOk result (λ o. o ≡ read_by edit_rows word.now rest.now) }
+{
+    match word {
+        _ if is_word(word, b"extend") => Ok(alone(Command::Extend, rest)),
+        _ if is_word(word, b"shrink") => Ok(alone(Command::Shrink, rest)),
+        _ if is_word(word, b"find") => find_of(alloc, rest),
+        _ if is_word(word, b"do") => do_of(alloc, rest),
+        _ if is_word(word, b"replace-all") => replace_all_of(alloc, rest),
+        _ if is_word(word, b"delete") => Ok(alone(Command::Delete, rest)),
+        _ if is_word(word, b"remove") => Ok(alone(Command::Remove, rest)),
+        _ if is_word(word, b"insert-before") => Ok(alone(Command::InsertBefore, rest)),
+        _ if is_word(word, b"insert-after") => Ok(alone(Command::InsertAfter, rest)),
+        _ if is_word(word, b"cut") => Ok(alone(Command::Cut, rest)),
+        _ if is_word(word, b"copy") => Ok(alone(Command::Copy, rest)),
+        _ if is_word(word, b"paste") => Ok(alone(Command::Paste, rest)),
+        _ => text_command(alloc, word, rest),
+    }
+}
+
+// buffers and moves, and what is behind them in the table
+#[tactic(auto, unfolding(crate::specs::Commands::rows))]
+fn command_by(alloc: Global, word: &[u8], rest: &[u8]) -> Result<Option<Command>, NoMemory>
+    ensures { IfOk result (λ o. o ≡ read_by rows word.now rest.now) }
+{
+    match word {
+        _ if is_word(word, b"new") => new_of(alloc, rest),
+        _ if is_word(word, b"load") => loaded(alloc, rest),
+        _ if is_word(word, b"switch") => switch_of(alloc, rest),
+        _ if is_word(word, b"show") => Ok(alone(Command::Show, rest)),
+        _ if is_word(word, b"next") => Ok(alone(Command::Next, rest)),
+        _ if is_word(word, b"prev") => Ok(alone(Command::Prev, rest)),
+        _ if is_word(word, b"up") => Ok(alone(Command::Up, rest)),
+        _ if is_word(word, b"first") => Ok(alone(Command::First, rest)),
+        _ if is_word(word, b"sibling") => Ok(alone(Command::Sibling, rest)),
+        _ if is_word(word, b"goto") => Ok(placed(rest)),
+        _ => edit_command(alloc, word, rest),
     }
 }
 
@@ -181,9 +210,6 @@ fn command_by(alloc: Global, verb: Verb, rest: &[u8]) -> Result<Option<Command>,
 pub fn command_of(alloc: Global, line: &[u8]) -> Result<Option<Command>, NoMemory>
     ensures { IfOk result (λ o. o ≡ command_of line.now) }
 {
-    let cut = word_at(line);
-    match verb_of(cut.word) {
-        Some(verb) => command_by(alloc, verb, cut.rest),
-        None => Ok(None),
-    }
+    let Cut { word, rest } = word_at(line);
+    command_by(alloc, word, rest)
 }

@@ -7,13 +7,8 @@ ghost use Rattle.sg_script.specs.declared.fault.ScriptFault.TheVariants.{Line};
 use crate::command::Command;
 use crate::fault::ScriptFault;
 use crate::lines::{Said, first_line, meaning_of};
+use sg_kinds::limits::{COMMANDS, TEXT_BYTES};
 use std::alloc::Global;
-
-/// How many bytes a script has at most.
-const MOST_BYTES: usize = 1_048_576;
-
-/// How many commands a script has at most.
-const MOST_COMMANDS: usize = 10_000;
 
 // puts the command of a line, where it says one, to those before it
 fn take_line(
@@ -69,12 +64,12 @@ pub fn read(alloc: Global, bytes: &[u8]) -> Result<Vec<Command>, ScriptFault>
     ensures few { IfOk result (λ cs. length cs.items ≤ 10000) }
     ensures fault { IfErr result (λ f. f ≢ ScriptFault.NoMemory → script_of bytes.now ≡ Err f) }
 {
-    if bytes.len() > MOST_BYTES {
+    if bytes.len() > TEXT_BYTES {
         return Err(ScriptFault::Long);
     }
     let commands = read_lines(alloc, bytes)?;
     let count = commands.len();
-    if count > MOST_COMMANDS {
+    if count > COMMANDS {
         return Err(ScriptFault::Many(count));
     }
     Ok(commands)

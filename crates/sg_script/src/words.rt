@@ -1,6 +1,5 @@
 // Words of a line.
-ghost use Rattle.std.specs.Prelude.{◌≡◌, ◌<◌, ◌≤◌, not, false, length, MatchOption, Some, None, IfSome};
-ghost use Rattle.std.specs.List.{prefix_len};
+ghost use Rattle.std.specs.Prelude.{◌≡◌, ◌<◌, ◌≤◌, false, length, MatchOption, Some, None, IfSome};
 ghost use Rattle.sg_script.specs.Words.{word_len, word_at, spaces_at, behind_spaces, next_word, closing, string_in, string_at, next_string, is_end, last_word, last_string};
 
 /// A word, or what stands between the quotes of a string, and what follows it on the line.
