@@ -1,0 +1,3 @@
+pub mod Evaluations
+pub mod Entering
+pub mod Selected
