@@ -1,0 +1,6 @@
+pub mod Advice
+pub mod Places
+pub mod Shown
+pub mod Answers
+pub mod Endings
+pub mod Runs

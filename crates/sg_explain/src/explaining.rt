@@ -1,0 +1,60 @@
+// The explanation of a specification.
+ghost use Rattle.std.specs.Prelude.{◌≡◌, ◌≢◌, IfOk};
+ghost use Rattle.sg_load.specs.Only.{IsTheVerdict};
+ghost use Rattle.sg_load.specs.Verdict.Verdict.{Refused};
+ghost use Rattle.sg_explain.specs.Answers.{IsTold, ok_text};
+
+use crate::Ending;
+use crate::heading::explained;
+use sg_kinds::fault::SpecFault;
+use sg_kinds::memory::NoMemory;
+use sg_kinds::text::Text;
+use sg_load::load;
+use std::alloc::Global;
+
+/// What is told of a specification, and with which ending.
+#[derive(Drop)]
+pub struct Explanation {
+    pub text: Text,
+    pub ending: Ending,
+}
+
+fn refused(
+    alloc: Global,
+    file: &[u8],
+    bytes: &[u8],
+    fault: &SpecFault,
+) -> Result<Explanation, NoMemory>
+    requires { fault.now ≢ SpecFault.NoMemory → IsTheVerdict bytes.now (Refused fault.now) }
+    ensures { IfOk result (IsTold file.now bytes.now) }
+{
+    if matches!(fault, SpecFault::NoMemory) {
+        return Err(NoMemory);
+    }
+    Ok(Explanation {
+        text: Text::new(explained(alloc, file, bytes, fault)?),
+        ending: Ending::SpecFault,
+    })
+}
+
+fn accepted(alloc: Global) -> Result<Explanation, NoMemory>
+    ensures text { IfOk result (λ e. e.text ≡ ok_text) }
+    ensures ending { IfOk result (λ e. e.ending ≡ Ending.Done) }
+{
+    Ok(Explanation {
+        text: Text::from_slice(alloc, b"ok\n")?,
+        ending: Ending::Done,
+    })
+}
+
+/// Explains the specification of these bytes, which are those of the file of that name.
+pub fn explain(alloc: Global, file: &[u8], bytes: &[u8]) -> Result<Explanation, NoMemory>
+    // By the one verdict on the bytes: of a fault its place, the line as which it is checked, the text's line with a
+    // caret, and a sentence of what helps; or `ok`.
+    ensures told { IfOk result (IsTold file.now bytes.now) }
+{
+    match load(alloc, bytes) {
+        Ok(_) => accepted(alloc),
+        Err(fault) => refused(alloc, file, bytes, &fault),
+    }
+}

@@ -1,0 +1,15 @@
+//! Why a specification is refused: the place of its fault with its line and a caret, the fault as `check` tells it, and
+//! one sentence of what helps.
+#![tactic(auto)]
+
+mod advice;
+mod ending;
+mod explaining;
+mod heading;
+mod place;
+mod running;
+mod shown;
+
+pub use ending::Ending;
+pub use explaining::{Explanation, explain};
+pub use running::run;
