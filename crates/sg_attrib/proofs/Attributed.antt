@@ -13,7 +13,7 @@ use Rattle.sg_kinds.specs.Nets as nets
 use Rattle.sg_kinds.specs.Nets.{Reference, net_of, referred}
 use Rattle.sg_kinds.specs.Instances.{Site, instances}
 use Rattle.sg_kinds.specs.FromScratch.{value_in}
-use Rattle.sg_kinds.specs.Keys.{operator_in}
+use Rattle.sg_orders.specs.Keys.{operator_in}
 use Rattle.sg_kinds.specs.Specification.{is_inherited, phylum_of, rules_of}
 use Rattle.sg_kinds.specs.ValidPlans.{AreValid}
 use Rattle.sg_kinds.specs.Visits.{visit_count}

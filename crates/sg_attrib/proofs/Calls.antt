@@ -4,7 +4,7 @@ use Rattle.std.proofs.Common.{sym, ap, ◌∙◌, subst, arith}
 use Rattle.std.proofs.lemmas.Option.{none-some, slice_get_within}
 use Rattle.sg_kinds.proofs.Elementary.{option_map_some}
 use Rattle.sg_kinds.specs.Nets.{Operation}
-use Rattle.sg_kinds.specs.Keys.{operator_in}
+use Rattle.sg_orders.specs.Keys.{operator_in}
 use Rattle.sg_kinds.specs.Specification.{args_of, phylum_of, rules_of}
 use Rattle.sg_kinds.specs.ValidPlans.{AreValid}
 use Rattle.sg_kinds.specs.Visits.{row_at, visit_count}

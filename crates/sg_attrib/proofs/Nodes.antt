@@ -8,7 +8,7 @@ use Rattle.sg_kinds.specs.Terms.{Term, Leaf, Node}
 use Rattle.sg_kinds.specs.Places.{Place, sub}
 use Rattle.sg_kinds.specs.Nets as nets
 use Rattle.sg_kinds.specs.Nets.{Operation, Holding, label_of, net_of}
-use Rattle.sg_kinds.specs.Keys.{operation, operator_in}
+use Rattle.sg_orders.specs.Keys.{operation, operator_in}
 use Rattle.sg_kinds.specs.Instances.{attr_count}
 use Rattle.sg_kinds.specs.Dependencies.{phylum_there}
 use Rattle.sg_kinds.specs.Specification.{args_of, phylum_of, rules_of}

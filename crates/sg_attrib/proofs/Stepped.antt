@@ -8,7 +8,7 @@ use Rattle.sg_kinds.specs.Terms.{Term}
 use Rattle.sg_kinds.specs.Places.{Place, sub}
 use Rattle.sg_kinds.specs.Nets.{Reference, Operation, label_of, net_of, referred}
 use Rattle.sg_kinds.specs.Instances.{Site, is_inherited_at, site_above, site_at, site_of, rule_under}
-use Rattle.sg_kinds.specs.Keys.{operator_in}
+use Rattle.sg_orders.specs.Keys.{operator_in}
 use Rattle.sg_kinds.specs.Specification.{rules_of}
 use Rattle.sg_kinds.specs.ValidPlans.{AreValid}
 use Rattle.sg_kinds.specs.declared.plans.Plans.{Plans}
@@ -32,7 +32,7 @@ use Rattle.sg_plans.proofs.Ways.{one_visit}
 use Rattle.sg_plans.proofs.Visiting as visiting
 use Rattle.sg_terms.specs.Found.{op_at}
 use Rattle.sg_attrib.specs.Visited as visited
-use Rattle.sg_attrib.specs.Visited.{IsKnown, IsGiven, IsArgument, IsNeeded, IsStepGiven, IsSlotOf, IsVisited, IsStepAt, Gives}
+use Rattle.sg_attrib.specs.Visited.{IsKnown, IsGiven, IsNeeded, IsStepGiven, IsSlotOf, IsVisited, Gives}
 use Rattle.sg_attrib.proofs.Placed.{Sets, placed_still}
 use Rattle.sg_attrib.proofs.Composed.{IsWithin, gives_twice, gives_again, gives_nothing}
 use Rattle.sg_attrib.proofs.Nodes.{not_held, op_in, label_op, planned, has_visit}

@@ -1,5 +1,5 @@
 // One visit of a node.
-ghost use Rattle.std.specs.Prelude.{◌≡◌, ◌≤◌, ℕ, Some, slice_get, OnOk, MatchResult};
+ghost use Rattle.std.specs.Prelude.{◌≡◌, ◌≤◌, Some, slice_get, OnOk, MatchResult};
 ghost use Rattle.sg_kinds.specs.Specification.{rules_of};
 ghost use Rattle.sg_kinds.specs.Terms.{Term};
 ghost use Rattle.sg_kinds.specs.Places.{Place};

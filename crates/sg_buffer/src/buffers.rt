@@ -1,5 +1,5 @@
 //! Buffers.
-ghost use Rattle.std.specs.Prelude.{◌≡◌, ◌<◌, ◌≤◌, ◌↔◌, ◌⊎◌, ℕ, [], true, false, length, Contains, IfOk, IfSome, IsErrOf, IsErrAnd, OnErr, IsTrue, MatchOption, ⊤, None, Some, Option, option_map, nat_lt, if◌then◌else◌};
+ghost use Rattle.std.specs.Prelude.{◌≡◌, ◌<◌, ◌≤◌, ◌↔◌, true, false, length, Contains, IfOk, IfSome, IsErrOf, IsErrAnd, OnErr, IsTrue, MatchOption, ⊤, None, Some, Option, option_map};
 ghost use Rattle.sg_kinds.specs.Values.{is_text};
 ghost use Rattle.sg_kinds.specs.Fits.{Fits};
 ghost use Rattle.sg_kinds.specs.Instances.{instances};
@@ -14,7 +14,6 @@ ghost use Rattle.sg_groves.specs.Grove.{nodes};
 ghost use Rattle.sg_terms.specs.Entries.{GainedAll};
 ghost use Rattle.sg_build.specs.Counted.{AreCounts};
 ghost use Rattle.sg_select.specs.RestingPlaces.{settled};
-ghost use Rattle.sg_states.specs.Selections.{place_in};
 ghost use Rattle.sg_states.specs.States as states;
 ghost use Rattle.sg_states.specs.States.{begun, selected_place, moved, picked, extension};
 ghost use Rattle.sg_buffer.specs.Held.{shown, state_of};
@@ -29,6 +28,7 @@ use sg_build::Counts;
 use sg_changes::{Capture, Step};
 use sg_eval::{Evaluator, Journal};
 use sg_forest::NodeId;
+use sg_kinds::limits::STEPS;
 use sg_kinds::memory::NoMemory;
 use sg_kinds::plans::Plans;
 use sg_kinds::row::Path;
@@ -42,9 +42,6 @@ use sg_undo::History;
 use sg_unparse::Page;
 use std::alloc::Global;
 use std::marker::Model;
-
-/// How many changes can be undone.
-pub const STEPS: usize = 256;
 
 /// A term in a forest, with its values: a selection of it, the first line that a window shows, the changes that can be
 /// undone and done again, whose other subtrees hang in the forest, and a text that is being typed. The page that shows

@@ -13,9 +13,10 @@ ghost use Rattle.sg_build.specs.Grown.{GrewBy, IsUnknown};
 ghost use Rattle.sg_build.specs.declared.built.TermFault.TheVariants.{NoMemory as FaultNoMemory};
 
 use crate::count::counts;
-use crate::limits::{Counts, DEPTH, NODES};
+use crate::limits::Counts;
 use sg_forest::NodeId;
 use sg_kinds::ids::{OpId, PhylumId};
+use sg_kinds::limits::{DEPTH, NODES};
 use sg_kinds::memory::NoMemory;
 use sg_kinds::term::{Term, TermNode};
 use sg_kinds::value::Value;

@@ -1,11 +1,10 @@
 // The counts of held terms.
-ghost use Rattle.std.specs.Prelude.{◌≡◌, ◌+◌, ◌<◌, length, min, Some};
+ghost use Rattle.std.specs.Prelude.{◌≡◌, ◌<◌, length, Some};
 ghost use Rattle.sg_kinds.specs.Specification.{args_of};
-ghost use Rattle.sg_kinds.specs.Terms.{Term, nodes_of, height_of};
+ghost use Rattle.sg_kinds.specs.Terms.{Term};
 ghost use Rattle.sg_forest.specs.Trees.{IsLive};
 ghost use Rattle.sg_groves.specs.Grove.{nodes};
 ghost use Rattle.sg_groves.specs.Holds.{Holds};
-ghost use Rattle.sg_terms.specs.Found.{op_at};
 ghost use Rattle.sg_build.specs.Counted.{AreCounts};
 
 use crate::limits::Counts;

@@ -12,6 +12,6 @@ mod replaced;
 pub use built::{TermFault, build};
 pub use count::counts;
 pub use held::counts_below;
-pub use limits::{Counts, DEPTH, NODES};
+pub use limits::Counts;
 pub use out::{copy_out, value_out};
 pub use replaced::counts_replaced;

@@ -1,5 +1,5 @@
 // The counts of a term in which another subterm stands, without it.
-ghost use Rattle.std.specs.Prelude.{◌≡◌, ◌↔◌, ℕ, length, min, IsOk, IfOk, IfErr};
+ghost use Rattle.std.specs.Prelude.{◌≡◌, ◌↔◌, length, min, IsOk, IfOk, IfErr};
 ghost use Rattle.sg_kinds.specs.Places.{Place, put, with_child};
 ghost use Rattle.sg_kinds.specs.Sound.{IsSmall};
 ghost use Rattle.sg_kinds.specs.Terms.{Term, nodes_of, height_of};

@@ -1,5 +1,5 @@
 //! Laws of commands, each as the contract of a function without code.
-ghost use Rattle.std.specs.Prelude.{◌≡◌, ℕ};
+ghost use Rattle.std.specs.Prelude.{◌≡◌};
 ghost use Rattle.sg_kinds.specs.Sound.{IsSound};
 ghost use Rattle.sg_kinds.specs.Terms.{Term};
 ghost use Rattle.sg_kinds.specs.declared.spec.Spec.{Spec};

@@ -1,6 +1,5 @@
 // A line of at most so many bytes off a reader.
 ghost use Rattle.std.specs.Prelude.{◌≡◌, ◌≤◌, [], vec_capacity, length, IfOk, OnOk, IfSome, IsTrue, ◌↔◌};
-ghost use Rattle.std.specs.Io.KnownBytes.{Keeps};
 ghost use Rattle.std.specs.Io.BufRead.{DropsThrough};
 ghost use Rattle.sg_console.specs.Console.{IsTaken};
 ghost use Rattle.sg_console.specs.Lines.{IsNext, IsFilled};

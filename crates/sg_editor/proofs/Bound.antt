@@ -1,13 +1,16 @@
 -- How much a command evaluates at most.
-use Rattle.std.specs.Prelude.{◌≡◌, refl, ℕ, zero, suc, ◌*◌, ◌^◌, ◌<◌, ◌≤◌, Bool, true, false, is_some, if◌then◌else◌, Result, Ok, Err, IfOk, List, [], ◌∷◌, length, filter, flat_map, All, Contains, get_or, slice_get, Option, Some, None, option_map, unwrap_or, MatchOption, ⊤}
+use Rattle.std.specs.Prelude.{◌≡◌, refl, ℕ, zero, suc, ◌*◌, ◌^◌, ◌<◌, ◌≤◌, Bool, true, false, is_some, if◌then◌else◌, Result, Ok, Err, IfOk, List, [], ◌∷◌, length, filter, flat_map, All, Contains, get_or, slice_get, Option, Some, None, option_map, unwrap_or, count_by, MatchOption, ⊤}
 use Rattle.std.proofs.Common.{sym, ap, subst, arith, length-append}
 use Rattle.std.proofs.lemmas.List.{length-map}
+use Rattle.std.proofs.lemmas.List.Filters.{length-filter_both}
+use Rattle.std.proofs.lemmas.List.Sums.{length-filter}
 use Rattle.std.proofs.lemmas.List.Elements.{All-get_or}
 use Rattle.std.proofs.lemmas.Option.{get_or_from_slice_get, slice_get_within}
 use Rattle.sg_kinds.specs.Terms.{Term, Terms, Leaf, Node, NoTerm, AndTerm, nodes_of, nodes_of_all}
 use Rattle.sg_kinds.specs.Places.{Place, places_from, places_among, places_in}
 use Rattle.sg_kinds.specs.Nets.{Reference, NodeLabel, Operation, Holding, Missing, net_of, phylum_at}
 use Rattle.sg_kinds.specs.Instances.{attr_count, below, instances, references_at, site_of, slots_of}
+use Rattle.sg_kinds.specs.Far.{is_far, is_written}
 use Rattle.sg_kinds.specs.Sound.{AreCounted, IsSmall, IsSound}
 use Rattle.sg_kinds.specs.Specification.{attrs_of, locals_of, rules_of}
 use Rattle.sg_kinds.specs.declared.spec.Operator.{Operator}
@@ -41,7 +44,7 @@ module _ {X : Type 0} where
       by true short = omega (arith, short)
       by false short = omega (arith, short)
 
-  flat_short : {Y : Type 0} (f : X → List Y) → ((x : X) → length (f x) ≤ 64) → (xs : List X) → length (flat_map f xs) ≤ 64 * length xs
+  flat_short : {Y : Type 0} (f : X → List Y) → ((x : X) → length (f x) ≤ 1048640) → (xs : List X) → length (flat_map f xs) ≤ 1048640 * length xs
   flat_short f few [] = omega arith
   flat_short f few (x ∷ xs) = let e = length-append (f x) (flat_map f xs) in let a = few x in let b = flat_short f few xs in omega (arith, e, a, b)
 
@@ -64,12 +67,14 @@ mutual
       omega (arith, e, a, b)
 
 module _ (spec : Spec) (counted : AreCounted spec) where
-  few_attrs : (p : ℕ) → length (attrs_of spec.phyla p) ≤ 32
+  few_attrs : (p : ℕ) → length (attrs_of spec.phyla p) ≤ 1048608
   few_attrs p = by (slice_get spec.phyla p) refl
     where
-      by : (o : Option Phylum) → slice_get spec.phyla p ≡ o → length (unwrap_or (option_map (λ (x : Phylum). x.attrs) o) []) ≤ 32
+      by : (o : Option Phylum) → slice_get spec.phyla p ≡ o → length (unwrap_or (option_map (λ (x : Phylum). x.attrs) o) []) ≤ 1048608
       by None here = omega arith
-      by (Some x) here = at_place (λ (x : Phylum). length x.attrs ≤ 32) spec.phyla p x counted.attrs here
+      by (Some x) here =
+          let few = at_place (λ (x : Phylum). (count_by is_written x.attrs ≤ 32) × (count_by is_far x.attrs ≤ 1048576)) spec.phyla p x counted.attrs here in
+          omega (arith, few.0, few.1, length-filter_both is_written is_far (λ a. refl) x.attrs, length-filter is_written x.attrs, length-filter is_far x.attrs)
 
   few_locals : (op : ℕ) → length (locals_of spec.ops op) ≤ 32
   few_locals op = by (slice_get spec.ops op) refl
@@ -78,16 +83,16 @@ module _ (spec : Spec) (counted : AreCounted spec) where
       by None here = omega arith
       by (Some x) here = at_place (λ (x : Operator). length x.locals ≤ 32) spec.ops op x counted.locals here
 
-  few_counted : (o : Option ℕ) → attr_count (rules_of spec) o ≤ 32
+  few_counted : (o : Option ℕ) → attr_count (rules_of spec) o ≤ 1048608
   few_counted None = omega arith
   few_counted (Some p) = few_attrs p
 
-  few_slots : (l : NodeLabel) → slots_of (rules_of spec) l ≤ 64
+  few_slots : (l : NodeLabel) → slots_of (rules_of spec) l ≤ 1048640
   few_slots (Operation op) = let a = few_counted (phylum_at spec.ops (Operation op)) in let b = few_locals op in omega (arith, a, b)
   few_slots (Holding p v) = let a = few_attrs p in omega (arith, a)
   few_slots Missing = omega arith
 
-  few_references : (t : Term) (u : Place) → length (references_at (rules_of spec) t u) ≤ 64
+  few_references : (t : Term) (u : Place) → length (references_at (rules_of spec) t u) ≤ 1048640
   few_references t u =
       let slots = slots_of (rules_of spec) ((net_of t).label u) in
       let e = length-map {B = Reference Place} (below slots) (λ slot. record { node = u; slot = slot }) in
@@ -95,7 +100,7 @@ module _ (spec : Spec) (counted : AreCounted spec) where
       let f = few_slots ((net_of t).label u) in
       omega (arith, e, b, f)
 
-  few_instances : (t : Term) → IsSmall t → length (instances (rules_of spec) t) ≤ 4194304
+  few_instances : (t : Term) → IsSmall t → length (instances (rules_of spec) t) ≤ 68723671040
   few_instances t small =
       let a = filter_short (λ a. is_some (site_of (rules_of spec) (net_of t) a)) (flat_map (references_at (rules_of spec) t) (places_in t)) in
       let b = flat_short (references_at (rules_of spec) t) (few_references t) (places_in t) in
@@ -112,7 +117,7 @@ module _ (g : Grove) (root : NodeId) (t : Term) (sound : IsSound g.spec) where
   entry_site (a ∷ refs) (e ∷ es) are zero d low = instance_has g.spec sound t a are.0.site are.0.found
   entry_site (a ∷ refs) (e ∷ es) are (suc i) d low = entry_site refs es are.1 i d (omega (arith, low))
 
-  gained_few : (IsAmong : Reference Place → Type 0) (now : List Instance) → IsSmall t → Gained g root t IsAmong [] now → length now ≤ 4194304
+  gained_few : (IsAmong : Reference Place → Type 0) (now : List Instance) → IsSmall t → Gained g root t IsAmong [] now → length now ≤ 68723671040
   gained_few IsAmong now small gained =
       let among = entry_site gained.refs gained.entries gained.are in
       let most = gained_most g root t (instances (rules_of g.spec) t) [] now refl

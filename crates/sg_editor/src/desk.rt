@@ -9,16 +9,11 @@ ghost use Rattle.sg_editor.specs.Steps.{Took};
 
 use sg_buffer::Buffer;
 use sg_edits::Clip;
+use sg_kinds::limits::{BUFFERS, LOADS};
 use sg_kinds::text::Text;
 use sg_script::Message;
 use std::alloc::Global;
 use std::marker::Model;
-
-/// How many buffers a session may have.
-const MOST_BUFFERS: usize = 64;
-
-/// How many loads may call the shelf.
-const MOST_LOADS: u32 = 64;
 
 /// A buffer with its name.
 #[derive(Drop)]
@@ -84,7 +79,7 @@ impl Desk {
         if self.place_of(name).is_some() {
             return Some(Message::NameInUse);
         }
-        if MOST_BUFFERS <= self.named.len() {
+        if BUFFERS <= self.named.len() {
             return Some(Message::TooManyBuffers);
         }
         None
@@ -97,7 +92,7 @@ impl Desk {
         if let Some(why) = self.taken(name) {
             return Some(why);
         }
-        if MOST_LOADS <= self.loads {
+        if LOADS <= self.loads {
             return Some(Message::TooManyFiles);
         }
         None

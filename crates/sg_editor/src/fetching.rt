@@ -11,15 +11,13 @@ ghost use Rattle.sg_editor.specs.Steps.{Took, AreSome, IsUnanswered};
 use crate::base::Base;
 use crate::desk::Desk;
 use sg_eval::Journal;
+use sg_kinds::limits::FILE_BYTES;
 use sg_kinds::memory::NoMemory;
 use sg_outside::Shelf;
 use sg_replies::{Reply, fetched};
 use sg_saved_read::{OpenFault, read};
 use sg_script::{FileName, Message};
 use std::alloc::Global;
-
-/// How many bytes a file may have.
-const LONGEST_FILE: usize = 4_194_304;
 
 /// Fetches a file, to one byte more than it may have, where there is room for the reply.
 pub fn fetch<S: Shelf>(
@@ -34,7 +32,7 @@ pub fn fetch<S: Shelf>(
     ensures replies { replies.new.items ≡ replies.old.items }
 {
     replies.reserve(1)?;
-    fetched(alloc, shelf, file.as_str(), LONGEST_FILE + 1)
+    fetched(alloc, shelf, file.as_str(), FILE_BYTES + 1)
 }
 
 impl Desk {
@@ -60,7 +58,7 @@ impl Desk {
         ensures loads { self.new.loads ≡ self.old.loads }
         ensures total { total_of journal.new ≡ total_of journal.old }
     {
-        if LONGEST_FILE < bytes.len() {
+        if FILE_BYTES < bytes.len() {
             return Ok(Message::LongFile);
         }
         let spec = base.spec();

@@ -35,6 +35,8 @@ statements shape = record {
   lexemes = [];
   productions = [];
   entries = [];
+  levels = [];
+  views = record { names = []; rows = [] };
   root = 3;
 }
 

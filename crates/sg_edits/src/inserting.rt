@@ -1,10 +1,9 @@
 // New elements of lists.
 ghost use Rattle.std.specs.Prelude.{◌≡◌, ◌≤◌, ◌&&◌, nat_eq, true, if◌then◌else◌, IfOk};
-ghost use Rattle.sg_kinds.specs.Places.{Place};
 ghost use Rattle.sg_kinds.specs.Terms.{Term as IsTerm};
 ghost use Rattle.sg_forest.specs.Trees.{IsLive};
 ghost use Rattle.sg_groves.specs.Grove.{nodes};
-ghost use Rattle.sg_groves.specs.Holds.{Holds, IsPlaced};
+ghost use Rattle.sg_groves.specs.Holds.{Holds};
 ghost use Rattle.sg_select.specs.Paths.{elements, is_list_node};
 ghost use Rattle.sg_edits.specs.Chosen.{IsChoice, IsRun, PutsFit};
 ghost use Rattle.sg_edits.specs.Edits.{at_term, filled, grown, inserted, is_empty_list, longer};

@@ -1,13 +1,12 @@
 // The clip in the place of a node or of elements.
 ghost use Rattle.std.specs.Prelude.{◌≡◌, ◌≤◌, ◌==◌, ◌&&◌, nat_eq, true, IfOk, MatchOption, Some, None, ⊤};
 ghost use Rattle.sg_kinds.specs.Fits.{Fits};
-ghost use Rattle.sg_kinds.specs.Places.{Place};
 ghost use Rattle.sg_kinds.specs.Terms.{Term as IsTerm};
 ghost use Rattle.sg_forest.specs.Trees.{IsLive};
 ghost use Rattle.sg_groves.specs.Grove.{nodes};
-ghost use Rattle.sg_groves.specs.Holds.{Holds, IsPlaced};
+ghost use Rattle.sg_groves.specs.Holds.{Holds};
 ghost use Rattle.sg_select.specs.Paths.{elements, is_list_node};
-ghost use Rattle.sg_edits.specs.Choice.{choice_of, Put};
+ghost use Rattle.sg_edits.specs.Choice.{Put};
 ghost use Rattle.sg_edits.specs.Chosen.{IsChoice, IsRun, PutsFit};
 ghost use Rattle.sg_edits.specs.Edits.{at_term, before, is_run, joined, pasted, pasted_over, picked_in, suits};
 

@@ -1,10 +1,9 @@
 // Elements taken out of lists, and completing terms.
-ghost use Rattle.std.specs.Prelude.{◌≡◌, ◌≤◌, true};
-ghost use Rattle.sg_kinds.specs.Places.{Place};
+ghost use Rattle.std.specs.Prelude.{◌≤◌, true};
 ghost use Rattle.sg_kinds.specs.Terms.{Term};
 ghost use Rattle.sg_forest.specs.Trees.{IsLive};
 ghost use Rattle.sg_groves.specs.Grove.{nodes};
-ghost use Rattle.sg_groves.specs.Holds.{Holds, IsPlaced};
+ghost use Rattle.sg_groves.specs.Holds.{Holds};
 ghost use Rattle.sg_select.specs.Paths.{elements};
 ghost use Rattle.sg_edits.specs.Chosen.{IsChoice, IsRun, PutsFit};
 ghost use Rattle.sg_edits.specs.Edits.{at_term, completed, deleted, emptied, removed, taken, without};

@@ -1,5 +1,5 @@
 // What a node is.
-ghost use Rattle.std.specs.Prelude.{◌≡◌, ◌<◌};
+ghost use Rattle.std.specs.Prelude.{◌<◌};
 
 use sg_forest::Label;
 use sg_kinds::ids::{OpId, PhylumId};
@@ -16,8 +16,6 @@ pub struct Kind {
 }
 
 impl Label for Kind {
-    ghost use Rattle.std.specs.Prelude.{ℕ};
-
     ghost arity_of = { λ k. k.arity };
 
     ghost sort_of = { λ k. 0 };

@@ -1,28 +1,24 @@
 -- The causes of a status
-use Rattle.std.proofs.Common.{◌≡◌, ◌≤◌, ◌⊎◌, inl, inr, ℕ, ◌+◌, ◌-◌, ◌^◌, suc, List, [], ◌∷◌, ◌++◌, length, Option, Some, None, refl, sym, ap, subst, ◌∙◌, arith, length-append}
+use Rattle.std.proofs.Common.{◌≡◌, ◌≤◌, ◌⊎◌, inl, inr, ℕ, ◌+◌, ◌-◌, ◌^◌, List, ◌∷◌, ◌++◌, length, Option, Some, None, refl, arith, length-append}
 use Rattle.sg_outside.specs.Count.{Rose}
 use Rattle.sg_kinds.specs.declared.spec.Spec.{Spec}
-use Rattle.sg_kinds.specs.declared.fault.SpecFault.{SpecFault as Fault}
 use Rattle.sg_load.specs.Verdict.Verdict.{Refused, Accepted}
-use Rattle.sg_load.specs.Only.{IsTheVerdict}
 use Rattle.sg_replies.specs.declared.reply.Reply.{Reply}
 use Rattle.sg_replies.specs.declared.reply.Reply.TheVariants.{Fetched, FetchFailed, Kept, KeepFailed}
 use Rattle.sg_outside.specs.Shelf.{ShelfState}
 use Rattle.sg_replies.specs.Calls.{Replied}
-use Rattle.sg_editor.specs.Ask.{Readers, AreReaders}
 use Rattle.sg_editor.specs.Session.{Session, start}
 use Rattle.sg_told.specs.declared.status.Status.{Status}
 use Rattle.sg_told.specs.declared.status.Status.TheVariants.{Done, Memory, Usage, ReadFault, SpecFault, SinkFault}
-use Rattle.sg_told.specs.Causes.{HasNoFault}
 use Rattle.sg_told.specs.Output.{read_fault_text, whole_file}
 use Rattle.sg_told.specs.Session.{Desk, desk}
-use Rattle.sg_console.specs.Console.{ConsoleState, Event, noted}
+use Rattle.sg_console.specs.Console.{Event, noted}
 use Rattle.sg_console.specs.Console.Event.{Put}
-use Rattle.sg_live.specs.Opening.{Said, Silent, IsNone, IsNoneOf, Brings, IsAccepted}
+use Rattle.sg_live.specs.Opening.{Said, IsNoneOf, Brings}
 use Rattle.sg_live.specs.Outside.{Outside, outside, all_noted}
 use Rattle.sg_live.specs.Turns.{AreTurns, none, more, IsEnding, ended, lost_input, lost_both, unput, worn, Talked, IsEndOrFault}
 use Rattle.sg_live.specs.Words.{Job}
-use Rattle.sg_live.specs.Lived.{IsRunOf, unfetched, unopened, opened, IsSession, IsRunOfWords, IsUsage, IsSpecRefused, IsSpecAccepted, IsLiveStatus, HasNotBegunOrWornOut}
+use Rattle.sg_live.specs.Lived.{IsRunOf, unfetched, unopened, opened, IsSession, IsRunOfWords, IsSpecRefused, IsSpecAccepted, IsLiveStatus, HasNotBegunOrWornOut}
 
 -- each line has an event
 turns_length : (d : Desk) (s : Session) (at : ShelfState) (k : ℕ) (t : Session) (to : ShelfState) (events : List Event) (n : ℕ) → AreTurns d s at k t to events n → k ≤ length events

@@ -1,5 +1,5 @@
 -- The first lines of a session
-use Rattle.std.proofs.Common.{◌≡◌, ◌≤◌, ◌<◌, ◌⊎◌, inl, inr, ℕ, ◌+◌, zero, suc, List, [], ◌∷◌, ◌++◌, refl, sym, ap, subst, ◌∙◌, append-nil, append_assoc, arith}
+use Rattle.std.proofs.Common.{◌≡◌, ◌≤◌, ◌⊎◌, inl, inr, ℕ, ◌+◌, zero, suc, List, [], ◌∷◌, ◌++◌, sym, ap, subst, ◌∙◌, append-nil, append_assoc, arith}
 use Rattle.sg_outside.specs.Shelf.{ShelfState}
 use Rattle.sg_editor.specs.Session.{Session}
 use Rattle.sg_told.specs.Session.{Desk}

@@ -1,6 +1,6 @@
 -- What was read of an input
-use Rattle.std.proofs.Common.{◌≡◌, ◌<◌, ℕ, List, [], ◌∷◌, ◌++◌, length, Option, Some, None, IfSome, refl, sym, ap, subst, ◌∙◌, append_assoc}
-use Rattle.std.specs.Io.BufRead.{take_through, drop_through}
+use Rattle.std.proofs.Common.{◌≡◌, ℕ, List, [], ◌∷◌, ◌++◌, Option, Some, None, refl, ap, subst, append_assoc}
+use Rattle.std.specs.Io.BufRead.{drop_through}
 use Rattle.sg_console.specs.declared.console.Taken.TheVariants.{Line, Long, End}
 use Rattle.sg_console.specs.Console.{Event, IsTaken}
 use Rattle.sg_console.specs.Console.Event.{Took, Passed, Ended, Put}

@@ -11,7 +11,7 @@ use Rattle.sg_kinds.specs.Values.{Bytes, Value}
 use Rattle.sg_kinds.specs.declared.spec.Spec.{Spec}
 use Rattle.sg_kinds.specs.declared.spec.Transform.{Transform}
 use Rattle.sg_matching.specs.Transformation.{Gives, is_of_name, first_outcome, given_by, transformation}
-use Rattle.sg_live.specs.Offers.{with_name, each_once, names_for, applies_to, is_given}
+use Rattle.sg_live.specs.Offers.{with_name, names_for, applies_to, is_given}
 
 or_false : (a : Bool) → (a || false) ≡ a
 or_false true = refl

@@ -1,6 +1,5 @@
 -- One line: what was done for it, what was written, and how the session may end there
-use Rattle.std.proofs.Common.{◌≡◌, ◌≢◌, ◌≤◌, ◌⊎◌, inl, inr, ℕ, ◌+◌, List, [], ◌∷◌, ◌++◌, length, Option, Some, None, Result, Ok, Err, OnOk, OnErr, IfErr, true, false, refl, sym, ap, subst, ◌∙◌, append-nil, arith}
-use Rattle.std.specs.Io.{StopsAt}
+use Rattle.std.proofs.Common.{◌≡◌, ◌≢◌, ◌≤◌, ◌⊎◌, inl, inr, ℕ, ◌+◌, List, [], ◌∷◌, length, Option, Some, None, Result, Ok, Err, OnOk, OnErr, IfErr, true, false, refl, sym, ap, subst, ◌∙◌, append-nil, arith}
 use Rattle.std.specs.Str.Lines.{lines}
 use Rattle.sg_outside.specs.Count.{Rose}
 use Rattle.sg_eval.specs.declared.journal.Instance.{Instance}
@@ -11,7 +10,6 @@ use Rattle.sg_script.specs.declared.command.Command.{Command}
 use Rattle.sg_script.specs.declared.fault.ScriptFault.{ScriptFault}
 use Rattle.sg_script.specs.declared.fault.ScriptFault.TheVariants.{NoMemory}
 use Rattle.sg_script.specs.Script.{script_of}
-use Rattle.sg_editor.specs.Ask.{Step}
 use Rattle.sg_editor.specs.Editing.{Editing, Setting, spec_in, width_in, height_in, session_of}
 use Rattle.sg_live.specs.Offers.{offers}
 use Rattle.sg_editor.specs.Screen.{screen}
@@ -26,10 +24,10 @@ use Rattle.sg_console.specs.Console.{Event, ConsoleState, IsTaken, noted, event_
 use Rattle.sg_console.specs.Console.Event.{Took, Passed, Ended, Put}
 use Rattle.sg_live.specs.declared.answers.Answer.{Answer}
 use Rattle.sg_live.specs.declared.answers.Answer.TheVariants.{Nothing, Text, Bytes}
-use Rattle.sg_live.specs.Answers.{Answered, IsOffer, IsRefusal, IsPut, events_of}
+use Rattle.sg_live.specs.Answers.{Answered, IsOffer, IsRefusal, events_of}
 use Rattle.sg_live.specs.Opening.{Said}
 use Rattle.sg_live.specs.Outside.{outside, IsRead, WasRead, all_noted, most_bytes}
-use Rattle.sg_live.specs.Texts.{is_question, offers_text, no_memory_text, not_shown_text, no_command_text, long_line_text, read_fault_input_text}
+use Rattle.sg_live.specs.Texts.{is_question, no_memory_text, not_shown_text, long_line_text, read_fault_input_text}
 use Rattle.sg_live.specs.Turned.{Turned, Over}
 use Rattle.sg_live.specs.Turns.{IsTurn, silent, refused, passed, offered, done, unseen, unread, undone, IsEnding, lost_input, lost_both, unput, ended, block_of}
 use Rattle.sg_live.proofs.Inputs.{all_noted-append, read_then, read_nothing, was_read, was_put, read_took, read_passed, read_ended}

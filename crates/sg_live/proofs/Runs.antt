@@ -1,5 +1,5 @@
 -- A session whose lines are a script, as the run of that script
-use Rattle.std.proofs.Common.{◌≡◌, ◌≢◌, ℕ, ◌+◌, suc, List, [], ◌∷◌, ◌++◌, Some, Ok, refl, sym, ap, subst, ◌∙◌, length, append-nil, append_assoc, length-append, arith}
+use Rattle.std.proofs.Common.{◌≡◌, ℕ, ◌+◌, List, [], ◌∷◌, ◌++◌, Ok, refl, sym, ap, subst, ◌∙◌, length, append-nil, append_assoc, length-append, arith}
 use Rattle.std.proofs.lemmas.Grind.{flat_map-append}
 use Rattle.std.specs.List.{flat_map}
 use Rattle.std.specs.Str.Lines.{lines}
@@ -15,7 +15,6 @@ use Rattle.sg_editor.specs.Ask.{Step, Ask}
 use Rattle.sg_editor.specs.Ask.Ask.{Tells, Asks}
 use Rattle.sg_editor.specs.Steps.{Comes, requests_of}
 use Rattle.sg_editor.specs.Session.{Session}
-use Rattle.sg_told.specs.declared.status.Status.TheVariants.{Done}
 use Rattle.sg_told.specs.Session.{Desk, asks, session}
 use Rattle.sg_told.specs.Told.{Told, before as and_then, finished}
 use Rattle.sg_told.proofs.Laws.{before-before, before_nothing, nothing}

@@ -7,7 +7,7 @@ use Rattle.sg_faults.specs.FaultLine.{fault_line}
 use Rattle.sg_load.specs.Verdict.Verdict.{Refused, Accepted}
 use Rattle.sg_load.specs.Only.{IsTheVerdict}
 use Rattle.sg_replies.specs.declared.reply.Reply.{Reply}
-use Rattle.sg_replies.specs.declared.reply.Reply.TheVariants.{Fetched, FetchFailed, Kept, KeepFailed}
+use Rattle.sg_replies.specs.declared.reply.Reply.TheVariants.{Fetched}
 use Rattle.sg_editor.specs.Ask.{Readers, AreReaders}
 use Rattle.sg_told.specs.declared.status.Status.{Status}
 use Rattle.sg_told.specs.declared.status.Status.TheVariants.{Memory, ReadFault, SpecFault, SinkFault}

@@ -14,12 +14,13 @@ use crate::texts::{LONG_LINE, READ_FAULT_INPUT};
 use sg_console::{Console, Taken};
 use sg_editor::Editor;
 use sg_eval::Journal;
+use sg_kinds::limits::TEXT_BYTES;
 use sg_outside::Shelf;
 use sg_told::Status;
 use std::alloc::Global;
 
 /// The most bytes of a line, with its newline.
-pub const MOST: usize = 1_048_576;
+pub const MOST: usize = TEXT_BYTES;
 
 // Reads a line and answers it. An error says with which status the run is over.
 fn turn<C: Console, S: Shelf>(

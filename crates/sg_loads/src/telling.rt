@@ -4,9 +4,9 @@ ghost use Rattle.sg_editor.specs.Editing.{spec_in, session_of};
 ghost use Rattle.sg_loads.specs.Loads.{nodes_in, errors_in, line_of};
 
 use sg_editor::Editor;
+use sg_kinds::decimal::write_number;
 use sg_kinds::memory::NoMemory;
 use sg_shown::shown;
-use sg_workload::write_number;
 use std::alloc::Global;
 
 /// How many nodes the term of the current buffer has; none without one.

@@ -6,7 +6,6 @@ ghost use Rattle.sg_load.specs.Only.{IsTheVerdict};
 ghost use Rattle.sg_load.specs.Verdict.{IsVerdict};
 ghost use Rattle.sg_load.specs.Verdict.Verdict.{Refused, Accepted};
 ghost use Rattle.sg_workload.specs.Lines.{lines_text};
-ghost use Rattle.sg_workload.specs.Workload.{workload};
 ghost use Rattle.sg_editor.specs.Ask.{Readers, AreReaders, asks_nothing};
 ghost use Rattle.sg_editor.specs.Editing.{spec_in, height_in, session_of};
 ghost use Rattle.sg_editor.specs.Session.{start};

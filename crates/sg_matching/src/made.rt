@@ -12,13 +12,14 @@ ghost use Rattle.sg_matching.specs.MadeUnder.{has_value, have_values};
 use crate::nodes::{args, first_arg, is_empty_text, is_literal, is_of, kid_at};
 use sg_forest::NodeId;
 use sg_kinds::ids::{OpId, PhylumId};
+use sg_kinds::limits::DEPTH;
 use sg_kinds::marks::{Made, Shape};
 use sg_kinds::pattern::Literal;
 use sg_kinds::row::Row;
 use sg_terms::Terms;
 
 /// The greatest depth of a completing term.
-const COMPLETING_DEPTH: u32 = 1024;
+const COMPLETING_DEPTH: u32 = DEPTH as u32;
 
 /// Whether the value under a node is that of `[p]` or `<p>`. It takes no memory.
 pub fn is_made(terms: &Terms, made: Made, p: PhylumId, n: NodeId) -> bool

@@ -4,7 +4,7 @@ ghost use Rattle.sg_kinds.specs.Values.{Values, Chars, Tree, NoValue, AndValue, 
 ghost use Rattle.sg_kinds.specs.PatternView.{literal_of};
 ghost use Rattle.sg_kinds.specs.Specification.{args_of};
 ghost use Rattle.sg_pool.specs.PoolEntries.{entry_value};
-ghost use Rattle.sg_forest.specs.Trees.{IsLive, room_below};
+ghost use Rattle.sg_forest.specs.Trees.{IsLive};
 ghost use Rattle.sg_groves.specs.Grove.{nodes};
 ghost use Rattle.sg_terms.specs.Found.{op_at};
 ghost use Rattle.sg_matching.specs.Under.{value_under, values_under};

@@ -7,7 +7,7 @@ use Rattle.sg_kinds.specs.Terms.{Term}
 use Rattle.sg_kinds.specs.Places.{Place}
 use Rattle.sg_kinds.specs.Nets.{Reference, net_of}
 use Rattle.sg_kinds.specs.Instances.{Site, site_of}
-use Rattle.sg_kinds.specs.Keys.{operator_in}
+use Rattle.sg_orders.specs.Keys.{operator_in}
 use Rattle.sg_kinds.specs.Specification.{rules_of}
 use Rattle.sg_kinds.specs.Visits.{belongs, seat}
 use Rattle.sg_kinds.specs.declared.plans.Plans.{Plans}
@@ -27,7 +27,7 @@ use Rattle.sg_plans.proofs.Stepped.{last_of}
 use Rattle.sg_plans.proofs.Visiting as visiting
 use Rattle.sg_plans.proofs.Ways.{visits_rise}
 use Rattle.sg_attrib.specs.Visited as visited
-use Rattle.sg_attrib.specs.Visited.{HasEquation, IsGiven, IsGivenUpTo, IsKnown}
+use Rattle.sg_attrib.specs.Visited.{HasEquation}
 use Rattle.sg_work.specs.Worklist.{Worklist}
 use Rattle.sg_propagate.specs.Scenes.{Scene, term_now, value_now, value_was, AreFine, AreStale, IsCalm, IsFine, IsStaged}
 use Rattle.sg_propagate.specs.Moves.{AreMeant, IsGivenFrom, IsKnownFrom, IsMore, IsOnStage, Moves}

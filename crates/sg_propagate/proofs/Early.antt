@@ -10,7 +10,7 @@ use Rattle.sg_kinds.specs.Terms.{Term}
 use Rattle.sg_kinds.specs.Places.{Place, sub}
 use Rattle.sg_kinds.specs.Nets.{Net, NodeLabel, Reference, label_of, net_of, phylum_at, referred}
 use Rattle.sg_kinds.specs.Instances.{Site, is_inherited_at, rule_under, site_above, site_at, site_of}
-use Rattle.sg_kinds.specs.Keys.{operator_in}
+use Rattle.sg_orders.specs.Keys.{operator_in}
 use Rattle.sg_kinds.specs.Specification.{is_inherited, phylum_of, rules_of}
 use Rattle.sg_kinds.specs.Dependencies.{IsAttr, occurrence, phylum_there}
 use Rattle.sg_kinds.specs.Visits.{belongs, position_in, row_at, seat}

@@ -3,7 +3,7 @@ use Rattle.std.specs.Prelude.{◌≡◌, ℕ, zero, suc, ◌+◌, ◌-◌, ◌<�
 use Rattle.std.proofs.Common.{refl, ap, ◌∙◌, subst, arith}
 use Rattle.std.proofs.lemmas.List.{length-map}
 use Rattle.sg_kinds.specs.Instances.{below}
-use Rattle.sg_kinds.specs.Keys.{operator_in}
+use Rattle.sg_orders.specs.Keys.{operator_in}
 use Rattle.sg_kinds.specs.Specification.{attrs_of, is_inherited, rules_of}
 use Rattle.sg_kinds.specs.ValidPlans.{AreValid, visit_of}
 use Rattle.sg_kinds.specs.Visits.{row_at}

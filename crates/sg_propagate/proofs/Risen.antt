@@ -9,7 +9,7 @@ use Rattle.sg_kinds.specs.Places.{Place, sub}
 use Rattle.sg_kinds.specs.Nets.{Reference, label_of, net_of, phylum_at}
 use Rattle.sg_kinds.specs.Instances.{Site, site_of}
 use Rattle.sg_kinds.specs.Dependencies.{IsAttr}
-use Rattle.sg_kinds.specs.Keys.{operator_in}
+use Rattle.sg_orders.specs.Keys.{operator_in}
 use Rattle.sg_kinds.specs.Specification.{is_inherited, phylum_of, rules_of}
 use Rattle.sg_kinds.specs.Visits.{row_at}
 use Rattle.sg_kinds.specs.declared.plans.Plans.{Plans}

@@ -6,7 +6,7 @@ use Rattle.sg_kinds.specs.Terms.{Term, Leaf, Node}
 use Rattle.sg_kinds.specs.Fits.{Fits}
 use Rattle.sg_kinds.specs.Places.{Place, child, sub}
 use Rattle.sg_kinds.specs.Nets.{Reference, label_of}
-use Rattle.sg_kinds.specs.Keys.{operator_in}
+use Rattle.sg_orders.specs.Keys.{operator_in}
 use Rattle.sg_kinds.specs.Specification.{is_inherited, rules_of}
 use Rattle.sg_kinds.specs.Visits.{visit_count}
 use Rattle.sg_kinds.specs.declared.plans.Plans.{Plans}

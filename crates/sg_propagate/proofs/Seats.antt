@@ -7,7 +7,7 @@ use Rattle.sg_kinds.specs.Terms.{Term}
 use Rattle.sg_kinds.specs.Places.{Place}
 use Rattle.sg_kinds.specs.Nets.{Reference}
 use Rattle.sg_kinds.specs.Instances.{Site}
-use Rattle.sg_kinds.specs.Keys.{operator_in}
+use Rattle.sg_orders.specs.Keys.{operator_in}
 use Rattle.sg_kinds.specs.Specification.{rules_of}
 use Rattle.sg_kinds.specs.ValidPlans.{AreStepsOf, IsStepAt}
 use Rattle.sg_kinds.specs.Visits.{belongs, position_in, row_at, seat, visit_count}

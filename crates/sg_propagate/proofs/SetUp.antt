@@ -11,7 +11,7 @@ use Rattle.sg_kinds.specs.Nets.{Reference, Missing, label_of, net_of, phylum_at,
 use Rattle.sg_kinds.specs.Instances.{Site, attr_count, site_of}
 use Rattle.sg_kinds.specs.FromScratch.{value_in}
 use Rattle.sg_kinds.specs.Dependencies.{IsAttr, occurrence}
-use Rattle.sg_kinds.specs.Keys.{operator_in}
+use Rattle.sg_orders.specs.Keys.{operator_in}
 use Rattle.sg_kinds.specs.Specification.{args_of, is_inherited, phylum_of, rules_of}
 use Rattle.sg_kinds.specs.ValidPlans.{AreValid}
 use Rattle.sg_kinds.specs.declared.plans.Plans.{Plans}

@@ -7,7 +7,7 @@ use Rattle.sg_kinds.specs.Terms.{Term}
 use Rattle.sg_kinds.specs.Places.{Place, sub}
 use Rattle.sg_kinds.specs.Nets.{Reference, Operation, label_of, net_of, referred}
 use Rattle.sg_kinds.specs.Instances.{Site, site_of}
-use Rattle.sg_kinds.specs.Keys.{operator_in}
+use Rattle.sg_orders.specs.Keys.{operator_in}
 use Rattle.sg_kinds.specs.Specification.{rules_of}
 use Rattle.sg_kinds.specs.FromScratch.{value_in}
 use Rattle.sg_kinds.specs.declared.plans.Plans.{Plans}
@@ -32,7 +32,7 @@ use Rattle.sg_plans.proofs.Visiting as visiting
 use Rattle.sg_terms.specs.Found.{op_at}
 use Rattle.sg_trail.specs.Trails.{IsAnySlot, Way}
 use Rattle.sg_attrib.specs.Visited as visited
-use Rattle.sg_attrib.specs.Visited.{IsKnown, IsGiven, IsArgument, IsNeeded, IsStepGiven, IsVisited}
+use Rattle.sg_attrib.specs.Visited.{IsKnown, IsGiven, IsNeeded, IsStepGiven, IsVisited}
 use Rattle.sg_attrib.proofs.Stepped.{known_not_given}
 use Rattle.sg_attrib.proofs.Nodes.{not_held, op_in, label_op, has_visit}
 use Rattle.sg_attrib.proofs.Evaluated.{argument_vertex}

@@ -14,7 +14,7 @@ use Rattle.sg_kinds.specs.Instances.{site_of, attr_count, instances}
 use Rattle.sg_kinds.specs.Dependencies.{occurrence}
 use Rattle.sg_kinds.specs.FromScratch.{leaf_or, site_value, scratch, value_in}
 use Rattle.sg_kinds.specs.Fits.{MayHold, Fits}
-use Rattle.sg_kinds.specs.Keys.{operator_in}
+use Rattle.sg_orders.specs.Keys.{operator_in}
 use Rattle.sg_kinds.specs.Sound.{IsSound, IsShaped, IsValue}
 use Rattle.sg_kinds.specs.Specification.{args_of, attrs_of, phylum_of, is_inherited, is_way_inherited, rules_of}
 use Rattle.sg_kinds.specs.Typing.{slot_type}

@@ -11,6 +11,7 @@ ghost use Rattle.sg_report.specs.Found.{Opens, AreOpens, is_saved, from_saved, t
 use crate::answers::{ReportFault, of_entry, of_opening};
 use sg_eval::Evaluator;
 use sg_input::{enter, entry_of};
+use sg_kinds::limits::FILE_BYTES;
 use sg_kinds::spec::Spec;
 use sg_kinds::term::Term;
 use sg_kinds::value::Value;
@@ -18,9 +19,6 @@ use sg_load::Loaded;
 use sg_saved_read::read;
 use sg_turns::within;
 use std::alloc::Global;
-
-// the most bytes of a file
-const LONGEST_FILE: usize = 4_194_304;
 
 // whether it begins as a saved file
 fn is_saved(file: &[u8]) -> bool
@@ -81,7 +79,7 @@ fn value_of(
         loaded.now.spec.root) }
 {
     loaded.facts();
-    if file.len() > LONGEST_FILE {
+    if file.len() > FILE_BYTES {
         return Err(ReportFault::Long);
     }
     if is_saved(file) {

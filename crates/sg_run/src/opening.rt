@@ -23,6 +23,7 @@ use crate::Status;
 use crate::finishing::finish;
 use sg_faults::fault_line;
 use sg_kinds::fault::SpecFault;
+use sg_kinds::limits::TEXT_BYTES;
 use sg_load::{Loaded, load};
 use sg_loads::tell_readers;
 use sg_outside::{Shelf, Sink};
@@ -32,7 +33,7 @@ use std::alloc::Global;
 const READ_FAULT: &[u8] = b"read fault specification\n";
 
 /// The most bytes that are fetched: one more than a specification or a script may have.
-pub const MOST: usize = 1_048_577;
+pub const MOST: usize = TEXT_BYTES + 1;
 
 /// Fetches so many bytes of the file of that name by one call of the shelf, and makes room for the reply among the
 /// others. An error says that there was no memory.

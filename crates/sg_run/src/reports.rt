@@ -1,6 +1,5 @@
 // The job of a report.
-ghost use Rattle.std.specs.Prelude.{◌≡◌, ◌≢◌, ◌+◌, ◌≤◌, ◌++◌, ◌∷◌, ⊤, ℕ, List, [], Err, IfOk, IsSome, MatchOption, None, Result, Some};
-ghost use Rattle.std.specs.Fmt.{decimal};
+ghost use Rattle.std.specs.Prelude.{◌≡◌, ◌≢◌, ◌+◌, ◌≤◌, ⊤, ℕ, [], Err, IfOk, IsSome, MatchOption, None, Result, Some};
 ghost use Rattle.sg_eval.specs.Journal.{counted};
 ghost use Rattle.sg_outside.specs.Shelf.{ShelfState};
 ghost use Rattle.sg_editor.specs.Ask.{Readers, AreReaders};
@@ -26,6 +25,7 @@ use crate::finishing::{end, finish};
 use crate::opening::{fetch, open};
 use crate::scripts::numbered;
 use sg_eval::Journal;
+use sg_kinds::limits::FILE_BYTES;
 use sg_kinds::marks::FaultKind;
 use sg_kinds::memory::NoMemory;
 use sg_load::Loaded;
@@ -37,7 +37,7 @@ use std::alloc::Global;
 const READ_FAULT: &[u8] = b"read fault file\n";
 
 // The most bytes that are fetched: one more than the file of a report may have.
-const MOST: usize = 4_194_305;
+const MOST: usize = FILE_BYTES + 1;
 
 fn kind_text(kind: FaultKind) -> &'static [u8]
     ensures { result.now ≡ kind_text kind }

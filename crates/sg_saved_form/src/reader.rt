@@ -3,17 +3,18 @@ ghost use Rattle.std.specs.Prelude.{◌≡◌, ◌+◌, ◌∷◌, [], ◌++◌,
 ghost use Rattle.sg_kinds.specs.Values.{Bytes, is_number};
 ghost use Rattle.sg_text.specs.Bytes.{is_escape};
 ghost use Rattle.sg_text.specs.Words as words;
-ghost use Rattle.sg_saved_form.specs.Files.{Raw, Whole};
+ghost use Rattle.sg_saved_form.specs.Files.{Raw};
 ghost use Rattle.sg_saved_form.specs.Machine as machine;
-ghost use Rattle.sg_saved_form.specs.Machine.{State, Open, outer, ended, text_of, closed, with_kid};
+ghost use Rattle.sg_saved_form.specs.Machine.{State, Open, outer, ended, text_of, with_kid};
 ghost use Rattle.sg_saved_form.specs.Notes.{notes_of, height_of, first_place};
-ghost use Rattle.sg_saved_form.specs.Readers.{IsBefore, IsIn, IsAfter, Reads, Fed, Stands};
+ghost use Rattle.sg_saved_form.specs.Readers.{IsBefore, IsIn, IsAfter, Reads, Fed};
 ghost use Rattle.sg_saved_form.specs.declared.notes.Noted.TheVariants as noted;
 ghost use Rattle.sg_saved_form.specs.declared.reader.Mode.{Mode as IsMode};
 ghost use Rattle.sg_saved_form.specs.declared.reader.Mode.TheVariants as mode;
 
 use crate::kinds::{Kind, kind_of};
 use crate::notes::{Note, Noted, Outline};
+use sg_kinds::limits::NAME_BYTES;
 use sg_kinds::memory::NoMemory;
 use sg_text::{Keyword, keyword_of};
 use std::alloc::Global;
@@ -47,8 +48,6 @@ pub struct Reader {
 }
 
 const FRAME: [u8; 5] = *b"SGT1\n";
-
-const LONGEST_NAME: usize = 64;
 
 /// A number with one more digit, if it has 64 bits.
 fn with_digit(value: i64, byte: u8) -> Option<i64>
@@ -256,7 +255,7 @@ impl Reader {
         ensures { (os : List Open) (bs : Bytes) → Reads self.old (machine.Name os bs)
             → IfOk result (λ more. Fed (machine.longer_name os bs byte) more self.new) }
     {
-        if self.name.len() >= LONGEST_NAME {
+        if self.name.len() >= NAME_BYTES {
             return Ok(false);
         }
         self.name.push(byte)?;

@@ -10,6 +10,7 @@ ghost use Rattle.sg_saved_read.specs.declared.reading.OpenFault.TheVariants as f
 
 use crate::misfits::first_misfit;
 use crate::values::value_in;
+use sg_kinds::limits::{DEPTH, NODES};
 use sg_kinds::memory::NoMemory;
 use sg_kinds::spec::Spec;
 use sg_kinds::value::Value;
@@ -37,11 +38,6 @@ impl From<NoMemory> for OpenFault {
     }
 }
 
-/// The greatest number of nodes of a term, and its greatest depth.
-const MOST_NODES: usize = 65_536;
-
-const MOST_DEPTH: usize = 1_024;
-
 /// The value of the term of a file.
 fn value_of(alloc: Global, spec: &Spec, bytes: &[u8], outline: &Outline) -> Result<Value, OpenFault>
     requires { IsOutline bytes.now outline.now }
@@ -52,7 +48,7 @@ fn value_of(alloc: Global, spec: &Spec, bytes: &[u8], outline: &Outline) -> Resu
         return Err(OpenFault::Phylum(place));
     }
     let nodes = outline.notes.len();
-    if nodes > MOST_NODES || outline.depth > MOST_DEPTH {
+    if nodes > NODES || outline.depth > DEPTH {
         return Err(OpenFault::Size(nodes, outline.depth));
     }
     Ok(value_in(alloc, &names, bytes, outline)?)

@@ -1,11 +1,12 @@
 // Blocks.
-ghost use Rattle.std.specs.Prelude.{◌≡◌, ◌++◌, ◌-◌, length, take, drop, IfOk, OnOk};
+ghost use Rattle.std.specs.Prelude.{◌≡◌, ◌++◌, ◌-◌, take, IfOk, OnOk};
 ghost use Rattle.sg_unparse.specs.Page.{lines_of};
 ghost use Rattle.sg_unparse.specs.Sheet.{told};
 ghost use Rattle.sg_screen.specs.Block.{head_of, position_text, region_text, phylum_text, selected_text, counts_text, ending, header, shown_line, shown_lines, block, bare};
 
+use sg_kinds::decimal::write_number;
 use sg_kinds::memory::NoMemory;
-use sg_script::{Message, write_message, write_number};
+use sg_script::{Message, write_message};
 use sg_unparse::{Page, Region};
 use std::alloc::Global;
 

@@ -1,10 +1,10 @@
 // What the transformations of a name give, in all outermost places at which they apply.
-ghost use Rattle.std.specs.Prelude.{◌≡◌, ◌≤◌, ◌<◌, ◌+◌, ℕ, false, length, slice_get, take, IfOk, MatchResult, Some};
+ghost use Rattle.std.specs.Prelude.{◌≡◌, ◌≤◌, ◌<◌, ◌+◌, ℕ, false, slice_get, take, IfOk, MatchResult, Some};
 ghost use Rattle.sg_kinds.specs.Fits.{Fits};
 ghost use Rattle.sg_kinds.specs.Sound.{IsSmall};
 ghost use Rattle.sg_kinds.specs.Terms.{Term as IsTerm};
 ghost use Rattle.sg_kinds.specs.Values.{Bytes};
-ghost use Rattle.sg_forest.specs.Trees.{IsChild, IsLive};
+ghost use Rattle.sg_forest.specs.Trees.{IsLive};
 ghost use Rattle.sg_groves.specs.Grove.{nodes};
 ghost use Rattle.sg_groves.specs.Holds.{Holds};
 ghost use Rattle.sg_terms.specs.Found.{op_at};
@@ -16,16 +16,17 @@ ghost use Rattle.sg_search.specs.Why.{IsWhy};
 ghost use Rattle.sg_search.specs.declared.replaced.SearchFault.TheVariants.{NoMemory as SearchNoMemory, Size};
 
 use crate::places::{is_known, kid_count};
-use sg_build::{DEPTH, NODES, copy_out, counts};
+use sg_build::{copy_out, counts};
 use sg_eval::Evaluator;
 use sg_forest::NodeId;
 use sg_kinds::ids::OpId;
+use sg_kinds::limits::{DEPTH, NODES};
 use sg_kinds::marks::FaultKind;
 use sg_kinds::memory::NoMemory;
 use sg_kinds::term::{Term, TermNode};
 use sg_matching::{TransformFault, transformed};
 use sg_terms::Terms;
-use std::alloc::{AllocError, Global};
+use std::alloc::Global;
 
 /// Why a term has no replacement everywhere.
 #[derive(Clone, Copy, PartialEq, Eq)]

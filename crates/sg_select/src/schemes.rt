@@ -1,7 +1,6 @@
 // What the schemes of a node and of its parent say of it.
 ghost use Rattle.std.specs.Prelude.{◌≡◌, ◌<◌, length, slice_get, unwrap_or, Some};
 ghost use Rattle.sg_kinds.specs.Sound.{is_pair};
-ghost use Rattle.sg_kinds.specs.Specification.{args_of};
 ghost use Rattle.sg_kinds.specs.Terms.{Term};
 ghost use Rattle.sg_forest.specs.Trees.{IsLive};
 ghost use Rattle.sg_groves.specs.Grove.{nodes};

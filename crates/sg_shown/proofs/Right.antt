@@ -9,7 +9,7 @@ use Rattle.sg_kinds.specs.Nets.{label_of, net_of}
 use Rattle.sg_kinds.specs.Instances.{site_of, attr_count}
 use Rattle.sg_kinds.specs.Dependencies.{occurrence}
 use Rattle.sg_kinds.specs.FromScratch.{value_in}
-use Rattle.sg_kinds.specs.Keys.{operation, operator_in}
+use Rattle.sg_orders.specs.Keys.{operation, operator_in}
 use Rattle.sg_kinds.specs.Specification.{attrs_of, phylum_of, is_inherited, is_way_inherited, rules_of}
 use Rattle.sg_kinds.specs.declared.spec.Spec.{Spec}
 use Rattle.sg_kinds.specs.declared.spec.Attr.{Attr}

@@ -2,11 +2,14 @@
 use Rattle.std.specs.Prelude.{◌≡◌, refl, ℕ, ◌<◌, Bool, true, false, not, ◌&&◌, bytes_eq, List, [], ◌∷◌, length, Option, Some, None, IsSome, slice_get, get_or, option_map, option_and_then, unwrap_or}
 use Rattle.std.proofs.Common.{sym, ap, ◌∙◌, subst, arith}
 use Rattle.std.proofs.lemmas.Option.{none-some, same_Some, slice_get_within, slice_get-get_or, get_or_from_slice_get}
+use Rattle.std.proofs.lemmas.List.Filters.{length-filter_both}
 use Rattle.std.proofs.lemmas.List.Quantifiers.{position-Some}
+use Rattle.std.proofs.lemmas.List.Sums.{length-filter}
 use Rattle.sg_kinds.specs.Values.{Bytes}
 use Rattle.sg_kinds.specs.Terms.{Term, Leaf, Node}
 use Rattle.sg_kinds.specs.Places.{Place}
 use Rattle.sg_kinds.specs.FromScratch.{value_in}
+use Rattle.sg_kinds.specs.Far.{is_far, is_written}
 use Rattle.sg_kinds.specs.Sound.{IsSound}
 use Rattle.sg_kinds.specs.Specification.{attrs_of, is_way_inherited}
 use Rattle.sg_kinds.specs.declared.spec.Spec.{Spec}
@@ -56,15 +59,16 @@ own_there name (b ∷ bs) slot e =
     }
 
 -- a phylum has few attributes
-few_slots : (spec : Spec) → IsSound spec → (p slot : ℕ) (a : Attr) → slice_get (attrs_of spec.phyla p) slot ≡ Some a → slot < 32
+few_slots : (spec : Spec) → IsSound spec → (p slot : ℕ) (a : Attr) → slice_get (attrs_of spec.phyla p) slot ≡ Some a → slot < 1048608
 few_slots spec sound p slot a there = by (slice_get spec.phyla p) refl (slice_get_within (attrs_of spec.phyla p) slot a there)
   where
-    by : (o : Option Phylum) → slice_get spec.phyla p ≡ o → slot < length (unwrap_or (option_map (λ (y : Phylum). y.attrs) o) []) → slot < 32
+    by : (o : Option Phylum) → slice_get spec.phyla p ≡ o → slot < length (unwrap_or (option_map (λ (y : Phylum). y.attrs) o) []) → slot < 1048608
     by None e low = absurd (omega (arith, low))
     by (Some y) e low =
         let few = sound.counted.attrs p y (slice_get_within spec.phyla p y e) in
         let same = get_or_from_slice_get spec.phyla p y y e in
-        omega (arith, low, few, ap (λ (z : Phylum). length z.attrs) same)
+        let all = (get_or spec.phyla p y).attrs in
+        omega (arith, low, few.0, few.1, length-filter_both is_written is_far (λ b. refl) all, length-filter is_written all, length-filter is_far all, ap (λ (z : Phylum). length z.attrs) same)
 
 module _ (g : Grove) (is : IsGrove g) (root n : NodeId) (t : Term) (u : Place) (x : Term) (at : IsAt g root n t u x) where
   pub at_holds : Holds g n x
@@ -90,10 +94,10 @@ module _ (g : Grove) (is : IsGrove g) (root n : NodeId) (t : Term) (u : Place) (
       there = ap (λ ys. slice_get ys slot) (sym of) ∙ own.there
 
       -- its slot is a small number, a value is kept for it, and its text is the one that is told
-      pub slot_low : slot < 32
+      pub slot_low : slot < 1048608
       slot_low = by x there
         where
-          by : (y : Term) → slice_get (attributes g.spec y) slot ≡ Some own.attr → slot < 32
+          by : (y : Term) → slice_get (attributes g.spec y) slot ≡ Some own.attr → slot < 1048608
           by (Leaf p v) e = absurd (none-some own.attr e)
           by (Node op k elided ts) e = let it = its_phylum g.spec op slot own.attr e in few_slots g.spec is.sound it.phylum slot own.attr it.there
 

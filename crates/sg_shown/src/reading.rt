@@ -1,5 +1,5 @@
 // The printed value of an attribute.
-ghost use Rattle.std.specs.Prelude.{◌≡◌, ◌<◌, length, slice_get, Some, IsSome, IfOk, IfSome, option_map};
+ghost use Rattle.std.specs.Prelude.{◌≡◌, ◌<◌, Some, IsSome, IfOk, option_map};
 ghost use Rattle.sg_kinds.specs.Places.{Place, place_of};
 ghost use Rattle.sg_kinds.specs.Terms.{Term as ATerm};
 ghost use Rattle.sg_forest.specs.declared.node_id.NodeId.{NodeId as Id};

@@ -14,7 +14,7 @@ use Rattle.sg_kinds.specs.Instances.{Site, site_of, instances, attr_count}
 use Rattle.sg_kinds.specs.Dependencies.{is_inherited_there, occurrence}
 use Rattle.sg_kinds.specs.FromScratch.{scratch, site_value, value_in, leaf_or}
 use Rattle.sg_kinds.specs.declared.marks.FaultKind.TheVariants.{Fuel}
-use Rattle.sg_kinds.specs.Keys.{operation, operator_in}
+use Rattle.sg_orders.specs.Keys.{operation, operator_in}
 use Rattle.sg_kinds.specs.Specification.{args_of, attrs_of, locals_of, phylum_of, is_inherited, is_way_inherited, rules_of}
 use Rattle.sg_kinds.specs.Typing.{slot_type, slots_there, attr_types}
 use Rattle.sg_kinds.specs.declared.spec.Spec.{Spec}

@@ -2,7 +2,7 @@
 ghost use Rattle.std.specs.Prelude.{◌≡◌, ◌<◌, ◌≤◌, ◌*◌, Some, IfOk, IfSome};
 ghost use Rattle.sg_kinds.specs.Places.{Place, sub};
 ghost use Rattle.sg_kinds.specs.Terms.{Term, nodes_of};
-ghost use Rattle.sg_forest.specs.Trees.{Climbs, IsLive, IsRoot};
+ghost use Rattle.sg_forest.specs.Trees.{Climbs, IsLive};
 ghost use Rattle.sg_groves.specs.Evaluated.{IsAtOrBelow};
 ghost use Rattle.sg_groves.specs.Grove.{nodes};
 ghost use Rattle.sg_unparse.specs.Begins.{begins_on};
@@ -12,6 +12,7 @@ ghost use Rattle.sg_states.specs.Seen.{nothing_typed};
 ghost use Rattle.sg_states.specs.Paged.{IsForetold, IsWhole, page_seen};
 
 use sg_forest::NodeId;
+use sg_kinds::limits::CELLS;
 use sg_kinds::memory::NoMemory;
 use sg_terms::Terms;
 use sg_unparse::{Beginning, Page, ons, part};
@@ -28,9 +29,6 @@ pub struct Before {
     /// the most blanks of the margin from which the node above is written
     pub margin: usize,
 }
-
-// how many cells a page has at most
-const CELLS: usize = 1_048_576;
 
 // where a node begins on a page, if fewer cells than a page has are before it
 fn told(page: &Page, n: NodeId) -> Option<Beginning>

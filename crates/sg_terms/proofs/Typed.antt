@@ -7,7 +7,7 @@ use Rattle.std.proofs.lemmas.Option.{slice_get_within}
 use Rattle.sg_kinds.proofs.Elementary.{option_map_some, slice_get-there, slice_get-before, slice_get-All}
 use Rattle.sg_kinds.specs.Values.{Value}
 use Rattle.sg_kinds.specs.Terms.{Leaf}
-use Rattle.sg_kinds.specs.Specification.{args_of, locals_of, phylum_of, is_inherited, is_way_inherited, rules_of}
+use Rattle.sg_kinds.specs.Specification.{args_of, locals_of, phylum_of, is_inherited, is_way_inherited}
 use Rattle.sg_kinds.specs.declared.spec.Spec.{Spec}
 use Rattle.sg_kinds.specs.declared.spec.Rule.{Rule}
 use Rattle.sg_kinds.specs.declared.spec.Phylum.{Phylum}

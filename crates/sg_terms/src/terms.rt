@@ -1,5 +1,5 @@
 // Terms in trees, with stored values.
-ghost use Rattle.std.specs.Prelude.{◌≡◌, ◌≢◌, ◌<◌, ◌≤◌, ◌↔◌, ◌⊎◌, ℕ, List, [], ◌∷◌, ◌++◌, length, map, All, slice_get, IsTrue, IsSome, IfOk, IfErr, IfSome, OnOk, OnErr, Some, None};
+ghost use Rattle.std.specs.Prelude.{◌≡◌, ◌≢◌, ◌<◌, ◌≤◌, ◌↔◌, ◌⊎◌, ℕ, List, [], ◌∷◌, ◌++◌, length, map, All, slice_get, IsSome, IfOk, IfErr, IfSome, OnOk, OnErr, Some, None};
 ghost use Rattle.sg_kinds.specs.Values.{Fault};
 ghost use Rattle.sg_kinds.specs.Terms.{Term, Leaf, Node};
 ghost use Rattle.sg_kinds.specs.Fits.{Fits};
@@ -137,13 +137,6 @@ impl Terms {
         &self.pool
     }
 
-    /// Whether there is a node of this number.
-    pub fn contains(&self, n: NodeId) -> bool
-        ensures { IsTrue result ↔ IsLive (nodes self.now) n }
-    {
-        self.trees.contains(n)
-    }
-
     /// The operator of a node, None exactly at a leaf.
     pub fn op(&self, n: NodeId) -> Option<OpId>
         requires { IsLive (nodes self.now) n }
@@ -183,19 +176,6 @@ impl Terms {
         self.trees.kid(n, k)
     }
 
-    /// The root of a node's tree, in time linear in the node's depth.
-    pub fn root_of(&self, n: NodeId) -> NodeId
-        requires { IsLive (nodes self.now) n }
-        ensures root { IsRoot (nodes self.now) result }
-        ensures inside { IsInside (nodes self.now) n result }
-    {
-        let mut top = n;
-        while let Some((above, _)) = self.trees.parent(top) {
-            top = above;
-        }
-        top
-    }
-
     /// The scheme number of a node, below 16; 0 at a leaf.
     pub fn scheme(&self, n: NodeId) -> u32
         requires { IsLive (nodes self.now) n }
@@ -224,16 +204,6 @@ impl Terms {
         ensures leaf { (p : ℕ) (v : _) → Holds self.now n (Leaf p v) → StandsFor self.now.pool result v }
     {
         number(&self.trees, n, slot)
-    }
-
-    /// Makes room for so many more nodes.
-    pub fn reserve(&mut self, nodes: usize) -> Result<(), NoMemory>
-        ensures trees { self.new.trees.nodes ≡ self.old.trees.nodes }
-        ensures room { OnOk result (nodes ≤ self.new.trees.spare) }
-        ensures spec { self.new.spec ≡ self.old.spec }
-        ensures pool { self.new.pool ≡ self.old.pool }
-    {
-        self.trees.reserve(nodes)
     }
 
     /// Makes a leaf of a base or lexeme phylum, as a root. It is refused for want of memory alone.

@@ -1,34 +1,30 @@
 -- The numbers of the entries stored again, and the two trees exchanged once more.
-use Rattle.std.specs.Prelude.{◌≡◌, ◌≢◌, ◌⊎◌, ℕ, zero, suc, ◌<◌, Bool, true, false, List, [], ◌∷◌, ◌++◌, length, Option, Some, None, slice_get, slice_set, option_and_then, Contains}
+use Rattle.std.specs.Prelude.{◌≡◌, ◌≢◌, ◌⊎◌, ℕ, zero, suc, Bool, true, false, List, [], ◌∷◌, ◌++◌, length, Option, Some, None, slice_get, slice_set, option_and_then, Contains}
 use Rattle.std.proofs.Common.{refl, sym, ap, ◌∙◌, subst, inl, inr, arith}
-use Rattle.std.proofs.lemmas.Bool.{cases_lt, false≢true}
-use Rattle.std.proofs.lemmas.List.Elements.{Contains-append_left, Contains-append_right}
-use Rattle.std.proofs.lemmas.Option.{none-some, same_Some, slice_get_within, slice_get_past}
-use Rattle.sg_kinds.proofs.Elementary.{slice_get-there}
+use Rattle.std.proofs.lemmas.Bool.{false≢true}
+use Rattle.std.proofs.lemmas.List.Elements.{Contains-append_left}
+use Rattle.std.proofs.lemmas.Option.{none-some, same_Some}
 use Rattle.sg_kinds.specs.Typing.{slot_type}
 use Rattle.sg_kinds.specs.declared.spec.Spec.{Spec}
 use Rattle.sg_forest.specs.declared.node_id.NodeId.{NodeId}
 use Rattle.sg_forest.specs.Node as forest
 use Rattle.sg_forest.specs.Trees.{IsLive, IsRoot, IsChild, IsInside, Lists, Climbs}
-use Rattle.sg_forest.specs.Steps.{SameSort, IsSwapped, KeepsShape}
+use Rattle.sg_forest.specs.Steps.{SameSort, IsSwapped}
 use Rattle.sg_forest.proofs.Paths.{cases_id, no_cycle, one_path, parent_outside, root_inside, root_is_no_child, root_or_child}
 use Rattle.sg_forest.proofs.Swapped.{kept_root}
 use Rattle.sg_forest.proofs.Laws.{KeepsWaysWithin-swapped}
-use Rattle.sg_forest.proofs.Shape.{KeepsShape-back, IsRoot-shape, IsChild-shape, IsLive-shape, IsInside-shape}
-use Rattle.sg_forest.proofs.Moves.{set-same}
 use Rattle.sg_groves.specs.declared.kind.Kind.{Kind}
 use Rattle.sg_groves.specs.declared.part.Part.{Part}
 use Rattle.sg_groves.specs.Grove.{Grove, nodes, IsTyped, IsGrove}
 use Rattle.sg_groves.specs.Stored.{number_at}
-use Rattle.sg_groves.specs.Unchanged.{KeepsPart, OnlyStored}
+use Rattle.sg_groves.specs.Unchanged.{OnlyStored}
 use Rattle.sg_groves.proofs.Frames.{only_itself, only_more, only_twice, only_number}
-use Rattle.sg_groves.proofs.Lists.{contains_first}
 use Rattle.sg_terms.specs.Found.{op_at}
 use Rattle.sg_terms.specs.Storable.{IsStorable, IsSlot}
 use Rattle.sg_terms.proofs.Same.{IsTyped-grown}
 use Rattle.sg_trail.specs.declared.entry.WasStored.{WasStored}
-use Rattle.sg_trail.specs.Trails.{AreStorable, IsAnySlot, IsExchanged, LeadsBack, TellsNumbers, Way, is_of, was_in}
-use Rattle.sg_trail.proofs.Telling.{IsOf, last_tells, last_tells_not, of_from, of_to}
+use Rattle.sg_trail.specs.Trails.{AreStorable, IsAnySlot, IsExchanged, LeadsBack, Way, is_of, was_in}
+use Rattle.sg_trail.proofs.Telling.{last_tells, last_tells_not, of_from, of_to}
 
 -- nodes of operators are so still where only values change, and what may be stored may be so still
 module _ (old new : Grove) (changed : NodeId → ℕ → Type 0) (only : OnlyStored old new changed) where

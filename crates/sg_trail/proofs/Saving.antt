@@ -1,5 +1,5 @@
 -- The entries of a tree, one node after another.
-use Rattle.std.specs.Prelude.{◌≡◌, ◌⊎◌, ℕ, suc, ◌+◌, ◌<◌, List, [], ◌∷◌, ◌++◌, length, Option, Some, None, Contains, slice_get, option_and_then, MatchOption}
+use Rattle.std.specs.Prelude.{◌≡◌, ◌⊎◌, ℕ, ◌+◌, ◌<◌, List, [], ◌∷◌, ◌++◌, length, Option, Some, None, Contains, slice_get, option_and_then, MatchOption}
 use Rattle.std.proofs.Common.{refl, sym, ap, ◌∙◌, subst, inl, inr, arith}
 use Rattle.std.proofs.lemmas.Bool.{cases_lt}
 use Rattle.std.proofs.lemmas.List.Elements.{Contains-append_left, Contains-append_right, Contains-append_cases}
@@ -10,14 +10,13 @@ use Rattle.sg_kinds.specs.Typing.{slots_there}
 use Rattle.sg_kinds.specs.declared.spec.Operator.{Operator}
 use Rattle.sg_forest.specs.declared.node_id.NodeId.{NodeId}
 use Rattle.sg_forest.specs.Node as forest
-use Rattle.sg_forest.specs.Trees.{IsLive, IsChild, IsInside, Climbs}
+use Rattle.sg_forest.specs.Trees.{IsChild, IsInside, Climbs}
 use Rattle.sg_groves.specs.declared.kind.Kind.{Kind}
 use Rattle.sg_groves.specs.declared.part.Part.{Part}
 use Rattle.sg_groves.specs.Grove.{Grove, nodes, IsLeaf, IsOperation, IsGrove}
 use Rattle.sg_groves.specs.Stored.{number_at}
 use Rattle.sg_groves.proofs.Lists.{contains_first, contains_either, contains_none}
 use Rattle.sg_terms.specs.Found.{op_at}
-use Rattle.sg_terms.specs.Storable.{IsStorable}
 use Rattle.sg_terms.proofs.Written.{op_node, number_node, storable_again}
 use Rattle.sg_trail.specs.declared.entry.WasStored.{WasStored}
 use Rattle.sg_trail.specs.Trails.{AreCovered, IsCovered, IsSaved, AreSaved}

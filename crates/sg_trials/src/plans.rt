@@ -1,5 +1,4 @@
-//! Plans of evaluation: the visit of each attribute, what each visit of an operator does, and which equations name
-//! each of its vertices.
+//! Plans of evaluation: the visit of each attribute, and what each visit of an operator does.
 use crate::language::language;
 use crate::loading::loaded;
 use sg_kinds::plans::{PlanStep, Plans};
@@ -24,14 +23,6 @@ const STEPS: &str = "\
 1: e4 | e5 e6 |
 2: |
 3: 1.1 |
-";
-
-/// The equations that name each vertex of an operator, a line an operator; a bar ends a vertex.
-const READERS: &str = "\
-0: | | 3 | | 0 1 | | 1 |
-1: 4 | 5 | 5 | | 6 |
-2:
-3: |
 ";
 
 fn tell_visits(rt: &impl Abort, plans: &Plans, out: &mut String) {
@@ -61,19 +52,6 @@ fn tell_steps(rt: &impl Abort, plans: &Plans, out: &mut String) {
     }
 }
 
-fn tell_readers(rt: &impl Abort, plans: &Plans, out: &mut String) {
-    for (op, vertices) in plans.readers.as_slice().iter().enumerate() {
-        write!(out, "{op}:").expect(rt, "memory");
-        for readers in vertices.as_slice() {
-            for rule in readers.as_slice() {
-                write!(out, " {}", rule.number).expect(rt, "memory");
-            }
-            write!(out, " |").expect(rt, "memory");
-        }
-        writeln!(out).expect(rt, "memory");
-    }
-}
-
 /// Tells the plans in turn.
 fn assert_plans(rt: &(impl Abort + AllocGlobal), plans: &Plans) {
     let mut out = String::new(rt.alloc());
@@ -82,9 +60,6 @@ fn assert_plans(rt: &(impl Abort + AllocGlobal), plans: &Plans) {
     out.clear();
     tell_steps(rt, plans, &mut out);
     assert_eq!(rt; out.as_str(), STEPS);
-    out.clear();
-    tell_readers(rt, plans, &mut out);
-    assert_eq!(rt; out.as_str(), READERS);
 }
 
 #[test]

@@ -1,5 +1,4 @@
 //! Forests that grow, exchange and drop, a deep one, a wide one and a large one.
-ghost use Rattle.std.specs.Prelude.{ℕ};
 
 use sg_forest::{Forest, Label, NodeId};
 use std::process::Abort;

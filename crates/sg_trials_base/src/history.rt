@@ -1,6 +1,5 @@
 //! Runs of calls of a history with their answers and both lists, and what becomes of a step that `push` drops.
 use sg_undo::History;
-use std::process::Abort;
 use std::rc::Rc;
 
 #[derive(Clone, Copy, Debug)]

@@ -1,7 +1,6 @@
 //! The tokens of texts, with where they stand.
 use sg_text::{lex, unescape};
 use std::fmt::Write;
-use std::process::Abort;
 
 /// A text, and its tokens as `KIND FROM TO LINE`, each with a comma.
 const ROWS: [(&[u8], &str); 4] = [

@@ -1,6 +1,5 @@
 //! Patterns with what they match at the front of a text, and the longest of several.
 use sg_patterns::{longest, matches_empty, read};
-use std::process::Abort;
 
 /// A pattern, a text, how many bytes of it are the longest match, and whether the pattern matches the empty text.
 const ROWS: [(&[u8], &[u8], Option<usize>, bool); 13] = [

@@ -96,6 +96,33 @@ fn graphs_with_their_closures_and_cycles(rt: HostRuntime) {
     }
 }
 
+/// Two ends, and the way that is found between them, empty where there is none.
+const WAYS: [(usize, usize, &[usize]); 6] = [
+    // two of one length
+    (0, 1, &[0, 4, 1]),
+    // back to where it begins
+    (2, 2, &[2, 0, 4, 1, 2]),
+    (3, 3, &[3, 3]),
+    (1, 2, &[1, 2]),
+    (1, 3, &[]),
+    (0, 6, &[]),
+];
+
+#[test]
+fn ways_from_one_vertex_to_another(rt: HostRuntime) {
+    let edges = [(0, 5), (5, 1), (0, 4), (4, 1), (1, 2), (2, 0), (3, 3)];
+    let relation = graph(&rt, 6, &edges);
+    for &(from, to, expected) in &WAYS {
+        let found = relation
+            .way(rt.alloc(), from, to)
+            .expect(&rt, "a way or none");
+        match &found {
+            Some(way) => assert_eq!(rt; way.as_slice(), expected),
+            None => assert_eq!(rt; expected.len(), 0),
+        }
+    }
+}
+
 #[test]
 fn a_ring_of_a_thousand(rt: HostRuntime) {
     let mut relation = Relation::new(rt.alloc(), 1000).expect(&rt, "a relation");

@@ -10,7 +10,7 @@ use Rattle.sg_kinds.specs.Nets.{Reference, Operation, label_of, net_of, phylum_a
 use Rattle.sg_kinds.specs.Instances.{Site, attr_count, instances, is_inherited_at, site_above, site_at, site_of}
 use Rattle.sg_kinds.specs.Dependencies.{occurrence}
 use Rattle.sg_kinds.specs.FromScratch.{leaf_or, scratch, site_value, value_in}
-use Rattle.sg_kinds.specs.Keys.{operation}
+use Rattle.sg_orders.specs.Keys.{operation}
 use Rattle.sg_kinds.specs.Sound.{IsSound}
 use Rattle.sg_kinds.specs.Specification.{attrs_of, is_inherited, is_way_inherited, locals_of, phylum_of, rules_of}
 use Rattle.sg_kinds.specs.declared.marks.FaultKind.TheVariants.{Fuel}

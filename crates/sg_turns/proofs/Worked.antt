@@ -31,6 +31,8 @@ spec = record {
   lexemes = [];
   productions = [];
   entries = [];
+  levels = [];
+  views = record { names = []; rows = [] };
   root = 3;
 }
 

@@ -16,10 +16,11 @@ ghost use Rattle.sg_turns.specs.Noted.{Noted};
 ghost use Rattle.sg_turns.specs.Roots.{AreTheRoots};
 
 use sg_attrib::attribute;
-use sg_build::{Counts, DEPTH, NODES, build, counts};
+use sg_build::{Counts, build, counts};
 use sg_changes::Step;
 use sg_eval::{Evaluator, Journal};
 use sg_forest::NodeId;
+use sg_kinds::limits::{DEPTH, NODES};
 use sg_kinds::memory::NoMemory;
 use sg_kinds::plans::Plans;
 use sg_kinds::spec::Spec;

@@ -54,6 +54,8 @@ blocks = record {
   lexemes = [];
   productions = [];
   entries = [];
+  levels = [];
+  views = record { names = []; rows = [] };
   root = 3;
 }
 

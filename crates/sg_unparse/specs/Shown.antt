@@ -5,7 +5,6 @@ use Rattle.sg_kinds.specs.Values.{Bytes, Value, Truth, Number, Chars, Tree, Faul
 use Rattle.sg_kinds.specs.Terms.{Term, Leaf, Node}
 use Rattle.sg_kinds.specs.Specification.{has_shape, is_lexical_shape, phylum_name}
 use Rattle.sg_kinds.specs.declared.spec.Spec.{Spec}
-use Rattle.sg_kinds.specs.declared.spec.Phylum.{Phylum}
 use Rattle.sg_kinds.specs.declared.spec.Operator.{Operator}
 use Rattle.sg_kinds.specs.declared.spec.Scheme.{Scheme}
 use Rattle.sg_kinds.specs.declared.marks.FaultKind.{FaultKind}

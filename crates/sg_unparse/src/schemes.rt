@@ -1,5 +1,5 @@
 // The scheme in which a node is shown.
-ghost use Rattle.std.specs.Prelude.{◌≡◌, None, Some, MatchOption, MatchBool};
+ghost use Rattle.std.specs.Prelude.{◌≡◌, None, Some, MatchOption};
 ghost use Rattle.sg_kinds.specs.Terms.{Term};
 ghost use Rattle.sg_forest.specs.Trees.{IsLive};
 ghost use Rattle.sg_groves.specs.Grove.{nodes};

@@ -1,19 +1,16 @@
 // What is written of a page, cell by cell.
-ghost use Rattle.std.specs.Prelude.{◌≡◌, ◌≤◌, ◌+◌, ◌-◌, [], ◌∷◌, min, length, OnOk, IfOk, IsTrue};
+ghost use Rattle.std.specs.Prelude.{◌≡◌, ◌≤◌, ◌+◌, ◌-◌, [], ◌∷◌, min, length, OnOk, IsTrue};
 ghost use Rattle.sg_kinds.specs.Places.{Place};
 ghost use Rattle.sg_forest.specs.declared.node_id.NodeId.{NodeId as Id};
 ghost use Rattle.sg_unparse.specs.Cells.{Writing, as_they_are, ended, newline as a_newline, piece as a_piece, pieces as all_pieces, plain as plain_text};
-ghost use Rattle.sg_unparse.specs.Page.{cells_of, is_cut};
 ghost use Rattle.sg_unparse.specs.Written.{Owns, IsLastOf, HoldsMarks, Wrote, blanks_of};
 
 use crate::page::{Run, Span};
 use sg_forest::NodeId;
+use sg_kinds::limits::CELLS;
 use sg_kinds::memory::NoMemory;
 use sg_kinds::spec::Piece;
 use std::alloc::Global;
-
-/// How many cells a page has at most.
-pub const PAGE: usize = 1_048_576;
 
 // blanks, written up to 64 at once
 const BLANKS: [u8; 64] = [b' '; 64];
@@ -67,7 +64,7 @@ impl Writer {
     pub fn len(&self) -> u32
         ensures { result ≡ min (length self.now.text.items) 1048576 }
     {
-        self.text.len().min(PAGE) as u32
+        self.text.len().min(CELLS) as u32
     }
 
     /// Writes a byte that a node owns; where the page is full, notes that it is cut.
@@ -76,7 +73,7 @@ impl Writer {
             Wrote at self.old self.new (as_they_are u (b ∷ []))) }
     {
         let at = self.text.len();
-        if at >= PAGE {
+        if at >= CELLS {
             self.more = true;
             return Ok(());
         }
@@ -108,7 +105,7 @@ impl Writer {
         if self.more {
             return Ok(());
         }
-        if text.len() <= PAGE.saturating_sub(self.text.len()) {
+        if text.len() <= CELLS.saturating_sub(self.text.len()) {
             return self.fill(owner, text);
         }
         for b in text {
@@ -121,7 +118,7 @@ impl Writer {
     fn blank_count(&self) -> usize
         ensures { result ≡ min self.now.margin ((1048576 - length self.now.text.items) + 1) }
     {
-        let room = PAGE.saturating_sub(self.text.len());
+        let room = CELLS.saturating_sub(self.text.len());
         self.margin.min(room + 1)
     }
 

@@ -7,4 +7,4 @@ pub mod laws;
 mod workload;
 
 pub use language::lines;
-pub use workload::{MOST_STATEMENTS, commands, write_number};
+pub use workload::{MOST_STATEMENTS, commands};

@@ -1,9 +1,9 @@
 // The commands of a workload.
 ghost use Rattle.std.specs.Prelude.{◌≡◌, ◌≤◌, ◌<◌, ◌^◌, ◌+◌, ◌++◌, replicate, IfOk, OnOk};
-ghost use Rattle.std.specs.Fmt.{decimal};
 ghost use Rattle.sg_script.specs.declared.command.Command.TheVariants.{Undo, Redo};
 ghost use Rattle.sg_workload.specs.Workload.{next_number, declaration, print, statement_by, statement_of, turns, opening, statements, workload};
 
+use sg_kinds::decimal::write_number;
 use sg_kinds::memory::NoMemory;
 use sg_kinds::text::Text;
 use sg_script::Command;
@@ -22,15 +22,6 @@ fn next_number(x: u64) -> u64
     ensures small { result < 2 ^ 31 }
 {
     (x * 1_103_515_245 + 12_345) % 2_147_483_648
-}
-
-/// Writes a number in decimal.
-pub fn write_number(alloc: Global, out: &mut Vec<u8>, n: u64) -> Result<(), NoMemory>
-    ensures { OnOk result (out.new.items ≡ out.old.items ++ decimal n) }
-{
-    let digits = n.to_string(alloc)?;
-    out.extend_from_slice(digits.as_bytes())?;
-    Ok(())
 }
 
 // the declaration of a name

@@ -13,3 +13,8 @@ returns-in-Refused-clause-did c = λ clip.
     let was = now_of c.args.journal.now in
     subst (λ (x : declared.Choice). Did (puts_in b clip (choice_of x)) c.in-Refused.why b clip was was) (sym c.in-Refused.is)
     (refused_did b b clip was was c.in-Refused.why refl refl)
+
+pub returns-in_ok-put_in-in-Put-clause-did : goal.returns-in_ok-put_in-in-Put-clause-did
+returns-in_ok-put_in-in-Put-clause-did c = λ clip.
+    subst (λ (x : declared.Choice). Did (puts_in c.args.buffer.now clip (choice_of x)) c.in_ok-put_in-in-Put.field-0 c.put_in.new.buffer clip (now_of c.args.journal.now) (now_of c.put_in.new.journal)) (sym c.in-Put.is)
+    (c.in_ok-put_in-in-Put.ensures.did clip)

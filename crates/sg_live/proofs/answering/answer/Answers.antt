@@ -1,8 +1,7 @@
-use Rattle.std.proofs.Common.{◌≡◌, ◌∷◌, List, [], Ok, Option, Some, None, refl, sym, ap, ◌∙◌}
+use Rattle.std.proofs.Common.{◌≡◌, List, Ok, Some, None, sym, ap, ◌∙◌}
 use Rattle.std.specs.Prelude.{slice_get}
 use Rattle.sg_eval.specs.Journal.{counted}
 use Rattle.sg_script.specs.declared.command.Command.{Command}
-use Rattle.sg_script.specs.Script.{script_of}
 use Rattle.sg_editor.specs.Editing.{session_of}
 use Rattle.sg_live.specs.DeskView.{desk_in}
 use Rattle.sg_live.proofs.OneLine.{answered_silent, answered_refused, answered_offer}

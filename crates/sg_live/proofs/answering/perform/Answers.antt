@@ -1,4 +1,4 @@
-use Rattle.std.proofs.Common.{◌≡◌, ◌+◌, ℕ, List, length, refl, ap, ◌∙◌, arith}
+use Rattle.std.proofs.Common.{◌≡◌, ◌+◌, List, length, refl, ap, arith}
 use Rattle.sg_eval.specs.Journal.{counted, now_of}
 use Rattle.sg_eval.specs.declared.journal.Instance.{Instance}
 use Rattle.sg_editor.specs.Editing.{session_of}

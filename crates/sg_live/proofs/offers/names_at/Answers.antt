@@ -1,7 +1,6 @@
 use Rattle.std.proofs.Common.{◌≡◌, ◌<◌, ◌≤◌, ℕ, List, true, false, Some, length, get_or, sym, ap, subst, ◌∙◌}
 use Rattle.std.specs.Prelude.{slice_get, is_some, nat_eq}
 use Rattle.sg_kinds.specs.Evaluation.{bound_by}
-use Rattle.sg_kinds.specs.Terms.{Term}
 use Rattle.sg_kinds.specs.ValueOf.{value_of}
 use Rattle.sg_kinds.specs.Values.{Bytes}
 use Rattle.sg_kinds.specs.declared.spec.Spec.{Spec}

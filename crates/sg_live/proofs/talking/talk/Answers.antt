@@ -1,4 +1,4 @@
-use Rattle.std.proofs.Common.{◌≡◌, ◌∙◌, refl}
+use Rattle.std.proofs.Common.{◌∙◌, refl}
 use Rattle.sg_eval.specs.Journal.{counted}
 use Rattle.sg_editor.specs.Editing.{session_of}
 use Rattle.sg_live.specs.DeskView.{desk_in}

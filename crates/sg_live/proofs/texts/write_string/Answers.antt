@@ -1,5 +1,5 @@
 use Rattle.std.proofs.Common.{refl}
-use Rattle.sg_live.proofs.TextLemmas.{escaped_more, string_whole}
+use Rattle.sg_live.proofs.TextLemmas.{escaped_more}
 use Rattle.sg_live.proofs.texts.write_string.Goals as goal
 
 pub loop-b-preserved : goal.loop-b-preserved

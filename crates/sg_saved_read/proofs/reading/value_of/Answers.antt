@@ -2,15 +2,15 @@ use Rattle.std.proofs.Common.{inl, inr, subst, arith}
 use Rattle.sg_saved_read.specs.Heads.{AreNames}
 use Rattle.sg_saved_read.proofs.Outlined.{none-misfits, too-large, holds}
 use Rattle.sg_saved_read.proofs.reading.value_of.Goals as goal
-use Rattle.sg_saved_read.proofs.reading.value_of.Goals.{then-nodes-gt-MOST_NODES-via-then-nodes-gt-MOST_NODES, then-nodes-gt-MOST_NODES-via-else-nodes-gt-MOST_NODES+then-outline-gt-MOST_DEPTH}
+use Rattle.sg_saved_read.proofs.reading.value_of.Goals.{then-nodes-gt-NODES-via-then-nodes-gt-NODES, then-nodes-gt-NODES-via-else-nodes-gt-NODES+then-outline-gt-DEPTH}
 
-pub returns-then-nodes-gt-MOST_NODES : goal.returns-then-nodes-gt-MOST_NODES
-returns-then-nodes-gt-MOST_NODES c =
+pub returns-then-nodes-gt-NODES : goal.returns-then-nodes-gt-NODES
+returns-then-nodes-gt-NODES c =
     let fit = none-misfits c.args.spec.now c.args.bytes.now c.args.outline.now c.in_ok-place.field-0 c.in_default.is c.in_ok-place.ensures in
     too-large c.args.spec.now c.args.bytes.now c.args.outline.now c.requires (fit c.requires) c.len-nodes.result (omega (arith, c.args.outline.now.notes.ok.0))
-    (elim c.then-nodes-gt-MOST_NODES.branch [
-      | then-nodes-gt-MOST_NODES-via-then-nodes-gt-MOST_NODES w ↦ inl (omega (arith, w.if-nodes-gt-MOST_NODES.true))
-      | then-nodes-gt-MOST_NODES-via-else-nodes-gt-MOST_NODES+then-outline-gt-MOST_DEPTH w ↦ inr (omega (arith, w.if-outline-gt-MOST_DEPTH.true))
+    (elim c.then-nodes-gt-NODES.branch [
+      | then-nodes-gt-NODES-via-then-nodes-gt-NODES w ↦ inl (omega (arith, w.if-nodes-gt-NODES.true))
+      | then-nodes-gt-NODES-via-else-nodes-gt-NODES+then-outline-gt-DEPTH w ↦ inr (omega (arith, w.if-outline-gt-DEPTH.true))
     ])
 
 pub returns : goal.returns

@@ -3,7 +3,6 @@ use Rattle.std.specs.Prelude.{Contains, is_some}
 use Rattle.sg_kinds.specs.Typing.{slots_there}
 use Rattle.sg_kinds.specs.declared.spec.Spec.{Spec}
 use Rattle.sg_dependencies.proofs.SoundRules.{sound_range}
-use Rattle.sg_trail.specs.declared.entry.WasStored.{WasStored}
 use Rattle.sg_trail.proofs.Saving.{op_there, slot_there, slot_low, node_next}
 use Rattle.sg_trail.proofs.saved.save_node.Goals as goal
 

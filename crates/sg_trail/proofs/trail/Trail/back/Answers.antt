@@ -1,6 +1,5 @@
-use Rattle.std.proofs.Common.{◌≡◌, ◌∙◌, ℕ, sym, ap, subst}
-use Rattle.sg_groves.specs.Grove.{Grove}
-use Rattle.sg_trail.specs.Trails.{LeadsBack, Way}
+use Rattle.std.proofs.Common.{sym, subst}
+use Rattle.sg_trail.specs.Trails.{LeadsBack}
 use Rattle.sg_trail.proofs.Back.{again_live, again_root, again_apart, again_phyla, is_back}
 use Rattle.sg_trail.proofs.trail.Trail.back.Goals as goal
 
