@@ -8,6 +8,9 @@
  * line for each: the number, the status (256 and more: the signal), how many bytes the child wrote, whether they are
  * the first ones of FOLDER/wanted, and the sum over the files before the fork and after the child. The last line, with
  * the number 0, says how many allocations there were. A child whose bytes are the wanted ones leaves nothing.
+ *
+ * With REFUSE_AGAIN=FILE a child reads that file, from its start, in place of the standard input, and each child leaves
+ * its folder.
  */
 #define _GNU_SOURCE
 #include <dirent.h>
@@ -32,6 +35,7 @@ enum { SECONDS = 60 };
 static int armed, log_file, own;
 static uint64_t count, from = 1, step = 1;
 static char base[4096];
+static const char *again;
 static const unsigned char *wanted;
 static size_t wanted_len;
 
@@ -107,6 +111,7 @@ static void enter(const char *folder) {
         at += n;
     }
     if (dup2(f, 1) < 0 || chdir(folder)) _exit(98);
+    if (again && dup2(open(again, O_RDONLY), 0) < 0) _exit(98);
     alarm(SECONDS);
 }
 
@@ -120,7 +125,7 @@ static void record(const char *folder, int status, uint64_t before) {
     int said = WIFEXITED(status) ? WEXITSTATUS(status) : 256 + WTERMSIG(status);
     int n = snprintf(line, sizeof line, "%lu %d %zu %d %lx %lx\n", count, said, len, same, before, files(folder, NULL, 0));
     if (write(log_file, line, n) != n) _exit(99);
-    if (same && (said == 0 || said == 1)) {
+    if (!again && same && (said == 0 || said == 1)) {
         files(folder, NULL, 1);
         unlink(out);
         rmdir(folder);
@@ -156,6 +161,7 @@ __attribute__((constructor)) static void begin(void) {
     snprintf(base, sizeof base, "%s", given);
     if ((n = getenv("REFUSE_FROM"))) from = strtoull(n, NULL, 10);
     if ((n = getenv("REFUSE_STEP"))) step = strtoull(n, NULL, 10);
+    again = getenv("REFUSE_AGAIN");
     snprintf(name, sizeof name, "%s/wanted", base);
     wanted = mapped(name, &wanted_len);
     snprintf(name, sizeof name, "%s/log", base);
