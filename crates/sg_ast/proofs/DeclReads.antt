@@ -1,5 +1,5 @@
 -- The spelling of a declaration is read as this declaration.
-use Rattle.std.proofs.Common.{◌≡◌, ◌<◌, Bool, true, false, List, [], ◌∷◌, ◌++◌, length, Some, None, refl, ap, ◌∙◌, arith, length-append}
+use Rattle.std.proofs.Common.{◌≡◌, ◌<◌, Bool, true, false, List, [], ◌∷◌, ◌++◌, length, Option, Some, None, refl, ap, ◌∙◌, arith, length-append}
 use Rattle.std.specs.Prelude.{flat_map, not, ⊤, ◌||◌}
 use Rattle.std.specs.List.{AllByRecursion, join_by}
 use Rattle.sg_text.specs.Lexemes.{Sign}
@@ -9,6 +9,9 @@ use Rattle.sg_text.specs.declared.words.Keyword.TheVariants as keyword
 use Rattle.sg_kinds.specs.declared.marks.Way.{Way}
 use Rattle.sg_kinds.specs.declared.marks.Way.TheVariants.{Synthesized, Inherited}
 use Rattle.sg_kinds.specs.declared.marks.ChildPlace.TheVariants.{Resting, Passed, Hidden}
+use Rattle.sg_kinds.specs.declared.marks.Group.{Group}
+use Rattle.sg_kinds.specs.declared.marks.Group.TheVariants.{Left, Right as ToRight, NonAssoc}
+use Rattle.sg_kinds.specs.declared.fault.Position.{Position}
 use Rattle.sg_ast.specs.declared.name.Name.{Name}
 use Rattle.sg_ast.specs.declared.name.Quoted.{Quoted}
 use Rattle.sg_ast.specs.declared.name.Occurrence.{Occurrence}
@@ -26,13 +29,15 @@ use Rattle.sg_ast.specs.declared.decl.Part.TheVariants as part
 use Rattle.sg_ast.specs.Patterns.{Pattern}
 use Rattle.sg_ast.specs.Expressions.{Expr}
 use Rattle.sg_ast.specs.Declarations.{Equation, Right, Decl, Root, Listed, Optional, Operators, LexemeOf, Attributes, Equations, Schemes, Function, Transform, Productions, Entry, Precedence}
-use Rattle.sg_ast.specs.Spelling.{Mark, Piece, Takes, none, free, kept, sign, word, named, way_word, bar, comma, spell_name, spell_text, spell_occurrence, spell_expr, spell_pattern, spell_target, spell_equation, spell_alt, spell_attr, spell_local, spell_param, spell_item, spell_scheme, resting_symbol, editing_symbol, spell_part, spell_right, spell}
+use Rattle.sg_ast.specs.Spelling.{Mark, Piece, Takes, none, free, kept, sign, sign_at, word, named, way_word, group_word, bar, comma, spell_name, spell_text, spell_literal, spell_view, spell_occurrence, spell_expr, spell_pattern, spell_target, spell_equation, spell_alt, spell_attr, spell_local, spell_param, spell_item, spell_scheme, resting_symbol, editing_symbol, spell_part, spell_right, spell}
 use Rattle.sg_ast.specs.Grouped.{max_depth, IsItem, IsScheme, IsPattern, IsExpr, IsEquation, IsRight, IsTree}
-use Rattle.sg_ast.specs.Readers.{Reader, is_sign, is_reserved, is_name, is_string, sees, eat, expect, name, string, quoted, many}
-use Rattle.sg_ast.specs.Reading.{alt, refers, pattern, expr, alt_of, other, operators, lexeme, way, attr, sees_other, attributes, local, equation, equations, separator, item_of, resting, editing, scheme, schemes, param, function, transform, is_part, part_of, right, productions, entry, root, listed, optional, of_operator, of_colon, of_phylum, of_name, declaration}
-use Rattle.sg_ast.proofs.Steps.{◌then◌, splits, ends, sign_self, First, name_first, string_first, sign_first, sign_behind, word_behind, sees_free, sees_kept, Items, more_reads}
+use Rattle.sg_ast.specs.Readers.{Reader, is_sign, is_reserved, is_name, is_string, is_literal, sees, eat, expect, name, string, quoted, many}
+use Rattle.sg_ast.specs.ReadingNames.{refers, pattern}
+use Rattle.sg_ast.specs.ReadingExpressions.{expr}
+use Rattle.sg_ast.specs.Reading.{alt, alt_of, other, operators, lexeme, way, attr, sees_other, attributes, local, equation, equations, separator, item_of, resting, editing, scheme, view_of, schemes, param, function, transform, is_part, part_of, right, productions, entry, group_of, grouped, precedence, root, listed, optional, of_operator, of_colon, of_phylum, of_name, declaration}
+use Rattle.sg_ast.proofs.Steps.{◌then◌, splits, ends, sign_self, First, name_first, string_first, quoted_first, sign_first, sign_behind, word_behind, sees_free, sees_kept, Items, more_reads}
 use Rattle.sg_ast.proofs.References.{target_by}
-use Rattle.sg_ast.proofs.Separated.{Elements, arguments_first}
+use Rattle.sg_ast.proofs.Separated.{Elements, trivial, arguments_first}
 use Rattle.sg_ast.proofs.PatternLaws as patterns
 use Rattle.sg_ast.proofs.LevelLaws.{sign_binds, binds_first}
 use Rattle.sg_ast.proofs.ExprReads.{expr_reads}
@@ -47,10 +52,6 @@ list_first {s = s} items found xs {ms = ms} all t over =
     let p = splits (flat_map s xs) t in
     let end = over p.0 p.2 in
     record { mid = p.0; read = more_reads items xs (length ms) found all p.1 end.0 end.1 (omega arith); tail = p.2 }
-
-trivial : {A : Type 0} (xs : List A) → AllByRecursion (λ x. ⊤) xs
-trivial [] = tt
-trivial (x ∷ xs) = (tt, trivial xs)
 
 expr_first : (e : Expr) (s : Symbol) {ps : List Piece} {ms rest : List Mark} → IsExpr e → sign_binds s ≡ 0 → Takes (spell_expr e ++ sign s ∷ ps) ms rest → First expr e (sign s ∷ ps) ms rest
 expr_first e s is quiet t =
@@ -297,15 +298,22 @@ scheme_reads x is t =
 scheme_items : Items (sees (is_sign LeftBracket)) scheme spell_scheme IsScheme (λ ms. ⊤)
 scheme_items = record { reads = λ x is t end. scheme_reads x is t; begins = λ x t. sees_kept (is_sign LeftBracket) t; behind = λ x t. tt; some = λ x. omega arith }
 
-schemes_reads : (n op : Name) (x : SchemeDecl) (xs : List SchemeDecl) {ms rest : List Mark} → AllByRecursion IsScheme (x ∷ xs) → Takes (flat_map spell_scheme (x ∷ xs) ++ sign Semicolon ∷ []) ms rest
-    → schemes n op ms ≡ Some (Schemes n op None (x ∷ xs), rest)
+view_first : (v : Option Name) {place : Position} {ps : List Piece} {ms rest : List Mark} → Takes (spell_view v ++ sign_at LeftBracket place ∷ ps) ms rest
+    → First view_of v (sign_at LeftBracket place ∷ ps) ms rest
+unfolding view_of eat sees name
+view_first None {ms = ms} (kept t) = record { mid = ms; read = refl; tail = kept t }
+view_first (Some v) (free (kept {ms = ms} t)) = record { mid = ms; read = refl; tail = t }
+
+schemes_reads : (n op : Name) (v : Option Name) (x : SchemeDecl) (xs : List SchemeDecl) {ms rest : List Mark} → AllByRecursion IsScheme (x ∷ xs)
+    → Takes (spell_view v ++ (flat_map spell_scheme (x ∷ xs) ++ sign Semicolon ∷ [])) ms rest → schemes n op ms ≡ Some (Schemes n op v (x ∷ xs), rest)
 unfolding schemes
-schemes_reads n op x xs {ms = ms} is t =
-    let p = splits (flat_map spell_scheme (x ∷ xs)) t in
+schemes_reads n op v x xs is t =
+    let t1 = view_first v t in
+    let p = splits (flat_map spell_scheme (x ∷ xs)) t1.tail in
     let q = splits (spell_scheme x) p.1 in
     let t2 = list_first scheme_items (x ∷ []) xs is.1 (q.2 then p.2) (λ mid t. (tt, sees_free (is_sign LeftBracket) t)) in
     let t3 = sign_behind Semicolon t2.tail in
-    rw (scheme_reads x is.0 q.1, t2.read, t3.read, ends t3.tail) refl
+    rw (t1.read, scheme_reads x is.0 q.1, t2.read, t3.read, ends t3.tail) refl
 
 -- ---- functions and transformations
 
@@ -388,6 +396,33 @@ productions_reads n x xs is t =
     let t3 = sign_behind Semicolon t2.tail in
     rw (t1.read, right_reads x t1.mid q.0 is.0 q.1, t2.read, t3.read, ends t3.tail) refl
 
+-- ---- precedence lines
+
+literals : Items (sees is_literal) quoted spell_literal (λ s. ⊤) (λ ms. ⊤)
+literals = record { reads = literal_alone; begins = λ s t. sees_kept is_literal t; behind = λ s t. tt; some = λ s. omega arith }
+  where
+    literal_alone : (s : Quoted) {ms rest : List Mark} → ⊤ → Takes (spell_literal s) ms rest → ⊤ → quoted ms ≡ Some (s, rest)
+    literal_alone s is t end = let t1 = quoted_first t in t1.read ∙ ap (λ (r : List Mark). Some (s, r)) (ends t1.tail)
+
+group_found : (g : Group) → group_of (group_word g) ≡ Some g
+group_found Left = refl
+group_found ToRight = refl
+group_found NonAssoc = refl
+
+grouped_reads : (g : Group) (l : Quoted) (ls : List Quoted) (place : Position) {ms rest : List Mark} → Takes (flat_map spell_literal (l ∷ ls) ++ sign Semicolon ∷ []) ms rest
+    → grouped g place ms ≡ Some (Precedence g (l ∷ ls) place, rest)
+unfolding grouped
+grouped_reads g l ls place t =
+    let t1 = quoted_first t in
+    let t2 = list_first literals (l ∷ []) ls (trivial ls) t1.tail (λ mid t. (tt, sees_free is_literal t)) in
+    let t3 = sign_behind Semicolon t2.tail in
+    rw (t1.read, t2.read, t3.read, ends t3.tail) refl
+
+precedence_reads : (g : Group) (l : Quoted) (ls : List Quoted) (place : Position) {ms rest : List Mark} → Takes (flat_map spell_literal (l ∷ ls) ++ sign Semicolon ∷ []) ms rest
+    → precedence (record { text = group_word g; place = place }) ms ≡ Some (Precedence g (l ∷ ls) place, rest)
+unfolding precedence
+precedence_reads g l ls place t = rw (group_found g) (grouped_reads g l ls place t)
+
 -- ---- declarations
 
 pub decl_reads : (d : Decl) {ms rest : List Mark} → IsTree d → Takes (spell d) ms rest → declaration ms ≡ Some (d, rest)
@@ -401,12 +436,13 @@ decl_reads (Operators n (a ∷ alts)) is (kept (free (kept (free t)))) = operato
 decl_reads (LexemeOf n s) is (kept (free (free (kept (free (free none)))))) = refl
 decl_reads (Attributes n xs) is (kept (free t)) = attributes_reads n xs (free t)
 decl_reads (Equations n op ls es) is (kept (free (kept (free t)))) = equations_reads n op ls es is (free t)
-decl_reads (Schemes n op None []) is t = absurd (is.1 refl)
-decl_reads (Schemes n op None (x ∷ xs)) is (kept (free (kept (kept t)))) = schemes_reads n op x xs is.2 (kept t)
-decl_reads (Schemes n op (Some v) xs) is t = absurd (cc)
+decl_reads (Schemes n op v []) is t = absurd (is.0 refl)
+decl_reads (Schemes n op None (x ∷ xs)) is (kept (free (kept (kept t)))) = schemes_reads n op None x xs is.1 (kept t)
+decl_reads (Schemes n op (Some v) (x ∷ xs)) is (kept (free (kept (free t)))) = schemes_reads n op (Some v) x xs is.1 (free t)
 decl_reads (Function f n xs e) is (kept (kept t)) = function_reads f n xs e is (kept t)
 decl_reads (Transform n title q e) is (free t) = transform_reads n title q e is.0 is.1 (free t)
 decl_reads (Productions n []) is t = absurd (is.0 refl)
 decl_reads (Productions n (x ∷ xs)) is (kept (free t)) = productions_reads n x xs is.1 (free t)
 decl_reads (Entry n m a) is (kept (free (kept (free (kept (free none)))))) = refl
-decl_reads (Precedence g literals place) is t = absurd is
+decl_reads (Precedence g [] place) is t = absurd (is refl)
+decl_reads (Precedence g (l ∷ ls) place) is (kept (kept t)) = precedence_reads g l ls place (kept t)

@@ -1,13 +1,17 @@
 -- A declaration that is read is spelled by what was read.
-use Rattle.std.proofs.Common.{◌≡◌, Bool, true, false, List, [], ◌∷◌, ◌++◌, Some, None, refl, sym, subst, append_assoc}
-use Rattle.std.specs.Prelude.{cond, flat_map, ⊤}
+use Rattle.std.proofs.Common.{◌≡◌, ℕ, Bool, true, false, List, [], ◌∷◌, ◌++◌, Option, Some, None, refl, sym, ap, ◌∙◌, subst, append_assoc}
+use Rattle.std.specs.Prelude.{bytes_eq, cond, flat_map, ⊤}
 use Rattle.std.specs.List.{AllByRecursion, join_by}
+use Rattle.std.proofs.lemmas.Option.{same_Some}
+use Rattle.std.proofs.lemmas.Slice.Eq.{bytes_eq-Decides}
 use Rattle.sg_text.specs.Lexemes.{Word, Sign}
 use Rattle.sg_text.specs.declared.symbols.Symbol.TheVariants as signs
 use Rattle.sg_text.specs.declared.words.Keyword.TheVariants as keyword
 use Rattle.sg_kinds.specs.declared.fault.Position.{Position}
 use Rattle.sg_kinds.specs.declared.marks.Way.{Way}
 use Rattle.sg_kinds.specs.declared.marks.Way.TheVariants.{Synthesized, Inherited}
+use Rattle.sg_kinds.specs.declared.marks.Group.{Group}
+use Rattle.sg_kinds.specs.declared.marks.Group.TheVariants as group
 use Rattle.sg_ast.specs.declared.name.Name.{Name}
 use Rattle.sg_ast.specs.declared.name.Quoted.{Quoted}
 use Rattle.sg_ast.specs.declared.name.Typed.{Typed}
@@ -16,11 +20,12 @@ use Rattle.sg_ast.specs.declared.decl.AttrDecl.{AttrDecl}
 use Rattle.sg_ast.specs.declared.decl.Item.{Item}
 use Rattle.sg_ast.specs.declared.decl.SchemeDecl.{SchemeDecl}
 use Rattle.sg_ast.specs.declared.decl.Part.{Part}
-use Rattle.sg_ast.specs.Declarations.{Equation, Right, Decl, Operators, Schemes, Productions}
-use Rattle.sg_ast.specs.Spelling.{Mark, Piece, Takes, none, free, kept, sign, word, comma, way_word, resting_symbol, editing_symbol, spell_name, spell_text, spell_expr, spell_equation, spell_alt, spell_attr, spell_local, spell_param, spell_item, spell_scheme, spell_part, spell_right, spell_listed, spell}
+use Rattle.sg_ast.specs.Declarations.{Equation, Right, Decl, Operators, Schemes, Productions, Precedence}
+use Rattle.sg_ast.specs.Spelling.{Mark, Piece, Kept, Takes, none, free, kept, sign, word, comma, way_word, group_word, resting_symbol, editing_symbol, spell_name, spell_text, spell_literal, spell_view, spell_expr, spell_equation, spell_alt, spell_attr, spell_local, spell_param, spell_item, spell_scheme, spell_part, spell_right, spell_listed, spell}
 use Rattle.sg_ast.specs.Grouped.{max_depth, IsItem, IsScheme, IsExpr, IsEquation, IsRight, IsTree}
-use Rattle.sg_ast.specs.Readers.{Reader, done, ◌<$>◌, is_sign, is_reserved, is_name, is_string, sees, expect, name, string}
-use Rattle.sg_ast.specs.Reading.{alt, expr, alt_of, other, operators, lexeme, way, attr, sees_other, attributes, local, equation, equations, separator, item_of, resting, editing, scheme, schemes, param, function, transform, is_part, part_of, right, productions, entry, root, listed, optional, of_operator, of_colon, of_phylum, of_name, declaration}
+use Rattle.sg_ast.specs.Readers.{Reader, done, ◌<$>◌, is_sign, is_reserved, is_name, is_string, is_literal, sees, expect, name, string, quoted}
+use Rattle.sg_ast.specs.ReadingExpressions.{expr}
+use Rattle.sg_ast.specs.Reading.{alt, alt_of, other, operators, lexeme, way, attr, sees_other, attributes, local, equation, equations, separator, item_of, resting, editing, scheme, view_of, schemes, param, function, transform, is_part, part_of, right, productions, entry, group_of, grouped, grouped_by, precedence, root, listed, optional, of_operator, of_colon, of_phylum, of_name, declaration}
 use Rattle.sg_ast.proofs.Steps.{◌then◌, alone, opens, closes, either, name_read, string_read, quoted_read, sign_read, sign_at_read, word_read, Eaten, took, left, eat_read, after_name, more_read, all_read, Listed as Found}
 use Rattle.sg_ast.proofs.References.{target_read}
 use Rattle.sg_ast.proofs.Separated.{arguments_read}
@@ -204,17 +209,29 @@ scheme_read x ms rest e =
     closes (λ x rest. IsScheme x × Takes (spell_scheme x) ms rest)
     (xs.0, sign_at_read signs.LeftBracket s1.2 then rests then edits then xs.1 then sign_read signs.RightBracket s5.2) s5.3
 
+view_by : (b : Bool) (v : Option Name) {ms mid rest : List Mark} → Eaten (is_reserved keyword.In) b ms mid
+    → cond b (Some <$> name) (done None) mid ≡ Some (v, rest) → Takes (spell_view v) ms rest
+view_by true v {ms = ms} (took first) e =
+    let s1 = opens e in
+    closes (λ v rest. Takes (spell_view v) ms rest) (word_read keyword.In first then name_read s1.2) s1.3
+view_by false v {ms = ms} left e = closes (λ v rest. Takes (spell_view v) ms rest) none e
+
+view_read : (v : Option Name) {ms rest : List Mark} → view_of ms ≡ Some (v, rest) → Takes (spell_view v) ms rest
+unfolding view_of
+view_read v e = let s1 = opens e in view_by s1.0 v (eat_read (is_reserved keyword.In) s1.2) s1.3
+
 schemes_read : (n op : Name) {place : Position} {d : Decl} {ms rest : List Mark} → schemes n op ms ≡ Some (d, rest) → IsRead (mark n ((Sign signs.Colon, place) ∷ mark op ms)) d rest
 unfolding schemes
 schemes_read n op {place = place} {ms = ms} e =
     let s1 = opens e in
     let s2 = opens s1.3 in
     let s3 = opens s2.3 in
-    let first = scheme_read s1.0 ms s1.1 s1.2 in
-    let all = first_and (more_read (sees (is_sign signs.LeftBracket)) scheme spell_scheme IsScheme scheme_read _ (s1.0 ∷ []) s2.2) in
-    let P : List SchemeDecl → Type 0 = λ xs. IsRead (mark n ((Sign signs.Colon, place) ∷ mark op ms)) (Schemes n op None xs) s3.1 in
+    let s4 = opens s3.3 in
+    let first = scheme_read s2.0 s1.1 s2.1 s2.2 in
+    let all = first_and (more_read (sees (is_sign signs.LeftBracket)) scheme spell_scheme IsScheme scheme_read _ (s2.0 ∷ []) s3.2) in
+    let P : List SchemeDecl → Type 0 = λ xs. IsRead (mark n ((Sign signs.Colon, place) ∷ mark op ms)) (Schemes n op s1.0 xs) s4.1 in
     closes (IsRead (mark n ((Sign signs.Colon, place) ∷ mark op ms)))
-    (subst P (sym all.1) ((refl, (λ e. cc), (first.0, all.2)), kept (free (kept ((first.1 then all.3) then sign_read signs.Semicolon s3.2))))) s3.3
+    (subst P (sym all.1) (((λ e. cc), (first.0, all.2)), kept (free (kept (view_read s1.0 s1.2 then (first.1 then all.3) then sign_read signs.Semicolon s4.2))))) s4.3
 
 -- ---- functions and transformations
 
@@ -300,6 +317,47 @@ productions_read n {ms = ms} e =
     let P : List Right → Type 0 = λ xs. IsRead (mark n ms) (Productions n xs) s4.1 in
     closes (IsRead (mark n ms))
     (subst P (sym all.1) (((λ e. cc), (first.0, all.2)), kept (sign_read signs.ColonColonEquals s1.2 then (first.1 then all.3) then sign_read signs.Semicolon s4.2))) s4.3
+
+-- ---- precedence lines
+
+literal_alone : (s : Quoted) (ms rest : List Mark) → quoted ms ≡ Some (s, rest) → ⊤ × Takes (spell_literal s) ms rest
+literal_alone s ms rest e = (tt, quoted_read e)
+
+-- the word of a line
+is_word_of : (w : List ℕ) (g h : Group) → bytes_eq w (group_word h) ≡ true → Some h ≡ Some g → w ≡ group_word g
+is_word_of w g h is e = (bytes_eq-Decides w (group_word h)).0 is ∙ ap group_word (same_Some _ _ e)
+
+group_read : (w : List ℕ) (g : Group) → group_of w ≡ Some g → w ≡ group_word g
+group_read w g e =
+    either (bytes_eq w (group_word group.Left)) e
+    (λ is e. is_word_of w g group.Left is e)
+    (λ not e. either (bytes_eq w (group_word group.Right)) e
+    (λ is e. is_word_of w g group.Right is e)
+    (λ not e. either (bytes_eq w (group_word group.NonAssoc)) e
+    (λ is e. is_word_of w g group.NonAssoc is e)
+    (λ not e. absurd (cc))))
+
+first_word : (n : Name) (g : Group) {ps : List Piece} {ms rest : List Mark} → n.text ≡ group_word g → Takes ps ms rest → Takes (Kept (Word (group_word g)) n.place ∷ ps) (mark n ms) rest
+first_word n g is t = rw is (kept t)
+
+grouped_read : (n : Name) (g : Group) {d : Decl} {ms rest : List Mark} → n.text ≡ group_word g → grouped g n.place ms ≡ Some (d, rest) → IsRead (mark n ms) d rest
+unfolding grouped
+grouped_read n g {ms = ms} is e =
+    let s1 = opens e in
+    let s2 = opens s1.3 in
+    let s3 = opens s2.3 in
+    let all = first_and (more_read (sees is_literal) quoted spell_literal (λ s. ⊤) literal_alone _ (s1.0 ∷ []) s2.2) in
+    let P : List Quoted → Type 0 = λ ls. IsRead (mark n ms) (Precedence g ls n.place) s3.1 in
+    closes (IsRead (mark n ms))
+    (subst P (sym all.1) ((λ e. cc), first_word n g is ((quoted_read s1.2 then all.3) then sign_read signs.Semicolon s3.2))) s3.3
+
+precedence_read : (n : Name) {d : Decl} {ms rest : List Mark} → precedence n ms ≡ Some (d, rest) → IsRead (mark n ms) d rest
+unfolding precedence
+precedence_read n {d = d} {ms = ms} {rest = rest} e = by (group_of n.text) refl e
+  where
+    by : (o : Option Group) → group_of n.text ≡ o → grouped_by o n.place ms ≡ Some (d, rest) → IsRead (mark n ms) d rest
+    by None is e = absurd (cc)
+    by (Some g) is e = grouped_read n g (group_read n.text g is) e
 
 -- ---- declarations
 
@@ -391,7 +449,9 @@ named_read n {d = d} {ms = ms} e =
     (λ is e. productions_read n e)
     (λ not e. either (sees (is_sign signs.Tilde) ms) e
     (λ is e. entry_read n e)
-    (λ not e. function_read n e))))
+    (λ not e. either (sees is_literal ms) e
+    (λ is e. precedence_read n e)
+    (λ not e. function_read n e)))))
 
 pub decl_read : {d : Decl} {ms rest : List Mark} → declaration ms ≡ Some (d, rest) → IsTree d × Takes (spell d) ms rest
 unfolding declaration

@@ -1,13 +1,14 @@
 -- The spelling of an expression is read as this expression.
-use Rattle.std.proofs.Common.{◌≡◌, ℕ, zero, suc, ◌+◌, ◌-◌, ◌<◌, ◌≤◌, ◌^◌, Bool, true, false, List, [], ◌∷◌, ◌++◌, length, Option, Some, None, refl, sym, ap, ◌∙◌, subst, arith, append_assoc, ◌⊎◌, inl, inr}
+use Rattle.std.proofs.Common.{◌≡◌, ◌≢◌, ℕ, zero, suc, ◌+◌, ◌-◌, ◌<◌, ◌≤◌, ◌^◌, Bool, true, false, List, [], ◌∷◌, ◌++◌, length, Option, Some, None, refl, sym, ap, ◌∙◌, subst, arith, append_assoc, ◌⊎◌, inl, inr}
 use Rattle.std.specs.Prelude.{cond, flat_map, ⊤, drop}
 use Rattle.std.specs.List.{AllByRecursion, join_by}
 use Rattle.std.proofs.lemmas.Bool.{lt-ltb, le-leb, lt-leb, cases_lt}
-use Rattle.sg_text.specs.declared.symbols.Symbol.TheVariants.{Comma, Colon, Dot, Question, RightParenthesis, LeftParenthesis, Equals}
+use Rattle.sg_text.specs.declared.symbols.Symbol.TheVariants.{Comma, Colon, Dot, Question, RightParenthesis, LeftParenthesis, RightBrace, LeftBrace, Equals}
 use Rattle.sg_text.specs.declared.words.Keyword.TheVariants as keyword
 use Rattle.sg_kinds.specs.declared.fault.Position.{Position}
 use Rattle.sg_kinds.specs.declared.marks.Made.TheVariants.{Completing, Placeholder}
 use Rattle.sg_ast.specs.declared.name.Name.{Name}
+use Rattle.sg_ast.specs.declared.name.Pair.{Pair}
 use Rattle.sg_ast.specs.declared.name.Occurrence.{Occurrence}
 use Rattle.sg_ast.specs.declared.name.Occurrence.TheVariants.{Own, Named}
 use Rattle.sg_ast.specs.declared.expr.Infix.{Infix}
@@ -17,14 +18,15 @@ use Rattle.sg_ast.specs.Levels.{symbol_of, level, choice_level, prefix_level, at
 use Rattle.sg_ast.specs.Patterns.{Pattern}
 use Rattle.sg_ast.specs.Patterns as p
 use Rattle.sg_ast.specs.Expressions.{Expr, Exprs, Cases, Amount, Chars, Truth, Variable, Attribute, Remote, MadeOf, Paren, Single, Binary, Choice, Call, Let, With, NoExpr, AndExpr, NoCase, Default, Case}
-use Rattle.sg_ast.specs.Spelling.{Mark, Piece, Free, Takes, none, free, kept, sign, word, named, comma, spell_number, spell_occurrence, spell_reference, spell_pattern, spell_expr, spell_exprs, spell_more_exprs, spell_cases}
+use Rattle.sg_ast.specs.Spelling.{Mark, Piece, Free, Takes, none, free, kept, sign, sign_at, word, named, comma, spell_pair, spell_number, spell_occurrence, spell_reference, spell_pattern, spell_expr, spell_exprs, spell_more_exprs, spell_cases}
 use Rattle.sg_ast.specs.Grouped.{max_depth, depth, exprs_depth, cases_depth, level_of, IsPattern, IsGrouped, AreGrouped, HasGrouped, IsOccurrence}
 use Rattle.sg_ast.specs.Chains.{exprs_chain, cases_chain}
 use Rattle.sg_ast.specs.Readers.{Reader, Outcome, and_then, is_sign, is_reserved, sees, expect, name, number, string}
-use Rattle.sg_ast.specs.Reading.{next_infix, another, truth, paren, let_in, case, sees_case, default_case, with_cases, named_expr, prefixed, signed_expr, reserved_expr, operand, shallow, climb, chosen, expr_by, expr_within}
-use Rattle.sg_ast.proofs.Steps.{◌then◌, splits, ends, First, name_first, sign_first, sign_behind, word_first, word_behind, sees_free, Items, more_reads}
-use Rattle.sg_ast.proofs.References.{own_reads, named_reads, refers_number}
-use Rattle.sg_ast.proofs.Separated.{Elements, arguments_first}
+use Rattle.sg_ast.specs.ReadingNames.{another, truth, pair}
+use Rattle.sg_ast.specs.ReadingExpressions.{next_infix, paren, let_in, case, sees_case, default_case, with_cases, named_expr, remote, prefixed, signed_expr, reserved_expr, operand, shallow, climb, chosen, expr_by, expr_within}
+use Rattle.sg_ast.proofs.Steps.{◌then◌, splits, ends, First, name_first, sign_first, sign_behind, word_first, word_behind, sees_free, sees_kept, Items, more_reads}
+use Rattle.sg_ast.proofs.References.{own_reads, named_reads, pair_reads, refers_number}
+use Rattle.sg_ast.proofs.Separated.{Elements, trivial, separated_first, arguments_first}
 use Rattle.sg_ast.proofs.PatternLaws as patterns
 use Rattle.sg_ast.proofs.LevelLaws.{may_follow, right_stops, level-small, sign_binds, binds_of, binds_first, no_call, no_reference, no_choice, gap, halts, halts_choice, next_found, infix_binds}
 
@@ -310,6 +312,19 @@ attribute_reads d (Own place) a is (kept t) = rw (own_reads place a (kept t)) re
 attribute_reads d (Named n k) a {rest = rest} is (kept {ms = ms} t) =
     rw (no_parenthesis k (named a ∷ []) t, refers_number k (named a ∷ []) ms rest t, named_reads n k a is t) refl
 
+pairs : Elements pair spell_pair (λ p. ⊤) (λ ms. ⊤)
+pairs = record { reads = pair_reads; begins = λ p t. sees_kept (is_sign RightParenthesis) t; at_comma = λ ps ms rest t. tt; at_end = λ ps ms rest t. tt }
+
+remote_reads : (ps : List Pair) (place : Position) {ms rest : List Mark} → ps ≢ [] → Takes (sign_at LeftBrace place ∷ join_by spell_pair comma ps ++ sign RightBrace ∷ []) ms rest
+    → remote ms ≡ Some (record { pairs = ps; place = place }, rest)
+unfolding remote
+remote_reads [] place some t = absurd (some refl)
+remote_reads (p ∷ ps) place some t =
+    let t1 = sign_first LeftBrace t in
+    let t2 = separated_first pairs p ps (trivial (p ∷ ps)) t1.tail (λ mid t. (tt, sees_free (is_sign Comma) t)) in
+    let t3 = sign_behind RightBrace t2.tail in
+    rw (t1.read, t2.read, t3.read, ends t3.tail) refl
+
 single_reads : (d : ℕ) → Whole d → (f : Prefix) (a : Expr) (place : Position) {ms rest : List Mark} → IsGrouped a → prefix_level ≤ level_of a → depth a ≤ d → Takes (spell_expr (Single f a place)) ms rest
     → binds_of rest ≤ 8 → prefixed (expr_within d) f ms ≡ Some (Single f a place, rest)
 unfolding prefixed Whole
@@ -331,7 +346,7 @@ operand_reads d w (Truth true place) grouped within high (kept none) end = refl
 operand_reads d w (Truth false place) grouped within high (kept none) end = refl
 operand_reads d w (Variable n) {rest = rest} grouped within high (kept none) end = rw (no_call rest end, no_reference rest end) refl
 operand_reads d w (Attribute r) grouped within high t end = attribute_reads d r.of r.attr grouped t
-operand_reads d w (Remote r) grouped within high t end = absurd grouped
+operand_reads d w (Remote r) grouped within high (kept t) end = rw (remote_reads r.pairs r.place grouped (kept t)) refl
 operand_reads d w (MadeOf Completing n place) grouped within high (kept t) end = patterns.completing_reads MadeOf n place (kept t)
 operand_reads d w (MadeOf Placeholder n place) grouped within high (kept t) end = patterns.placeholder_reads MadeOf n place (kept t)
 operand_reads d w (Paren a place) grouped within high (kept t) end = paren_reads d w a place grouped (omega arith) (kept t)

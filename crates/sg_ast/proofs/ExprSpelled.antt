@@ -1,5 +1,5 @@
 -- An expression that is read is spelled by what was read.
-use Rattle.std.proofs.Common.{◌≡◌, ℕ, zero, suc, ◌+◌, ◌<◌, ◌≤◌, Bool, true, false, List, [], ◌∷◌, ◌++◌, Option, Some, None, refl, sym, ap, ◌∙◌, subst, arith, append_assoc}
+use Rattle.std.proofs.Common.{◌≡◌, ◌≢◌, ℕ, zero, suc, ◌+◌, ◌<◌, ◌≤◌, Bool, true, false, List, [], ◌∷◌, ◌++◌, Option, Some, None, refl, sym, ap, ◌∙◌, subst, arith, append_assoc}
 use Rattle.std.specs.Prelude.{cond, flat_map, max, nat_le, ◌&&◌, ⊤, drop}
 use Rattle.std.specs.List.{AllByRecursion, join_by}
 use Rattle.std.proofs.lemmas.Bool.{and_parts, leb-true}
@@ -7,20 +7,22 @@ use Rattle.sg_text.specs.Lexemes.{Word}
 use Rattle.sg_text.specs.declared.symbols.Symbol.TheVariants as signs
 use Rattle.sg_text.specs.declared.words.Keyword.TheVariants as keyword
 use Rattle.sg_ast.specs.declared.name.Name.{Name}
+use Rattle.sg_ast.specs.declared.name.Remote as enclosing
 use Rattle.sg_ast.specs.declared.expr.Infix.{Infix}
 use Rattle.sg_ast.specs.declared.expr.Prefix.{Prefix}
 use Rattle.sg_ast.specs.declared.expr.Prefix.TheVariants.{Minus, Not}
 use Rattle.sg_ast.specs.Levels.{symbol_of, level, choice_level, prefix_level, atom_level, groups_left, left_by, right_by, next_by}
 use Rattle.sg_ast.specs.Patterns.{Pattern}
-use Rattle.sg_ast.specs.Expressions.{Expr, MadeOf, Binary, Choice}
-use Rattle.sg_ast.specs.Spelling.{Mark, Piece, Takes, none, free, kept, sign, comma, spell_pattern, spell_expr, spell_exprs, spell_more_exprs, spell_cases}
+use Rattle.sg_ast.specs.Expressions.{Expr, Remote, MadeOf, Binary, Choice}
+use Rattle.sg_ast.specs.Spelling.{Mark, Piece, Takes, none, free, kept, sign, comma, spell_pair, spell_pattern, spell_expr, spell_exprs, spell_more_exprs, spell_cases}
 use Rattle.sg_ast.specs.Grouped.{max_depth, depth, exprs_depth, cases_depth, level_of, IsGrouped, AreGrouped, HasGrouped}
 use Rattle.sg_ast.specs.Chains.{exprs_chain, cases_chain}
 use Rattle.sg_ast.specs.Readers.{is_sign, is_reserved, is_name, sees}
-use Rattle.sg_ast.specs.Reading.{next_infix, another, paren, let_in, case, sees_case, default_case, with_cases, refers, named_expr, prefixed, signed_expr, reserved_expr, operand, shallow, step_by, climb, chosen, expr_by, expr_within}
+use Rattle.sg_ast.specs.ReadingNames.{another, refers, pair}
+use Rattle.sg_ast.specs.ReadingExpressions.{next_infix, paren, let_in, case, sees_case, default_case, with_cases, named_expr, remote, prefixed, signed_expr, reserved_expr, operand, shallow, step_by, climb, chosen, expr_by, expr_within}
 use Rattle.sg_ast.proofs.Steps.{◌then◌, opens, closes, either, name_read, number_read, string_read, sign_read, sign_at_read, word_read, word_at_read, after_name, more_read, all_read}
-use Rattle.sg_ast.proofs.References.{own_read, named_read}
-use Rattle.sg_ast.proofs.Separated.{arguments_read}
+use Rattle.sg_ast.proofs.References.{own_read, named_read, pair_read}
+use Rattle.sg_ast.proofs.Separated.{separated_read, arguments_read}
 use Rattle.sg_ast.proofs.PatternLaws as patterns
 use Rattle.sg_ast.proofs.LevelLaws.{left_fits, right-small, level-small, IsNext, next_read}
 use Rattle.sg_ast.proofs.ExprReads.{IsWithin, IsCase, spell_case, spell_default, next_of}
@@ -218,6 +220,16 @@ named_expr_read d w n {e = a} {ms = ms} {rest = rest} e =
     closes P (record { grouped = r.0; within = omega arith; high = atom_high; next = refl; spelled = r.1 }) s1.3)
     (λ fails e. closes P (record { grouped = tt; within = omega arith; high = atom_high; next = refl; spelled = kept none }) e))
 
+remote_read : {r : enclosing.Remote} {ms rest : List Mark} → remote ms ≡ Some (r, rest) → (r.pairs ≢ []) × Takes (spell_expr (Remote r)) ms rest
+unfolding remote
+remote_read {ms = ms} e =
+    let s1 = opens e in
+    let s2 = opens s1.3 in
+    let s3 = opens s2.3 in
+    let ps = separated_read pair spell_pair (λ p. ⊤) pair_read s2.0 s1.1 s2.1 s2.2 in
+    let P : enclosing.Remote → List Mark → Type 0 = λ r rest. (r.pairs ≢ []) × Takes (spell_expr (Remote r)) ms rest in
+    closes P (ps.0, sign_at_read signs.LeftBrace s1.2 then ps.2 then sign_read signs.RightBrace s3.2) s3.3
+
 prefixed_read : (d : ℕ) → Inner d → (f : Prefix) {e : Expr} {ms rest : List Mark} → prefixed (expr_within d) f ms ≡ Some (e, rest) → IsOperand d e ms rest
 unfolding prefixed
 prefixed_read d w Minus {ms = ms} e =
@@ -258,13 +270,18 @@ signed_read d w {ms = ms} e =
     let s1 = opens e in
     let r = own_read s1.2 in
     closes (λ e rest. IsOperand d e ms rest) (record { grouped = r.0; within = omega arith; high = atom_high; next = refl; spelled = r.1 }) s1.3)
+    (λ not e. either (sees (is_sign signs.LeftBrace) ms) e
+    (λ is e.
+    let s1 = opens e in
+    let r = remote_read s1.2 in
+    closes (λ e rest. IsOperand d e ms rest) (record { grouped = r.0; within = omega arith; high = atom_high; next = refl; spelled = r.1 }) s1.3)
     (λ not e. either (sees (is_sign signs.Less) ms) e
     (λ is e. made_operand d (patterns.placeholder_read MadeOf e))
     (λ not e. either (sees (is_sign signs.LeftBracket) ms) e
     (λ is e. made_operand d (patterns.completing_read MadeOf e))
     (λ not e. either (sees (is_sign signs.Minus) ms) e
     (λ is e. prefixed_read d w Minus e)
-    (λ not e. prefixed_read d w Not e)))))
+    (λ not e. prefixed_read d w Not e))))))
 
 reserved_read : (d : ℕ) → Inner d → {e : Expr} {ms rest : List Mark} → reserved_expr (expr_within d) ms ≡ Some (e, rest) → IsOperand d e ms rest
 unfolding reserved_expr

@@ -12,7 +12,8 @@ use Rattle.sg_ast.specs.declared.expr.Infix.TheVariants as infixes
 use Rattle.sg_ast.specs.Levels.{symbol_of, infix_of, level, groups_left, groups_right, left_by, right_by, next_by}
 use Rattle.sg_ast.specs.Spelling.{Mark, Piece, Takes, free, sign}
 use Rattle.sg_ast.specs.Readers.{is_sign, sees}
-use Rattle.sg_ast.specs.Reading.{refers, between, next_infix}
+use Rattle.sg_ast.specs.ReadingNames.{refers}
+use Rattle.sg_ast.specs.ReadingExpressions.{between, next_infix}
 use Rattle.sg_ast.proofs.Steps.{either}
 
 -- ---- levels

@@ -15,7 +15,7 @@ use Rattle.sg_ast.specs.Spelling.{Mark, Piece, Kept, Takes, none, free, kept, si
 use Rattle.sg_ast.specs.Grouped.{HasNumbers, HaveNumbers, pattern_depth, patterns_depth}
 use Rattle.sg_ast.specs.Readers.{is_sign, is_name, sees, expect, name, number, string}
 use Rattle.sg_ast.specs.Chains.{chain_of}
-use Rattle.sg_ast.specs.Reading.{truth, placeholder, completing, negative, signed_pattern, named_pattern, pattern_by, pattern_within}
+use Rattle.sg_ast.specs.ReadingNames.{truth, placeholder, completing, negative, signed_pattern, named_pattern, pattern_by, pattern_within}
 use Rattle.sg_ast.proofs.Steps.{◌then◌, ends, opens, closes, either, sign_read, sign_at_read, word_at_read, sees_free, name_read, number_read, string_read, after_name, dropped}
 use Rattle.sg_ast.proofs.Separated.{Elements, arguments_first, arguments_read}
 

@@ -1,6 +1,6 @@
 -- References and targets: their spellings are read, and what is read is spelled.
 use Rattle.std.proofs.Common.{◌≡◌, ℕ, ◌^◌, Bool, true, false, List, [], ◌∷◌, ◌++◌, Option, Some, None, refl}
-use Rattle.std.specs.Prelude.{cond}
+use Rattle.std.specs.Prelude.{cond, ⊤}
 use Rattle.std.proofs.lemmas.Bool.{lt-ltb}
 use Rattle.sg_text.specs.Lexemes.{Sign, Word}
 use Rattle.sg_text.specs.declared.symbols.Symbol.TheVariants.{DollarDollar, Dollar, Dot}
@@ -9,12 +9,13 @@ use Rattle.sg_ast.specs.declared.name.Name.{Name}
 use Rattle.sg_ast.specs.declared.name.Occurrence.{Occurrence}
 use Rattle.sg_ast.specs.declared.name.Occurrence.TheVariants.{Own, Named}
 use Rattle.sg_ast.specs.declared.name.Reference.{Reference}
+use Rattle.sg_ast.specs.declared.name.Pair.{Pair}
 use Rattle.sg_ast.specs.declared.decl.Target.{Target}
 use Rattle.sg_ast.specs.declared.decl.Target.TheVariants as target
-use Rattle.sg_ast.specs.Spelling.{Mark, Piece, Takes, none, free, kept, sign, named, spell_number, spell_reference, spell_target}
+use Rattle.sg_ast.specs.Spelling.{Mark, Piece, Takes, none, free, kept, sign, named, spell_number, spell_reference, spell_pair, spell_target}
 use Rattle.sg_ast.specs.Grouped.{IsOccurrence, IsReference, IsTarget}
 use Rattle.sg_ast.specs.Readers.{is_sign, sees, eat, expect, name, number, done, ◌<$>◌}
-use Rattle.sg_ast.specs.Reading.{occurrence_number, named_reference, own_reference, refers, named_target, target_of}
+use Rattle.sg_ast.specs.ReadingNames.{occurrence_number, named_reference, own_reference, pair, refers, named_target, target_of}
 use Rattle.sg_ast.proofs.Steps.{◌then◌, ends, opens, closes, either, First, name_first, sign_behind, name_read, number_read, sign_read, sign_at_read, Eaten, took, left, eat_read, dropped, after_name}
 
 -- the number of an occurrence before its dot
@@ -37,6 +38,14 @@ pub own_reads : (place : Position) (a : Name) {ms rest : List Mark} → Takes (s
     → own_reference ms ≡ Some (record { of = Own place; attr = a }, rest)
 unfolding own_reference expect name
 own_reads place a (kept (free (kept none))) = refl
+
+pub pair_reads : (p : Pair) {ms rest : List Mark} → ⊤ → Takes (spell_pair p) ms rest → ⊤ → pair ms ≡ Some (p, rest)
+unfolding pair
+pair_reads p is t end =
+    let t1 = name_first t in
+    let t2 = sign_behind Dot t1.tail in
+    let t3 = name_first t2.tail in
+    rw (t1.read, t2.read, t3.read, ends t3.tail) refl
 
 pub refers_number : (k : Option ℕ) (ps : List Piece) (ms rest : List Mark) → Takes (spell_number k ++ sign Dot ∷ ps) ms rest → refers ms ≡ true
 unfolding sees
@@ -80,6 +89,14 @@ own_read {ms = ms} e =
     let s2 = opens s1.3 in
     let s3 = opens s2.3 in
     closes (λ r rest. IsReference r × Takes (spell_reference r) ms rest) (tt, sign_at_read DollarDollar s1.2 then sign_read Dot s2.2 then name_read s3.2) s3.3
+
+pub pair_read : (p : Pair) (ms rest : List Mark) → pair ms ≡ Some (p, rest) → ⊤ × Takes (spell_pair p) ms rest
+unfolding pair
+pair_read p ms rest e =
+    let s1 = opens e in
+    let s2 = opens s1.3 in
+    let s3 = opens s2.3 in
+    closes (λ p rest. ⊤ × Takes (spell_pair p) ms rest) (tt, name_read s1.2 then sign_read Dot s2.2 then name_read s3.2) s3.3
 
 target_named : (n : Name) {t : Target} {ms rest : List Mark} → named_target n ms ≡ Some (t, rest) → IsTarget t × Takes (spell_target t) ((Word n.text, n.place) ∷ ms) rest
 unfolding named_target

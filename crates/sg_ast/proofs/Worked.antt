@@ -1,20 +1,23 @@
 -- Worked rows of the reading.
-use Rattle.std.proofs.Common.{◌≡◌, ℕ, zero, suc, ◌+◌, true, List, [], ◌∷◌, Some, None, refl}
+use Rattle.std.proofs.Common.{◌≡◌, ℕ, zero, suc, ◌+◌, true, false, List, [], ◌∷◌, Some, None, refl}
 use Rattle.std.specs.Prelude.{codes, is_some}
 use Rattle.sg_text.specs.declared.symbols.Symbol.TheVariants as s
 use Rattle.sg_text.specs.declared.words.Keyword.TheVariants as keyword
-use Rattle.sg_text.specs.Lexemes.{Lexeme, Word, Reserved, Numeral, Sign}
+use Rattle.sg_text.specs.Lexemes.{Lexeme, Word, Reserved, Numeral, Literal, Sign}
 use Rattle.sg_kinds.specs.declared.fault.Position.{Position}
+use Rattle.sg_kinds.specs.declared.marks.Group.TheVariants.{Left}
 use Rattle.sg_ast.specs.declared.name.Name.{Name}
 use Rattle.sg_ast.specs.declared.name.Occurrence.TheVariants.{Own}
 use Rattle.sg_ast.specs.declared.expr.Infix.TheVariants as infixes
 use Rattle.sg_ast.specs.declared.decl.Target.TheVariants as target
 use Rattle.sg_ast.specs.Patterns as p
-use Rattle.sg_ast.specs.Expressions.{Expr, Amount, Variable, Binary, Choice, With, Default}
-use Rattle.sg_ast.specs.Declarations.{Root, Equations}
+use Rattle.sg_ast.specs.Expressions.{Expr, Amount, Variable, Remote, Binary, Choice, With, Default}
+use Rattle.sg_ast.specs.Declarations.{Root, Equations, Schemes, Precedence}
 use Rattle.sg_ast.specs.Spelling.{Mark}
-use Rattle.sg_ast.specs.Readers.{Outcome, sees, eat, expect, name, number, string, more}
-use Rattle.sg_ast.specs.Reading.{named_reference, own_reference, target_of, truth, another, negative, signed_pattern, pattern_by, pattern_within, paren, case, sees_case, default_case, with_cases, named_expr, signed_expr, reserved_expr, operand, shallow, next_infix, climb, chosen, expr_by, expr_within, expr, local, equation, equations, root, of_operator, of_colon, of_phylum, of_name, declaration, decl_of}
+use Rattle.sg_ast.specs.Readers.{Outcome, sees, eat, expect, name, number, string, quoted, more}
+use Rattle.sg_ast.specs.ReadingNames.{named_reference, own_reference, target_of, truth, another, separated, pair, negative, signed_pattern, pattern_by, pattern_within}
+use Rattle.sg_ast.specs.ReadingExpressions.{remote, paren, case, sees_case, default_case, with_cases, named_expr, signed_expr, reserved_expr, operand, shallow, next_infix, climb, chosen, expr_by, expr_within, expr}
+use Rattle.sg_ast.specs.Reading.{local, equation, equations, resting, editing, scheme, view_of, schemes, grouped, precedence, root, of_operator, of_colon, of_phylum, of_name, declaration, decl_of}
 
 abbrev at : ℕ → Position
 at k = record { token = k; line = 1 }
@@ -77,6 +80,34 @@ with_reads : read (Reserved keyword.With ∷ Sign s.LeftParenthesis ∷ names (c
     ≡ Some (With (a 2) (p.Amount true 5 (at 5)) (Amount 0 (at 8)) (Default (Amount 1 (at 12))) (at 0), [])
 unfolding sees expect name number more truth another negative signed_pattern pattern_by pattern_within case sees_case default_case with_cases reserved_expr operand named_expr shallow next_infix climb chosen expr_by expr_within
 with_reads = refl
+
+-- `{r.n, r.m}`
+enclosing_reads : read (Sign s.LeftBrace ∷ names (codes "r") ∷ Sign s.Dot ∷ names (codes "n") ∷ Sign s.Comma ∷ names (codes "r") ∷ Sign s.Dot ∷ names (codes "m") ∷ Sign s.RightBrace ∷ [])
+    ≡ Some (Remote (record { pairs = record { phylum = named (codes "r") 1; attr = named (codes "n") 3 } ∷ record { phylum = named (codes "r") 5; attr = named (codes "m") 7 } ∷ []; place = at 0 }), [])
+unfolding sees expect name more another separated pair remote signed_expr operand named_expr shallow next_infix climb chosen expr_by expr_within
+enclosing_reads = refl
+
+-- `{}` is no expression
+nothing_enclosing_refused : read (Sign s.LeftBrace ∷ Sign s.RightBrace ∷ []) ≡ None
+unfolding sees expect name separated pair remote signed_expr operand expr_by expr_within
+nothing_enclosing_refused = refl
+
+-- `left '+' '-';`
+line_reads : decl_of (numbered 0 (Word (codes "left") ∷ Literal (codes "+") ∷ Literal (codes "-") ∷ Sign s.Semicolon ∷ []))
+    ≡ Some (Precedence Left (record { text = codes "+"; place = at 1 } ∷ record { text = codes "-"; place = at 2 } ∷ []) (at 0))
+unfolding sees expect name quoted more grouped precedence of_name declaration decl_of
+line_reads = refl
+
+-- `above '+';` is no declaration
+other_word_refused : decl_of (numbered 0 (Word (codes "above") ∷ Literal (codes "+") ∷ Sign s.Semicolon ∷ [])) ≡ None
+unfolding sees name precedence of_name declaration decl_of
+other_word_refused = refl
+
+-- `p : O in v [ ^ : ];`
+view_reads : decl_of (numbered 0 (Word (codes "p") ∷ Sign s.Colon ∷ Word (codes "O") ∷ Reserved keyword.In ∷ Word (codes "v") ∷ Sign s.LeftBracket ∷ Sign s.Caret ∷ Sign s.Colon ∷ Sign s.RightBracket ∷ Sign s.Semicolon ∷ []))
+    ≡ Some (Schemes (named (codes "p") 0) (named (codes "O") 2) (Some (named (codes "v") 4)) (record { place = at 5; rests = false; editable = false; items = [] } ∷ []))
+unfolding sees eat expect name more resting editing scheme view_of schemes of_operator of_colon of_phylum of_name declaration decl_of
+view_reads = refl
 
 -- so many parentheses around `a`
 abbrev closed : ℕ → List Lexeme

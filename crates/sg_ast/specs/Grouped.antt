@@ -1,5 +1,5 @@
 -- Which trees are trees of the grammar.
-use Rattle.std.specs.Prelude.{◌≡◌, ◌≢◌, ◌<◌, ◌≤◌, ◌^◌, ℕ, suc, max, [], Some, None, ⊤}
+use Rattle.std.specs.Prelude.{◌≢◌, ◌<◌, ◌≤◌, ◌^◌, ℕ, suc, max, [], Some, ⊤}
 use Rattle.std.specs.List.{AllByRecursion}
 use Rattle.sg_ast.specs.declared.name.Occurrence.{Occurrence}
 use Rattle.sg_ast.specs.declared.name.Occurrence.TheVariants.{Named}
@@ -93,12 +93,12 @@ level_of (Binary s a b) = level s
 level_of (Single f a place) = prefix_level
 level_of _ = atom_level
 
--- the operands of each operator are of the levels that it takes; attributes of enclosing nodes are not read yet
+-- the operands of each operator are of the levels that it takes
 abbrev mutual
   pub IsGrouped : Expr → Type 0
   IsGrouped (Amount n place) = InRange n
   IsGrouped (Attribute r) = IsReference r
-  IsGrouped (Remote r) = ⊥
+  IsGrouped (Remote r) = r.pairs ≢ []
   IsGrouped (Paren a place) = IsGrouped a
   IsGrouped (Single f a place) = (prefix_level ≤ level_of a) × IsGrouped a
   IsGrouped (Binary s a b) =
@@ -129,13 +129,13 @@ IsEquation e = IsTarget e.target × IsExpr e.expr
 abbrev pub IsRight : Right → Type 0
 IsRight r = IsExpr r.expr
 
--- the trees of the grammar; views and precedence lines are not read yet
+-- the trees of the grammar
 abbrev pub IsTree : Decl → Type 0
 IsTree (Operators n alts) = alts ≢ []
 IsTree (Equations n op locals equations) = AllByRecursion IsEquation equations
-IsTree (Schemes n op view schemes) = (view ≡ None) × (schemes ≢ []) × AllByRecursion IsScheme schemes
+IsTree (Schemes n op view schemes) = (schemes ≢ []) × AllByRecursion IsScheme schemes
 IsTree (Function t n params body) = IsExpr body
 IsTree (Transform n title q e) = IsPattern q × IsExpr e
 IsTree (Productions n rights) = (rights ≢ []) × AllByRecursion IsRight rights
-IsTree (Precedence g literals place) = ⊥
+IsTree (Precedence g literals place) = literals ≢ []
 IsTree _ = ⊤

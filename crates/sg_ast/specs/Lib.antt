@@ -7,6 +7,8 @@ pub mod Levels
 pub mod Spelling
 pub mod Grouped
 pub mod Readers
+pub mod ReadingNames
+pub mod ReadingExpressions
 pub mod Reading
 pub mod Spells
 pub mod FirstFault

@@ -3,7 +3,7 @@ use Rattle.std.specs.Prelude.{Bool, List, Result}
 use Rattle.std.specs.declared.alloc.Global.{Global}
 use denote.Ref.{MutBor}
 use Rattle.sg_ast.specs.Spelling.{Mark}
-use Rattle.sg_ast.specs.Readers.{Reader, is_name, is_string, is_sign, is_reserved, sees}
+use Rattle.sg_ast.specs.Readers.{Reader, is_name, is_string, is_literal, is_sign, is_reserved, sees}
 use Rattle.sg_ast.specs.Reading.{is_part, sees_other}
 use Rattle.sg_cursor.specs.declared.refusal.Refusal.{Refusal}
 use Rattle.sg_cursor.specs.declared.tokens.Tokens.{Tokens}
@@ -15,6 +15,7 @@ use Rattle.sg_clauses.specs.declared.repeated.Ahead.TheVariants as ahead
 abbrev pub is_ahead : Ahead → List Mark → Bool
 is_ahead ahead.Name = sees is_name
 is_ahead ahead.Text = sees is_string
+is_ahead ahead.Literal = sees is_literal
 is_ahead ahead.Part = sees is_part
 is_ahead (ahead.Sign s) = sees (is_sign s)
 is_ahead (ahead.Other s) = sees_other (is_sign s)

@@ -4,6 +4,7 @@
 pub mod attributes;
 pub mod operators;
 pub mod parts;
+pub mod precedence;
 mod repeated;
 pub mod schemes;
 pub mod single;

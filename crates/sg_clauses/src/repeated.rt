@@ -13,6 +13,7 @@ use std::alloc::Global;
 pub(crate) enum Ahead {
     Name,
     Text,
+    Literal,
     /// A symbol of a production.
     Part,
     Sign(Symbol),
@@ -27,6 +28,7 @@ fn stands(ahead: Ahead, tokens: &Tokens<'_>) -> bool
     match ahead {
         Ahead::Name => tokens.sees_name(),
         Ahead::Text => tokens.sees_string(),
+        Ahead::Literal => tokens.sees_quoted(),
         Ahead::Part => tokens.sees_part(),
         Ahead::Sign(symbol) => tokens.sees_sign(symbol),
         Ahead::Other(symbol) => tokens.sees_other(symbol),

@@ -13,7 +13,7 @@ use sg_ast::name::{Name, Quoted};
 use sg_cursor::{Refusal, Tokens, target};
 use sg_kinds::marks::ChildPlace;
 use sg_kinds::row::Row;
-use sg_text::Symbol;
+use sg_text::{Keyword, Symbol};
 use std::alloc::Global;
 
 fn string(alloc: Global, tokens: &mut Tokens<'_>) -> Result<Quoted, Refusal>
@@ -134,7 +134,18 @@ fn schemes_behind(
     )
 }
 
-/// `scheme { scheme } ';'`, after `name ':' name`.
+/// `[ 'in' name ]`
+#[tactic(auto, unfolding(sg_ast::specs::Reading::view_of))]
+fn view(alloc: Global, tokens: &mut Tokens<'_>) -> Result<Option<Name>, Refusal>
+    ensures { Reads (λ v. v) (spec.view_of (left_of tokens.old)) result (left_of tokens.new) }
+{
+    if !tokens.eat_reserved(Keyword::In) {
+        return Ok(None);
+    }
+    Ok(Some(tokens.name(alloc)?))
+}
+
+/// `[ 'in' name ] scheme { scheme } ';'`, after `name ':' name`.
 #[tactic(auto, unfolding(sg_ast::specs::Reading::schemes))]
 pub fn schemes(
     alloc: Global,
@@ -144,9 +155,10 @@ pub fn schemes(
 ) -> Result<Decl, Refusal>
     ensures { Reads tree_of (spec.schemes phylum op (left_of tokens.old)) result (left_of tokens.new) }
 {
+    let view = view(alloc, tokens)?;
     let mut found = Vec::new(alloc);
     found.push(scheme(alloc, tokens)?)?;
     let found = schemes_behind(alloc, tokens, found)?;
     tokens.expect_sign(Symbol::Semicolon)?;
-    Ok(Decl::Schemes(phylum, op, None, Row::new(found)))
+    Ok(Decl::Schemes(phylum, op, view, Row::new(found)))
 }

@@ -2,6 +2,7 @@
 ghost use Rattle.std.specs.Prelude.{[]};
 ghost use Rattle.sg_text.specs.declared.words.Keyword.TheVariants as keyword;
 ghost use Rattle.sg_ast.specs.Readers.{is_reserved, sees, many};
+ghost use Rattle.sg_ast.specs.ReadingNames as names;
 ghost use Rattle.sg_ast.specs.Reading as spec;
 ghost use Rattle.sg_cursor.specs.Left.{left_of, Reads};
 
@@ -48,18 +49,18 @@ fn param(alloc: Global, tokens: &mut Tokens<'_>) -> Result<Typed, Refusal>
 }
 
 /// `',' name name`
-#[tactic(auto, unfolding(sg_ast::specs::Reading::another))]
+#[tactic(auto, unfolding(sg_ast::specs::ReadingNames::another))]
 fn another_param(alloc: Global, tokens: &mut Tokens<'_>) -> Result<Typed, Refusal>
-    ensures { Reads (λ t. t) (spec.another spec.param (left_of tokens.old)) result (left_of tokens.new) }
+    ensures { Reads (λ t. t) (names.another spec.param (left_of tokens.old)) result (left_of tokens.new) }
 {
     tokens.expect_sign(Symbol::Comma)?;
     param(alloc, tokens)
 }
 
 /// `name name { ',' name name }`
-#[tactic(auto, unfolding(sg_ast::specs::Reading::separated))]
+#[tactic(auto, unfolding(sg_ast::specs::ReadingNames::separated))]
 fn some_params(alloc: Global, tokens: &mut Tokens<'_>) -> Result<Vec<Typed>, Refusal>
-    ensures { Reads (λ v. v.items) (spec.separated spec.param (left_of tokens.old)) result (left_of tokens.new) }
+    ensures { Reads (λ v. v.items) (names.separated spec.param (left_of tokens.old)) result (left_of tokens.new) }
 {
     let mut found = Vec::new(alloc);
     found.push(param(alloc, tokens)?)?;
@@ -73,9 +74,9 @@ fn some_params(alloc: Global, tokens: &mut Tokens<'_>) -> Result<Vec<Typed>, Ref
 }
 
 /// `[ name name { ',' name name } ] ')'`
-#[tactic(auto, unfolding(sg_ast::specs::Reading::arguments))]
+#[tactic(auto, unfolding(sg_ast::specs::ReadingNames::arguments))]
 pub fn params(alloc: Global, tokens: &mut Tokens<'_>) -> Result<Vec<Typed>, Refusal>
-    ensures { Reads (λ v. v.items) (spec.arguments spec.param (left_of tokens.old)) result (left_of tokens.new) }
+    ensures { Reads (λ v. v.items) (names.arguments spec.param (left_of tokens.old)) result (left_of tokens.new) }
 {
     if tokens.sees_sign(Symbol::RightParenthesis) {
         tokens.expect_sign(Symbol::RightParenthesis)?;

@@ -8,6 +8,6 @@ mod refusal;
 mod tokens;
 
 pub use levels::{ATOM, CHOICE, PREFIX, level, next_by, right_by};
-pub use references::{named_reference, own_reference, target, truth};
+pub use references::{named_reference, own_reference, pair, target, truth};
 pub use refusal::Refusal;
 pub use tokens::Tokens;

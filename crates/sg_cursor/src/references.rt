@@ -1,18 +1,18 @@
 //! References, and what expressions and patterns have in common.
-ghost use Rattle.sg_ast.specs.Reading as spec;
+ghost use Rattle.sg_ast.specs.ReadingNames as spec;
 ghost use Rattle.sg_cursor.specs.Left.{left_of, Reads};
 
 use crate::refusal::Refusal;
 use crate::tokens::Tokens;
 use sg_ast::decl::Target;
-use sg_ast::name::{Name, Occurrence, Reference};
+use sg_ast::name::{Name, Occurrence, Pair, Reference};
 use sg_ast::number::Number;
 use sg_kinds::fault::Position;
 use sg_text::{Keyword, Symbol};
 use std::alloc::Global;
 
 /// `[ '$' number ]`
-#[tactic(auto, unfolding(sg_ast::specs::Reading::occurrence_number))]
+#[tactic(auto, unfolding(sg_ast::specs::ReadingNames::occurrence_number))]
 fn occurrence_number(tokens: &mut Tokens<'_>) -> Result<Option<Number>, Refusal>
     ensures { Reads (λ o. o) (spec.occurrence_number (left_of tokens.old))
         result (left_of tokens.new) }
@@ -25,7 +25,7 @@ fn occurrence_number(tokens: &mut Tokens<'_>) -> Result<Option<Number>, Refusal>
 }
 
 /// `[ '$' number ] '.' name`, after the name.
-#[tactic(auto, unfolding(sg_ast::specs::Reading::named_reference))]
+#[tactic(auto, unfolding(sg_ast::specs::ReadingNames::named_reference))]
 pub fn named_reference(
     alloc: Global,
     tokens: &mut Tokens<'_>,
@@ -44,7 +44,7 @@ pub fn named_reference(
 }
 
 /// `'$$' '.' name`
-#[tactic(auto, unfolding(sg_ast::specs::Reading::own_reference))]
+#[tactic(auto, unfolding(sg_ast::specs::ReadingNames::own_reference))]
 pub fn own_reference(alloc: Global, tokens: &mut Tokens<'_>) -> Result<Reference, Refusal>
     ensures { Reads (λ r. r) (spec.own_reference (left_of tokens.old))
         result (left_of tokens.new) }
@@ -58,8 +58,19 @@ pub fn own_reference(alloc: Global, tokens: &mut Tokens<'_>) -> Result<Reference
     })
 }
 
+/// `name '.' name`
+#[tactic(auto, unfolding(sg_ast::specs::ReadingNames::pair))]
+pub fn pair(alloc: Global, tokens: &mut Tokens<'_>) -> Result<Pair, Refusal>
+    ensures { Reads (λ p. p) (spec.pair (left_of tokens.old)) result (left_of tokens.new) }
+{
+    let phylum = tokens.name(alloc)?;
+    tokens.expect_sign(Symbol::Dot)?;
+    let attr = tokens.name(alloc)?;
+    Ok(Pair { phylum, attr })
+}
+
 /// An attribute or a local that begins with a name, after it.
-#[tactic(auto, unfolding(sg_ast::specs::Reading::named_target))]
+#[tactic(auto, unfolding(sg_ast::specs::ReadingNames::named_target))]
 fn named_target(alloc: Global, tokens: &mut Tokens<'_>, name: Name) -> Result<Target, Refusal>
     ensures { Reads (λ t. t) (spec.named_target name (left_of tokens.old))
         result (left_of tokens.new) }
@@ -72,7 +83,7 @@ fn named_target(alloc: Global, tokens: &mut Tokens<'_>, name: Name) -> Result<Ta
 }
 
 /// `( '$$' | name [ '$' number ] ) '.' name | name`
-#[tactic(auto, unfolding(sg_ast::specs::Reading::target_of))]
+#[tactic(auto, unfolding(sg_ast::specs::ReadingNames::target_of))]
 pub fn target(alloc: Global, tokens: &mut Tokens<'_>) -> Result<Target, Refusal>
     ensures { Reads (λ t. t) (spec.target_of (left_of tokens.old)) result (left_of tokens.new) }
 {
@@ -84,7 +95,7 @@ pub fn target(alloc: Global, tokens: &mut Tokens<'_>) -> Result<Target, Refusal>
 }
 
 /// `'true' | 'false'`
-#[tactic(auto, unfolding(sg_ast::specs::Reading::truth))]
+#[tactic(auto, unfolding(sg_ast::specs::ReadingNames::truth))]
 pub fn truth(tokens: &mut Tokens<'_>) -> Result<(bool, Position), Refusal>
     ensures { Reads (λ b. b) (spec.truth (left_of tokens.old)) result (left_of tokens.new) }
 {

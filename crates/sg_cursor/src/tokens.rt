@@ -3,7 +3,9 @@ ghost use Rattle.std.specs.Prelude.{◌≡◌, ◌+◌, ◌<◌, ◌^◌, [], �
 ghost use denote.Enum.Bare.{sameb};
 ghost use Rattle.sg_text.specs.contracts.symbols.Symbol as symbols;
 ghost use Rattle.sg_text.specs.contracts.words.Keyword as keywords;
-ghost use Rattle.sg_ast.specs.Reading as rules;
+ghost use Rattle.sg_ast.specs.ReadingNames as names;
+ghost use Rattle.sg_ast.specs.ReadingExpressions as rules;
+ghost use Rattle.sg_ast.specs.Reading as decl;
 ghost use Rattle.sg_ast.specs.Readers as spec;
 ghost use Rattle.sg_cursor.specs.LexedView.{lexeme_in};
 
@@ -58,7 +60,7 @@ fn is_reserved(keyword: Keyword, next: Lexed<'_>) -> bool
 }
 
 fn is_truth(next: Lexed<'_>) -> bool
-    ensures { result ≡ rules.is_truth (lexeme_in next.entry) }
+    ensures { result ≡ names.is_truth (lexeme_in next.entry) }
 {
     is_reserved(Keyword::True, next) || is_reserved(Keyword::False, next)
 }
@@ -72,7 +74,7 @@ fn is_word(next: Lexed<'_>) -> bool
 
 /// Whether this is a symbol of a production.
 fn is_part(next: Lexed<'_>) -> bool
-    ensures { result ≡ rules.is_part (lexeme_in next.entry) }
+    ensures { result ≡ decl.is_part (lexeme_in next.entry) }
 {
     matches!(next, Lexed::Word(_) | Lexed::Literal(_))
 }
@@ -210,10 +212,20 @@ impl<'a> Tokens<'a> {
         }
     }
 
+    #[tactic(auto, unfolding(sg_ast::specs::Readers::sees))]
+    pub fn sees_quoted(&self) -> bool
+        ensures { result ≡ spec.sees spec.is_literal (left_of self.now) }
+    {
+        match self.next() {
+            None => false,
+            Some((next, _)) => matches!(next, Lexed::Literal(_)),
+        }
+    }
+
     /// Whether `true` or `false` stands next.
     #[tactic(auto, unfolding(sg_ast::specs::Readers::sees))]
     pub fn sees_truth(&self) -> bool
-        ensures { result ≡ spec.sees rules.is_truth (left_of self.now) }
+        ensures { result ≡ spec.sees names.is_truth (left_of self.now) }
     {
         match self.next() {
             None => false,
@@ -235,7 +247,7 @@ impl<'a> Tokens<'a> {
     /// Whether a symbol of a production stands next.
     #[tactic(auto, unfolding(sg_ast::specs::Readers::sees))]
     pub fn sees_part(&self) -> bool
-        ensures { result ≡ spec.sees rules.is_part (left_of self.now) }
+        ensures { result ≡ spec.sees decl.is_part (left_of self.now) }
     {
         match self.next() {
             None => false,
@@ -351,7 +363,7 @@ impl<'a> Tokens<'a> {
 
     /// Whether a name goes on as an occurrence.
     pub fn refers(&self) -> bool
-        ensures { result ≡ rules.refers (left_of self.now) }
+        ensures { result ≡ names.refers (left_of self.now) }
     {
         self.sees_sign(Symbol::Dollar) || self.sees_sign(Symbol::Dot)
     }
@@ -370,7 +382,7 @@ impl<'a> Tokens<'a> {
     }
 
     /// Whether a further case stands next: a `,` without `default`.
-    #[tactic(auto, unfolding(sg_ast::specs::Reading::sees_case))]
+    #[tactic(auto, unfolding(sg_ast::specs::ReadingExpressions::sees_case))]
     pub fn sees_case(&self) -> bool
         ensures { result ≡ rules.sees_case (left_of self.now) }
     {
@@ -378,7 +390,7 @@ impl<'a> Tokens<'a> {
     }
 
     /// The operator that stands next, if its level is in these bounds.
-    #[tactic(auto, unfolding(sg_ast::specs::Reading::next_infix))]
+    #[tactic(auto, unfolding(sg_ast::specs::ReadingExpressions::next_infix))]
     pub fn next_infix(&self, least: u8, most: u8) -> Option<Infix>
         ensures { result ≡ rules.next_infix least most (left_of self.now) }
     {

@@ -6,7 +6,7 @@ use Rattle.sg_ast.specs.Expressions.{Expr, Binary}
 use Rattle.sg_ast.specs.Levels.{level, right_by, next_by}
 use Rattle.sg_ast.specs.Spelling.{Mark}
 use Rattle.sg_ast.specs.Readers.{Reader, Outcome, and_then}
-use Rattle.sg_ast.specs.Reading.{climb, shallow, next_infix}
+use Rattle.sg_ast.specs.ReadingExpressions.{climb, shallow, next_infix}
 use Rattle.sg_expressions.specs.Joined.{joined}
 
 -- no operator stands next

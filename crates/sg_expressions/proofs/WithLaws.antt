@@ -8,7 +8,8 @@ use Rattle.sg_ast.specs.Chains.{cases_chain}
 use Rattle.sg_ast.specs.Levels.{choice_level}
 use Rattle.sg_ast.specs.Spelling.{Mark}
 use Rattle.sg_ast.specs.Readers.{Reader, Outcome, and_then, is_sign, is_reserved, expect, many}
-use Rattle.sg_ast.specs.Reading.{another, case, sees_case, default_case, with_cases}
+use Rattle.sg_ast.specs.ReadingNames.{another}
+use Rattle.sg_ast.specs.ReadingExpressions.{case, sees_case, default_case, with_cases}
 use Rattle.sg_expressions.specs.WithParts.{with_head, other_cases, with_tail}
 
 -- one more step in front of both

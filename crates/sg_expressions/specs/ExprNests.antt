@@ -5,7 +5,7 @@ use denote.Ref.{MutBor}
 use Rattle.sg_ast.specs.Patterns.{Pattern}
 use Rattle.sg_ast.specs.Expressions.{Expr}
 use Rattle.sg_ast.specs.View.{expr_of, case_of}
-use Rattle.sg_ast.specs.Reading.{expr_within}
+use Rattle.sg_ast.specs.ReadingExpressions.{expr_within}
 use Rattle.sg_cursor.specs.declared.refusal.Refusal.{Refusal}
 use Rattle.sg_cursor.specs.declared.tokens.Tokens.{Tokens}
 use Rattle.sg_expressions.specs.declared.nodes.Node.{Node}

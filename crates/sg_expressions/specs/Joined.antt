@@ -4,7 +4,7 @@ use Rattle.sg_ast.specs.declared.expr.Infix.{Infix}
 use Rattle.sg_ast.specs.Expressions.{Expr, Binary}
 use Rattle.sg_ast.specs.Levels.{level, right_by}
 use Rattle.sg_ast.specs.Readers.{Reader, ◌>>=◌}
-use Rattle.sg_ast.specs.Reading.{shallow}
+use Rattle.sg_ast.specs.ReadingExpressions.{shallow}
 
 unfoldable pub joined : (ℕ → Reader Expr) → ℕ → Infix → Expr → Reader Expr
 joined sub limit s left = do

@@ -7,7 +7,8 @@ use Rattle.sg_ast.specs.Expressions.{Expr, Cases, With}
 use Rattle.sg_ast.specs.Chains.{cases_chain}
 use Rattle.sg_ast.specs.Levels.{choice_level}
 use Rattle.sg_ast.specs.Readers.{Reader, ◌>>=◌, ◌>>◌, done, is_sign, is_reserved, expect, many}
-use Rattle.sg_ast.specs.Reading.{another, case, sees_case, default_case}
+use Rattle.sg_ast.specs.ReadingNames.{another}
+use Rattle.sg_ast.specs.ReadingExpressions.{case, sees_case, default_case}
 
 -- 'with' '(' expr ')' '('
 unfoldable pub with_head : (ℕ → Reader Expr) → Reader (Expr × Position)

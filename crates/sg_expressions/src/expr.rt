@@ -3,7 +3,8 @@ ghost use Rattle.std.specs.Prelude.{◌≡◌, ◌+◌, ◌<◌, ◌≤◌, opti
 ghost use Rattle.sg_text.specs.declared.symbols.Symbol.TheVariants as sign;
 ghost use Rattle.sg_ast.specs.Expressions as plain;
 ghost use Rattle.sg_ast.specs.Levels.{atom_level, choice_level, prefix_level};
-ghost use Rattle.sg_ast.specs.Reading as spec;
+ghost use Rattle.sg_ast.specs.ReadingNames as names;
+ghost use Rattle.sg_ast.specs.ReadingExpressions as spec;
 ghost use Rattle.sg_ast.specs.Readers.{is_sign, sees, many};
 ghost use Rattle.sg_ast.specs.Spelling.{Mark};
 ghost use Rattle.sg_ast.specs.View.{pattern_of, expr_of, cases_of};
@@ -13,6 +14,7 @@ ghost use Rattle.sg_expressions.specs.Joined.{joined};
 ghost use Rattle.sg_expressions.specs.WithParts as parts;
 
 use crate::nodes::{CaseChain, CaseNodes, Node, Nodes, chained, deeper};
+use crate::remote::remote;
 use sg_ast::expr::{Expr, Exprs, Infix, Prefix, WithHead};
 use sg_ast::name::Name;
 use sg_ast::pattern::Pattern;
@@ -30,9 +32,9 @@ use std::alloc::Global;
 use std::boxed::Box;
 
 /// `'<' name '>'`
-#[tactic(auto, unfolding(sg_ast::specs::Reading::placeholder))]
+#[tactic(auto, unfolding(sg_ast::specs::ReadingNames::placeholder))]
 fn placeholder(alloc: Global, tokens: &mut Tokens<'_>) -> Result<Node, Refusal>
-    ensures { Reads node_of (spec.placeholder plain.MadeOf (left_of tokens.old))
+    ensures { Reads node_of (names.placeholder plain.MadeOf (left_of tokens.old))
         result (left_of tokens.new) }
 {
     let place = tokens.expect_sign(Symbol::Less)?;
@@ -43,9 +45,9 @@ fn placeholder(alloc: Global, tokens: &mut Tokens<'_>) -> Result<Node, Refusal>
 }
 
 /// `'[' name ']'`
-#[tactic(auto, unfolding(sg_ast::specs::Reading::completing))]
+#[tactic(auto, unfolding(sg_ast::specs::ReadingNames::completing))]
 fn completing(alloc: Global, tokens: &mut Tokens<'_>) -> Result<Node, Refusal>
-    ensures { Reads node_of (spec.completing plain.MadeOf (left_of tokens.old))
+    ensures { Reads node_of (names.completing plain.MadeOf (left_of tokens.old))
         result (left_of tokens.new) }
 {
     let place = tokens.expect_sign(Symbol::LeftBracket)?;
@@ -132,7 +134,7 @@ impl<F: Fn(Global, &mut Tokens<'_>, u8, u8) -> Result<Node, Refusal>> Grammar<F>
     }
 
     /// `'(' expr ')'`
-    #[tactic(auto, unfolding(sg_ast::specs::Reading::paren))]
+    #[tactic(auto, unfolding(sg_ast::specs::ReadingExpressions::paren))]
     fn paren(&self, tokens: &mut Tokens<'_>) -> Result<Node, Refusal>
         requires { Nests self.now.depth (F.pre self.now.expr) (F.post self.now.expr) }
         ensures { Reads node_of (spec.paren (spec.expr_within self.now.depth) (left_of tokens.old))
@@ -147,7 +149,7 @@ impl<F: Fn(Global, &mut Tokens<'_>, u8, u8) -> Result<Node, Refusal>> Grammar<F>
     }
 
     /// `'let' name '=' expr 'in' '(' expr ')'`
-    #[tactic(auto, unfolding(sg_ast::specs::Reading::let_in))]
+    #[tactic(auto, unfolding(sg_ast::specs::ReadingExpressions::let_in))]
     fn let_in(&self, tokens: &mut Tokens<'_>) -> Result<Node, Refusal>
         requires { Nests self.now.depth (F.pre self.now.expr) (F.post self.now.expr) }
         ensures { Reads node_of (spec.let_in (spec.expr_within self.now.depth) (left_of tokens.old))
@@ -165,7 +167,7 @@ impl<F: Fn(Global, &mut Tokens<'_>, u8, u8) -> Result<Node, Refusal>> Grammar<F>
     }
 
     /// `pattern ':' expr`
-    #[tactic(auto, unfolding(sg_ast::specs::Reading::case))]
+    #[tactic(auto, unfolding(sg_ast::specs::ReadingExpressions::case))]
     fn case(&self, tokens: &mut Tokens<'_>) -> Result<(Pattern, Node), Refusal>
         requires { Nests self.now.depth (F.pre self.now.expr) (F.post self.now.expr) }
         ensures { Reads (λ c. (pattern_of c.0, node_of c.1))
@@ -179,11 +181,11 @@ impl<F: Fn(Global, &mut Tokens<'_>, u8, u8) -> Result<Node, Refusal>> Grammar<F>
     }
 
     /// `',' pattern ':' expr`
-    #[tactic(auto, unfolding(sg_ast::specs::Reading::another))]
+    #[tactic(auto, unfolding(sg_ast::specs::ReadingNames::another))]
     fn another_case(&self, tokens: &mut Tokens<'_>) -> Result<(Pattern, Node), Refusal>
         requires { Nests self.now.depth (F.pre self.now.expr) (F.post self.now.expr) }
         ensures { Reads (λ c. (pattern_of c.0, node_of c.1))
-            (spec.another (spec.case (spec.expr_within self.now.depth)) (left_of tokens.old))
+            (names.another (spec.case (spec.expr_within self.now.depth)) (left_of tokens.old))
             result (left_of tokens.new) }
     {
         tokens.expect_sign(Symbol::Comma)?;
@@ -194,7 +196,7 @@ impl<F: Fn(Global, &mut Tokens<'_>, u8, u8) -> Result<Node, Refusal>> Grammar<F>
     fn cases(&self, tokens: &mut Tokens<'_>, mut found: CaseNodes) -> Result<CaseNodes, Refusal>
         requires { Nests self.now.depth (F.pre self.now.expr) (F.post self.now.expr) }
         ensures { Reads cases_in
-            (many spec.sees_case (spec.another (spec.case (spec.expr_within self.now.depth)))
+            (many spec.sees_case (names.another (spec.case (spec.expr_within self.now.depth)))
             (cases_in found) (left_of tokens.old))
             result (left_of tokens.new) }
     {
@@ -209,7 +211,7 @@ impl<F: Fn(Global, &mut Tokens<'_>, u8, u8) -> Result<Node, Refusal>> Grammar<F>
     }
 
     /// `[ ',' 'default' ':' expr ]`
-    #[tactic(auto, unfolding(sg_ast::specs::Reading::default_case))]
+    #[tactic(auto, unfolding(sg_ast::specs::ReadingExpressions::default_case))]
     fn default_case(&self, tokens: &mut Tokens<'_>) -> Result<Option<Node>, Refusal>
         requires { Nests self.now.depth (F.pre self.now.expr) (F.post self.now.expr) }
         ensures { Reads (option_map node_of)
@@ -227,11 +229,11 @@ impl<F: Fn(Global, &mut Tokens<'_>, u8, u8) -> Result<Node, Refusal>> Grammar<F>
     }
 
     /// `',' expr`
-    #[tactic(auto, unfolding(sg_ast::specs::Reading::another))]
+    #[tactic(auto, unfolding(sg_ast::specs::ReadingNames::another))]
     fn another(&self, tokens: &mut Tokens<'_>) -> Result<Node, Refusal>
         requires { Nests self.now.depth (F.pre self.now.expr) (F.post self.now.expr) }
         ensures { Reads node_of
-            (spec.another (spec.expr_within self.now.depth choice_level) (left_of tokens.old))
+            (names.another (spec.expr_within self.now.depth choice_level) (left_of tokens.old))
             result (left_of tokens.new) }
     {
         tokens.expect_sign(Symbol::Comma)?;
@@ -242,7 +244,7 @@ impl<F: Fn(Global, &mut Tokens<'_>, u8, u8) -> Result<Node, Refusal>> Grammar<F>
     fn others(&self, tokens: &mut Tokens<'_>, mut found: Nodes) -> Result<Nodes, Refusal>
         requires { Nests self.now.depth (F.pre self.now.expr) (F.post self.now.expr) }
         ensures { Reads nodes_of
-            (many (sees (is_sign sign.Comma)) (spec.another (spec.expr_within self.now.depth choice_level))
+            (many (sees (is_sign sign.Comma)) (names.another (spec.expr_within self.now.depth choice_level))
             (nodes_of found) (left_of tokens.old))
             result (left_of tokens.new) }
     {
@@ -257,11 +259,11 @@ impl<F: Fn(Global, &mut Tokens<'_>, u8, u8) -> Result<Node, Refusal>> Grammar<F>
     }
 
     /// `expr { ',' expr }`
-    #[tactic(auto, unfolding(sg_ast::specs::Reading::separated))]
+    #[tactic(auto, unfolding(sg_ast::specs::ReadingNames::separated))]
     fn separated(&self, tokens: &mut Tokens<'_>) -> Result<Nodes, Refusal>
         requires { Nests self.now.depth (F.pre self.now.expr) (F.post self.now.expr) }
         ensures { Reads nodes_of
-            (spec.separated (spec.expr_within self.now.depth choice_level) (left_of tokens.old))
+            (names.separated (spec.expr_within self.now.depth choice_level) (left_of tokens.old))
             result (left_of tokens.new) }
     {
         let first = self.inner(tokens, CHOICE)?;
@@ -270,11 +272,11 @@ impl<F: Fn(Global, &mut Tokens<'_>, u8, u8) -> Result<Node, Refusal>> Grammar<F>
     }
 
     /// `[ expr { ',' expr } ] ')'`
-    #[tactic(auto, unfolding(sg_ast::specs::Reading::arguments))]
+    #[tactic(auto, unfolding(sg_ast::specs::ReadingNames::arguments))]
     fn arguments(&self, tokens: &mut Tokens<'_>) -> Result<Nodes, Refusal>
         requires { Nests self.now.depth (F.pre self.now.expr) (F.post self.now.expr) }
         ensures { Reads nodes_of
-            (spec.arguments (spec.expr_within self.now.depth choice_level) (left_of tokens.old))
+            (names.arguments (spec.expr_within self.now.depth choice_level) (left_of tokens.old))
             result (left_of tokens.new) }
     {
         if tokens.sees_sign(Symbol::RightParenthesis) {
@@ -347,7 +349,7 @@ impl<F: Fn(Global, &mut Tokens<'_>, u8, u8) -> Result<Node, Refusal>> Grammar<F>
     }
 
     /// A call, an attribute or a variable, after the name.
-    #[tactic(auto, unfolding(sg_ast::specs::Reading::named_expr))]
+    #[tactic(auto, unfolding(sg_ast::specs::ReadingExpressions::named_expr))]
     fn named(&self, tokens: &mut Tokens<'_>, name: Name) -> Result<Node, Refusal>
         requires { Nests self.now.depth (F.pre self.now.expr) (F.post self.now.expr) }
         ensures { Reads node_of
@@ -389,7 +391,7 @@ impl<F: Fn(Global, &mut Tokens<'_>, u8, u8) -> Result<Node, Refusal>> Grammar<F>
     }
 
     /// `'-'` or `'!'` and what it stands before.
-    #[tactic(auto, unfolding(sg_ast::specs::Reading::prefixed))]
+    #[tactic(auto, unfolding(sg_ast::specs::ReadingExpressions::prefixed))]
     fn prefixed(&self, tokens: &mut Tokens<'_>, prefix: Prefix) -> Result<Node, Refusal>
         requires { Nests self.now.depth (F.pre self.now.expr) (F.post self.now.expr) }
         ensures { Reads node_of
@@ -409,7 +411,7 @@ impl<F: Fn(Global, &mut Tokens<'_>, u8, u8) -> Result<Node, Refusal>> Grammar<F>
     }
 
     /// An operand that begins with a symbol.
-    #[tactic(auto, unfolding(sg_ast::specs::Reading::signed_expr))]
+    #[tactic(auto, unfolding(sg_ast::specs::ReadingExpressions::signed_expr))]
     fn signed(&self, tokens: &mut Tokens<'_>) -> Result<Node, Refusal>
         requires { Nests self.now.depth (F.pre self.now.expr) (F.post self.now.expr) }
         ensures { Reads node_of
@@ -423,6 +425,10 @@ impl<F: Fn(Global, &mut Tokens<'_>, u8, u8) -> Result<Node, Refusal>> Grammar<F>
             let reference = own_reference(self.alloc, tokens)?;
             return Ok(Node::leaf(Expr::Attribute(Box::new(self.alloc, reference)?)));
         }
+        if tokens.sees_sign(Symbol::LeftBrace) {
+            let remote = remote(self.alloc, tokens)?;
+            return Ok(Node::leaf(Expr::Remote(Box::new(self.alloc, remote)?)));
+        }
         if tokens.sees_sign(Symbol::Less) {
             placeholder(self.alloc, tokens)
         } else if tokens.sees_sign(Symbol::LeftBracket) {
@@ -435,7 +441,7 @@ impl<F: Fn(Global, &mut Tokens<'_>, u8, u8) -> Result<Node, Refusal>> Grammar<F>
     }
 
     /// An operand that begins with a reserved word.
-    #[tactic(auto, unfolding(sg_ast::specs::Reading::reserved_expr))]
+    #[tactic(auto, unfolding(sg_ast::specs::ReadingExpressions::reserved_expr))]
     fn reserved(&self, tokens: &mut Tokens<'_>) -> Result<Node, Refusal>
         requires { Nests self.now.depth (F.pre self.now.expr) (F.post self.now.expr) }
         ensures { Reads node_of
@@ -453,7 +459,7 @@ impl<F: Fn(Global, &mut Tokens<'_>, u8, u8) -> Result<Node, Refusal>> Grammar<F>
     }
 
     /// An atom, or a prefix operator and its operand.
-    #[tactic(auto, unfolding(sg_ast::specs::Reading::operand))]
+    #[tactic(auto, unfolding(sg_ast::specs::ReadingExpressions::operand))]
     fn operand(&self, tokens: &mut Tokens<'_>) -> Result<Node, Refusal>
         requires { Nests self.now.depth (F.pre self.now.expr) (F.post self.now.expr) }
         ensures { Reads node_of
@@ -479,7 +485,7 @@ impl<F: Fn(Global, &mut Tokens<'_>, u8, u8) -> Result<Node, Refusal>> Grammar<F>
     }
 
     /// The node, where it is not too deep.
-    #[tactic(auto, unfolding(sg_ast::specs::Reading::shallow))]
+    #[tactic(auto, unfolding(sg_ast::specs::ReadingExpressions::shallow))]
     fn shallow(&self, node: Node) -> Result<Node, Refusal>
         requires { self.now.depth < 128 }
         ensures { (ms : List Mark) → Reads node_of (spec.shallow (self.now.depth + 1) (node_of node) ms) result ms }
@@ -527,7 +533,7 @@ impl<F: Fn(Global, &mut Tokens<'_>, u8, u8) -> Result<Node, Refusal>> Grammar<F>
     }
 
     /// `[ '?' expr ':' expr ]`, where the least level lets it be.
-    #[tactic(auto, unfolding(sg_ast::specs::Reading::chosen))]
+    #[tactic(auto, unfolding(sg_ast::specs::ReadingExpressions::chosen))]
     fn chosen(&self, tokens: &mut Tokens<'_>, least: u8, condition: Node) -> Result<Node, Refusal>
         requires nests { Nests self.now.depth (F.pre self.now.expr) (F.post self.now.expr) }
         requires small { self.now.depth < 128 }
@@ -548,7 +554,7 @@ impl<F: Fn(Global, &mut Tokens<'_>, u8, u8) -> Result<Node, Refusal>> Grammar<F>
     }
 
     /// An expression of at least this level, whose parts are read by the parameter.
-    #[tactic(auto, unfolding(sg_ast::specs::Reading::expr_by))]
+    #[tactic(auto, unfolding(sg_ast::specs::ReadingExpressions::expr_by))]
     fn expr(&self, tokens: &mut Tokens<'_>, least: u8) -> Result<Node, Refusal>
         requires nests { Nests self.now.depth (F.pre self.now.expr) (F.post self.now.expr) }
         requires small { self.now.depth < 128 }

@@ -3,5 +3,6 @@
 
 mod expr;
 mod nodes;
+mod remote;
 
 pub use expr::read_expr;

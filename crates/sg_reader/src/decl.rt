@@ -11,6 +11,7 @@ use sg_ast::name::Name;
 use sg_clauses::attributes::attributes;
 use sg_clauses::operators::operators;
 use sg_clauses::parts::parts;
+use sg_clauses::precedence::precedence;
 use sg_clauses::schemes::schemes;
 use sg_clauses::single::{entry, lexeme, listed, optional, root};
 use sg_clauses::typed::{locals, params};
@@ -214,6 +215,8 @@ fn of_name(alloc: Global, tokens: &mut Tokens<'_>, name: Name) -> Result<Decl, R
         productions(alloc, tokens, name)
     } else if tokens.sees_sign(Symbol::Tilde) {
         entry(alloc, tokens, name)
+    } else if tokens.sees_quoted() {
+        precedence(alloc, tokens, name)
     } else {
         function(alloc, tokens, name)
     }

@@ -4,7 +4,7 @@ use Rattle.std.specs.declared.alloc.Global.{Global}
 use denote.Ref.{MutBor}
 use Rattle.sg_ast.specs.declared.pattern.Pattern.{Pattern}
 use Rattle.sg_ast.specs.View.{pattern_of}
-use Rattle.sg_ast.specs.Reading.{pattern_within}
+use Rattle.sg_ast.specs.ReadingNames.{pattern_within}
 use Rattle.sg_cursor.specs.declared.refusal.Refusal.{Refusal}
 use Rattle.sg_cursor.specs.declared.tokens.Tokens.{Tokens}
 use Rattle.sg_cursor.specs.Left.{left_of, Reads}

@@ -2,7 +2,7 @@
 ghost use Rattle.std.specs.Prelude.{map};
 ghost use Rattle.sg_text.specs.declared.symbols.Symbol.TheVariants as sign;
 ghost use Rattle.sg_ast.specs.Patterns as plain;
-ghost use Rattle.sg_ast.specs.Reading as spec;
+ghost use Rattle.sg_ast.specs.ReadingNames as spec;
 ghost use Rattle.sg_ast.specs.Readers.{is_sign, sees, many};
 ghost use Rattle.sg_ast.specs.View.{pattern_of};
 ghost use Rattle.sg_cursor.specs.Left.{left_of, Reads};
@@ -17,7 +17,7 @@ use sg_text::Symbol;
 use std::alloc::Global;
 
 /// `'<' name '>'`
-#[tactic(auto, unfolding(sg_ast::specs::Reading::placeholder))]
+#[tactic(auto, unfolding(sg_ast::specs::ReadingNames::placeholder))]
 fn placeholder(alloc: Global, tokens: &mut Tokens<'_>) -> Result<Pattern, Refusal>
     ensures { Reads pattern_of (spec.placeholder plain.MadeAs (left_of tokens.old))
         result (left_of tokens.new) }
@@ -29,7 +29,7 @@ fn placeholder(alloc: Global, tokens: &mut Tokens<'_>) -> Result<Pattern, Refusa
 }
 
 /// `'[' name ']'`
-#[tactic(auto, unfolding(sg_ast::specs::Reading::completing))]
+#[tactic(auto, unfolding(sg_ast::specs::ReadingNames::completing))]
 fn completing(alloc: Global, tokens: &mut Tokens<'_>) -> Result<Pattern, Refusal>
     ensures { Reads pattern_of (spec.completing plain.MadeAs (left_of tokens.old))
         result (left_of tokens.new) }
@@ -41,7 +41,7 @@ fn completing(alloc: Global, tokens: &mut Tokens<'_>) -> Result<Pattern, Refusal
 }
 
 /// `'-' number`
-#[tactic(auto, unfolding(sg_ast::specs::Reading::negative))]
+#[tactic(auto, unfolding(sg_ast::specs::ReadingNames::negative))]
 fn negative(tokens: &mut Tokens<'_>) -> Result<Pattern, Refusal>
     ensures { Reads pattern_of (spec.negative (left_of tokens.old)) result (left_of tokens.new) }
 {
@@ -51,7 +51,7 @@ fn negative(tokens: &mut Tokens<'_>) -> Result<Pattern, Refusal>
 }
 
 /// A pattern that begins with a symbol.
-#[tactic(auto, unfolding(sg_ast::specs::Reading::signed_pattern))]
+#[tactic(auto, unfolding(sg_ast::specs::ReadingNames::signed_pattern))]
 fn signed(alloc: Global, tokens: &mut Tokens<'_>) -> Result<Pattern, Refusal>
     ensures { Reads pattern_of (spec.signed_pattern (left_of tokens.old))
         result (left_of tokens.new) }
@@ -87,7 +87,7 @@ impl<F: Fn(Global, &mut Tokens<'_>, u8) -> Result<Pattern, Refusal>> Grammar<F> 
     }
 
     /// `',' pattern`
-    #[tactic(auto, unfolding(sg_ast::specs::Reading::another))]
+    #[tactic(auto, unfolding(sg_ast::specs::ReadingNames::another))]
     fn another(&self, tokens: &mut Tokens<'_>) -> Result<Pattern, Refusal>
         requires { Nests self.now.depth (F.pre self.now.pattern) (F.post self.now.pattern) }
         ensures { Reads pattern_of
@@ -120,7 +120,7 @@ impl<F: Fn(Global, &mut Tokens<'_>, u8) -> Result<Pattern, Refusal>> Grammar<F> 
     }
 
     /// `pattern { ',' pattern }`
-    #[tactic(auto, unfolding(sg_ast::specs::Reading::separated))]
+    #[tactic(auto, unfolding(sg_ast::specs::ReadingNames::separated))]
     fn separated(&self, tokens: &mut Tokens<'_>) -> Result<Vec<Pattern>, Refusal>
         requires { Nests self.now.depth (F.pre self.now.pattern) (F.post self.now.pattern) }
         ensures { Reads (λ v. map pattern_of v.items)
@@ -133,7 +133,7 @@ impl<F: Fn(Global, &mut Tokens<'_>, u8) -> Result<Pattern, Refusal>> Grammar<F> 
     }
 
     /// `[ pattern { ',' pattern } ] ')'`
-    #[tactic(auto, unfolding(sg_ast::specs::Reading::arguments))]
+    #[tactic(auto, unfolding(sg_ast::specs::ReadingNames::arguments))]
     fn arguments(&self, tokens: &mut Tokens<'_>) -> Result<Vec<Pattern>, Refusal>
         requires { Nests self.now.depth (F.pre self.now.pattern) (F.post self.now.pattern) }
         ensures { Reads (λ v. map pattern_of v.items)
@@ -150,7 +150,7 @@ impl<F: Fn(Global, &mut Tokens<'_>, u8) -> Result<Pattern, Refusal>> Grammar<F> 
     }
 
     /// A variable, or an operator with its arguments, after the name.
-    #[tactic(auto, unfolding(sg_ast::specs::Reading::named_pattern))]
+    #[tactic(auto, unfolding(sg_ast::specs::ReadingNames::named_pattern))]
     fn named(&self, tokens: &mut Tokens<'_>, name: Name) -> Result<Pattern, Refusal>
         requires { Nests self.now.depth (F.pre self.now.pattern) (F.post self.now.pattern) }
         ensures { Reads pattern_of
@@ -166,7 +166,7 @@ impl<F: Fn(Global, &mut Tokens<'_>, u8) -> Result<Pattern, Refusal>> Grammar<F> 
     }
 
     /// A pattern whose parts are read by the parameter.
-    #[tactic(auto, unfolding(sg_ast::specs::Reading::pattern_by))]
+    #[tactic(auto, unfolding(sg_ast::specs::ReadingNames::pattern_by))]
     fn pattern(&self, tokens: &mut Tokens<'_>) -> Result<Pattern, Refusal>
         requires { Nests self.now.depth (F.pre self.now.pattern) (F.post self.now.pattern) }
         ensures { Reads pattern_of

@@ -1,5 +1,5 @@
 use Rattle.std.proofs.Common.{◌≡◌, ◌+◌, ◌-◌, suc, ap, arith}
-use Rattle.sg_ast.specs.Reading.{expr_within}
+use Rattle.sg_ast.specs.ReadingExpressions.{expr_within}
 use Rattle.sg_cursor.specs.Left.{left_of}
 use Rattle.sg_cursor.proofs.Turns.{deeper}
 use Rattle.sg_expressions.proofs.expr.+expr_within.Goals as goal

@@ -1,5 +1,5 @@
 use Rattle.std.proofs.Common.{◌≡◌, ap, arith}
-use Rattle.sg_ast.specs.Reading.{pattern_within}
+use Rattle.sg_ast.specs.ReadingNames.{pattern_within}
 use Rattle.sg_cursor.specs.Left.{left_of}
 use Rattle.sg_cursor.proofs.Turns.{deeper}
 use Rattle.sg_term_patterns.proofs.pattern.+pattern_within.Goals as goal

@@ -1,6 +1,7 @@
 use Rattle.std.proofs.Common.{sym, ◌∙◌}
 use Rattle.std.proofs.lemmas.Result.{err_from_is_err_and}
-use Rattle.sg_ast.specs.Reading.{another, case, sees_case, expr_within}
+use Rattle.sg_ast.specs.ReadingNames.{another}
+use Rattle.sg_ast.specs.ReadingExpressions.{case, sees_case, expr_within}
 use Rattle.sg_ast.specs.View.{pattern_of}
 use Rattle.sg_expressions.specs.ExprNests.{node_of, cases_in}
 use Rattle.sg_cursor.specs.Left.{left_of}

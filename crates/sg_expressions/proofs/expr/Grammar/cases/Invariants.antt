@@ -1,6 +1,7 @@
 use Rattle.std.proofs.Common.{◌≡◌, ◌-◌, length}
 use Rattle.sg_ast.specs.Readers.{more}
-use Rattle.sg_ast.specs.Reading.{another, case, sees_case, expr_within}
+use Rattle.sg_ast.specs.ReadingNames.{another}
+use Rattle.sg_ast.specs.ReadingExpressions.{case, sees_case, expr_within}
 use Rattle.sg_expressions.specs.ExprNests.{cases_in}
 use Rattle.sg_cursor.specs.Left.{left_of}
 use Rattle.sg_expressions.proofs.expr.Grammar.cases.Given as goal

@@ -1,7 +1,7 @@
 use Rattle.std.proofs.Common.{◌≡◌, ◌+◌, sym, ap, ◌∙◌}
 use Rattle.std.proofs.lemmas.Result.{err_from_is_err_and}
 use Rattle.sg_ast.specs.Levels.{level, next_by}
-use Rattle.sg_ast.specs.Reading.{expr_within}
+use Rattle.sg_ast.specs.ReadingExpressions.{expr_within}
 use Rattle.sg_expressions.specs.ExprNests.{node_of}
 use Rattle.sg_cursor.specs.Left.{left_of}
 use Rattle.sg_expressions.proofs.Climbs.{stops, fails, goes_on, ends}

@@ -1,6 +1,6 @@
 use Rattle.std.proofs.Common.{◌≡◌, ◌+◌, ◌-◌}
 use Rattle.sg_ast.specs.Levels.{atom_level}
-use Rattle.sg_ast.specs.Reading.{climb, expr_within}
+use Rattle.sg_ast.specs.ReadingExpressions.{climb, expr_within}
 use Rattle.sg_expressions.specs.ExprNests.{node_of}
 use Rattle.sg_cursor.specs.Left.{left_of}
 use Rattle.sg_expressions.proofs.expr.Grammar.climb.Given as goal

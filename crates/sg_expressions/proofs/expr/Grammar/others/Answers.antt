@@ -3,7 +3,8 @@ use Rattle.std.proofs.lemmas.Result.{err_from_is_err_and}
 use Rattle.sg_text.specs.declared.symbols.Symbol.TheVariants as sign
 use Rattle.sg_ast.specs.Levels.{choice_level}
 use Rattle.sg_ast.specs.Readers.{is_sign, sees}
-use Rattle.sg_ast.specs.Reading.{another, expr_within}
+use Rattle.sg_ast.specs.ReadingNames.{another}
+use Rattle.sg_ast.specs.ReadingExpressions.{expr_within}
 use Rattle.sg_expressions.specs.ExprNests.{node_of, nodes_of}
 use Rattle.sg_cursor.specs.Left.{left_of}
 use Rattle.sg_cursor.proofs.Turns.{goes_on, fails, stops, ends}

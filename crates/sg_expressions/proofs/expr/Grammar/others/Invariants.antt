@@ -2,7 +2,8 @@ use Rattle.std.proofs.Common.{◌≡◌, ◌-◌, length}
 use Rattle.sg_text.specs.declared.symbols.Symbol.TheVariants as sign
 use Rattle.sg_ast.specs.Levels.{choice_level}
 use Rattle.sg_ast.specs.Readers.{is_sign, sees, more}
-use Rattle.sg_ast.specs.Reading.{another, expr_within}
+use Rattle.sg_ast.specs.ReadingNames.{another}
+use Rattle.sg_ast.specs.ReadingExpressions.{expr_within}
 use Rattle.sg_expressions.specs.ExprNests.{nodes_of}
 use Rattle.sg_cursor.specs.Left.{left_of}
 use Rattle.sg_expressions.proofs.expr.Grammar.others.Given as goal

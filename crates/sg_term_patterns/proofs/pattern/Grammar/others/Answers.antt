@@ -3,7 +3,7 @@ use Rattle.std.proofs.lemmas.Result.{err_from_is_err_and}
 use Rattle.std.proofs.lemmas.List.{map_push}
 use Rattle.sg_text.specs.declared.symbols.Symbol.TheVariants as sign
 use Rattle.sg_ast.specs.Readers.{is_sign, sees}
-use Rattle.sg_ast.specs.Reading.{another, pattern_within}
+use Rattle.sg_ast.specs.ReadingNames.{another, pattern_within}
 use Rattle.sg_ast.specs.View.{pattern_of}
 use Rattle.sg_cursor.specs.Left.{left_of}
 use Rattle.sg_cursor.proofs.Turns.{goes_on, fails, stops, ends}

@@ -1,7 +1,7 @@
 use Rattle.std.proofs.Common.{◌≡◌, ◌-◌, length, map}
 use Rattle.sg_text.specs.declared.symbols.Symbol.TheVariants as sign
 use Rattle.sg_ast.specs.Readers.{is_sign, sees}
-use Rattle.sg_ast.specs.Reading.{another, pattern_within}
+use Rattle.sg_ast.specs.ReadingNames.{another, pattern_within}
 use Rattle.sg_ast.specs.View.{pattern_of}
 use Rattle.sg_ast.specs.Readers.{more}
 use Rattle.sg_cursor.specs.Left.{left_of}
