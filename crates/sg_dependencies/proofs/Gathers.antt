@@ -43,6 +43,18 @@ met_over s closed old new gained a b to has = record {
   here = λ y low h. elim (cases_lt y b) [ inl under ↦ to.here y under h | inr past ↦ let is : y ≡ b = omega (arith, low, past) in rw is (has (subst (λ k. Holds closed (s.first + a) (s.first + k)) is h)) ];
 }
 
+-- what is passed over is not related
+pub met_past : (s : Spot) (closed old new : List (List Bool)) (gained : Bool) (a from b : ℕ) → MetTo s closed old new gained a from → ((y : ℕ) → from ≤ y → y < b → Holds closed (s.first + a) (s.first + y) → ⊥) → MetTo s closed old new gained a b
+met_past s closed old new gained a from b to out = record {
+  size = to.size;
+  sound = to.sound;
+  keeps = to.keeps;
+  before = to.before;
+  fewer = to.fewer;
+  stays = to.stays;
+  here = λ y low h. elim (cases_lt y from) [ inl under ↦ to.here y under h | inr past ↦ absurd (out y past low h) ];
+}
+
 pub met_pair : (s : Spot) (closed old now new : List (List Bool)) (gained : Bool) (a b : ℕ) → MetTo s closed old now gained a b → a < s.attrs → b < s.attrs → Holds closed (s.first + a) (s.first + b) → length new ≡ length now
     → ((x y : ℕ) → Holds new x y ↔ (Holds now x y ⊎ ((x ≡ a) × (y ≡ b)))) → all_missing now ≡ all_missing new + 1 → MetTo s closed old new true a (b + 1)
 met_pair s closed old now new gained a b to a_there b_there related long gains counted = record {

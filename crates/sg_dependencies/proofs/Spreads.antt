@@ -19,13 +19,14 @@ pub record SpreadTo (s : Spot) (rows old new : List (List Bool)) (a b : ℕ) : T
 pub spread_none : (s : Spot) (rows old : List (List Bool)) → SpreadTo s rows old old 0 0
 spread_none s rows old = record { size = refl; sound = λ m n h. inl h; keeps = λ m n h. h; before = λ x y low high h. absurd (omega (arith, low)); here = λ y low h. absurd (omega (arith, low)) }
 
-pub spread_over : (s : Spot) (rows old new : List (List Bool)) (a b : ℕ) → SpreadTo s rows old new a b → (Holds rows a b → ⊥) → SpreadTo s rows old new a (b + 1)
-spread_over s rows old new a b to out = record {
+-- what is passed over is not related
+pub spread_past : (s : Spot) (rows old new : List (List Bool)) (a from b : ℕ) → SpreadTo s rows old new a from → ((y : ℕ) → from ≤ y → y < b → Holds rows a y → ⊥) → SpreadTo s rows old new a b
+spread_past s rows old new a from b to out = record {
   size = to.size;
   sound = to.sound;
   keeps = to.keeps;
   before = to.before;
-  here = λ y low h. elim (cases_lt y b) [ inl under ↦ to.here y under h | inr past ↦ absurd (out (let is : y ≡ b = omega (arith, low, past) in subst (Holds rows a) is h)) ];
+  here = λ y low h. elim (cases_lt y from) [ inl under ↦ to.here y under h | inr past ↦ absurd (out y past low h) ];
 }
 
 pub spread_pair : (s : Spot) (rows old now new : List (List Bool)) (a b : ℕ) → SpreadTo s rows old now a b → a < s.attrs → b < s.attrs → Holds rows a b → length new ≡ length now → ((x y : ℕ) → Holds new x y ↔ (Holds now x y ⊎ ((x ≡ s.first + a) × (y ≡ s.first + b)))) → SpreadTo s rows old new a (b + 1)

@@ -94,14 +94,15 @@ fn round(
 fn spread(relation: &mut Relation, spot: Spot, phylum: &Relation)
     requires room { spot.first + spot.attrs ≤ length relation.old }
     requires small { spot.first + spot.attrs < 2 ^ 32 }
+    requires attrs { length phylum.now ≡ spot.attrs }
     ensures spreads { (m n : ℕ) → Holds relation.new m n ↔ (Holds relation.old m n ⊎ IsPlaced spot phylum.now m n) }
     ensures size { length relation.new ≡ length relation.old }
 {
     for a in 0..spot.attrs {
-        for b in 0..spot.attrs {
-            if phylum.holds(a, b) {
-                relation.add(spot.first + a, spot.first + b);
-            }
+        let mut from = 0;
+        while let Some(b) = phylum.successors(a).next(from) {
+            relation.add(spot.first + a, spot.first + b);
+            from = b + 1;
         }
     }
 }
@@ -110,6 +111,7 @@ fn spread(relation: &mut Relation, spot: Spot, phylum: &Relation)
 fn gather(phylum: &mut Relation, spot: Spot, closed: &Relation) -> bool
     requires attrs { length phylum.old ≡ spot.attrs }
     requires small { spot.first + spot.attrs < 2 ^ 32 }
+    requires room { spot.first + spot.attrs ≤ length closed.now }
     ensures gathers { (a b : ℕ) → Holds phylum.new a b ↔ (Holds phylum.old a b ⊎ IsMet spot (Holds closed.now) a b) }
     ensures size { length phylum.new ≡ length phylum.old }
     ensures fewer { all_missing phylum.new + (if result then 1 else 0) ≤ all_missing phylum.old }
@@ -117,10 +119,14 @@ fn gather(phylum: &mut Relation, spot: Spot, closed: &Relation) -> bool
 {
     let mut gained = false;
     for a in 0..spot.attrs {
-        for b in 0..spot.attrs {
-            if closed.holds(spot.first + a, spot.first + b) && phylum.add(a, b) {
+        let mut from = spot.first;
+        while let Some(n) = closed.successors(spot.first + a).next(from)
+            && n < spot.first + spot.attrs
+        {
+            if phylum.add(a, n - spot.first) {
                 gained = true;
             }
+            from = n + 1;
         }
     }
     gained

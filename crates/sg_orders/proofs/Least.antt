@@ -7,7 +7,8 @@ use Rattle.std.proofs.lemmas.Grind.{common_steps}
 use Rattle.std.proofs.lemmas.Option.{slice_get-get_or}
 use Rattle.std.proofs.lemmas.List.{get_or-set_same, get_or-set_other}
 use Rattle.sg_sets.specs.Relations.{predecessors}
-use Rattle.sg_sets.specs.Rows.{Holds}
+use Rattle.sg_sets.specs.Members.{IsNext}
+use Rattle.sg_sets.specs.Rows.{Holds, row_of}
 use Rattle.sg_kinds.specs.declared.spec.Attr.{Attr}
 use Rattle.sg_kinds.specs.Specification.{is_way_inherited}
 use Rattle.sg_orders.specs.LeastLayers.{is_inherited_in, IsAllowed, IsLeastLayer, AreLeastLayers}
@@ -25,23 +26,22 @@ pub record IsGreatestTo (rows : List (List Bool)) (a : ℕ) (layers : List ℕ) 
 pub max_is : (x y : ℕ) → ord_max nat_cmp x y ≡ max x y
 max_is x y = grind (arith, common_steps)
 
-pub greatest_yes : (rows : List (List Bool)) (a : ℕ) (layers : List ℕ) (n g h : ℕ) → IsGreatestTo rows a layers n g → Holds rows a n → h ≡ ord_max nat_cmp g (get_or layers n 0) → IsGreatestTo rows a layers (n + 1) h
-greatest_yes rows a layers n g h to holds made = let is : h ≡ max g (get_or layers n 0) = made ∙ max_is g (get_or layers n 0) in record {
+pub greatest_none : (rows : List (List Bool)) (a : ℕ) (layers : List ℕ) → IsGreatestTo rows a layers 0 0
+greatest_none rows a layers = record { above = λ b low r. absurd (omega (arith, low)); least = λ m all. omega arith }
+
+-- the next successor from n on
+pub greatest_next : (rows : List (List Bool)) (a : ℕ) (layers : List ℕ) (n k g h : ℕ) → IsGreatestTo rows a layers n g → IsNext (row_of rows a) n k → h ≡ ord_max nat_cmp g (get_or layers k 0) → IsGreatestTo rows a layers (k + 1) h
+greatest_next rows a layers n k g h to next made = let is : h ≡ max g (get_or layers k 0) = made ∙ max_is g (get_or layers k 0) in record {
   above = λ b low r. elim (cases_lt b n) [
     | inl under ↦ let old = to.above b under r in omega (arith, old, is)
-    | inr past ↦ let here : b ≡ n = omega (arith, low, past) in rw here (omega (arith, is))
+    | inr past ↦ let first = next.least b past r in let here : b ≡ k = omega (arith, low, first) in rw here (omega (arith, is))
   ];
-  least = λ m all. let old = to.least m all in let one = all n holds in omega (arith, old, one, is);
+  least = λ m all. let old = to.least m all in let one = all k next.member in omega (arith, old, one, is);
 }
 
-pub greatest_no : (rows : List (List Bool)) (a : ℕ) (layers : List ℕ) (n g h : ℕ) → IsGreatestTo rows a layers n g → (Holds rows a n → ⊥) → h ≡ g → IsGreatestTo rows a layers (n + 1) h
-greatest_no rows a layers n g h to none is = record {
-  above = λ b low r. elim (cases_lt b n) [
-    | inl under ↦ let old = to.above b under r in omega (arith, old, is)
-    | inr past ↦ absurd (let here : b ≡ n = omega (arith, low, past) in none (subst (Holds rows a) here r))
-  ];
-  least = λ m all. let old = to.least m all in omega (arith, old, is);
-}
+-- no successor is left
+pub greatest_above : (rows : List (List Bool)) (a : ℕ) (layers : List ℕ) (n g : ℕ) → IsGreatestTo rows a layers n g → ((b : ℕ) → n ≤ b → ¬ (Holds rows a b)) → (b : ℕ) → Holds rows a b → get_or layers b 0 ≤ g
+greatest_above rows a layers n g to none b r = elim (cases_lt b n) [ inl under ↦ to.above b under r | inr past ↦ absurd (none b past r) ]
 
 module _ (attrs : List Attr) (rows : List (List Bool)) where
   pub record IsDone (layers : List ℕ) (a : ℕ) : Type 0 where

@@ -47,15 +47,16 @@ pub fn predecessors(alloc: Global, relation: &Relation) -> Result<Vec<usize>, No
 
 /// The greatest layer of the attributes to which one is related.
 fn greatest_after(relation: &Relation, a: usize, layers: &[usize]) -> usize
-    requires { length relation.now ≡ length layers.now }
+    requires row { a < length relation.now }
+    requires size { length relation.now ≡ length layers.now }
     ensures above { (b : ℕ) → Holds relation.now a b → slice_index layers.now b ≤ result }
     ensures least { (m : ℕ) → ((b : ℕ) → Holds relation.now a b → slice_index layers.now b ≤ m) → result ≤ m }
 {
     let mut greatest = 0;
-    for b in 0..layers.len() {
-        if relation.holds(a, b) {
-            greatest = greatest.max(layers[b]);
-        }
+    let mut from = 0;
+    while let Some(b) = relation.successors(a).next(from) {
+        greatest = greatest.max(layers[b]);
+        from = b + 1;
     }
     greatest
 }

@@ -4,6 +4,7 @@ pub mod CyclesLemmas
 pub mod FlowLemmas
 pub mod JoinedLemmas
 pub mod LayersLemmas
+pub mod LengthenLemmas
 pub mod MembersLemmas
 pub mod OptionLemmas
 pub mod PathsLemmas

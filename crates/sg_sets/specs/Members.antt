@@ -1,5 +1,5 @@
 -- What a contract sees of a `BitSet`: a flag for each number below the width.
-use Rattle.std.specs.Prelude.{ℕ, Bool, false, not, List, IsTrue, count_by, slice_index_or}
+use Rattle.std.specs.Prelude.{ℕ, ◌≤◌, Bool, false, not, List, IsTrue, count_by, slice_index_or}
 
 -- the flag of a
 abbrev pub has : List Bool → ℕ → Bool
@@ -8,6 +8,12 @@ has set a = slice_index_or set a false
 -- a is in the set
 abbrev pub Has : List Bool → ℕ → Type 0
 Has set a = IsTrue (has set a)
+
+-- m is the least number of the set from `from` on
+pub record IsNext (set : List Bool) (from m : ℕ) : Type 0 where
+  pub member : Has set m
+  pub behind : from ≤ m
+  pub least : (a : ℕ) → from ≤ a → Has set a → m ≤ a
 
 -- how many numbers below the width are not in the set
 abbrev pub missing_of : List Bool → ℕ

@@ -1,7 +1,7 @@
 //! `BitSet`, a set of numbers below a width, a bit a number.
 ghost use Rattle.std.specs.Prelude.{◌≡◌, ℕ, ◌<◌, ◌≤◌, ◌↔◌, ◌⊎◌, false, true, not, [], length, replicate, slice_set, IfOk, IfSome, IfNone, IsTrue};
 ghost use Rattle.std.specs.Bool.{OnTrue, OnFalse};
-ghost use Rattle.sg_sets.specs.Members.{has, Has, missing_of, Shared};
+ghost use Rattle.sg_sets.specs.Members.{has, Has, IsNext, missing_of, Shared};
 
 use crate::words;
 use std::alloc::{AllocError, Global};
@@ -96,6 +96,25 @@ impl BitSet {
         ensures stays { OnFalse result (self.new ≡ self.old) }
     {
         words::join(&mut self.words, &other.words)
+    }
+
+    /// Returns the least number of the set that is not below `from`.
+    pub fn next(&self, from: usize) -> Option<usize>
+        ensures none { IfNone result ((a : ℕ) → from ≤ a → ¬ (Has self.now a)) }
+        ensures least { IfSome result (IsNext self.now from) }
+        ensures low { IfSome result (λ m. m < usize.MAX) }
+    {
+        let mut at = from;
+        while at < self.width {
+            if at % 64 == 0 && self.words[at / 64] == 0 {
+                at = at.saturating_add(64);
+            } else if self.contains(at) {
+                return Some(at);
+            } else {
+                at += 1;
+            }
+        }
+        None
     }
 
     /// Returns the least number that is in both sets.

@@ -4,7 +4,7 @@ ghost use Rattle.std.specs.Bool.{OnTrue, OnFalse};
 ghost use Rattle.sg_sets.specs.Members.{has};
 ghost use Rattle.sg_sets.specs.Rows.{row_of, Holds, all_missing};
 ghost use Rattle.sg_sets.specs.Paths.{Path, IsTransitive};
-ghost use Rattle.sg_sets.specs.Relations.{predecessors};
+ghost use Rattle.sg_sets.specs.Relations.{HasPassedOn, predecessors};
 
 use crate::{BitSet, Rows};
 use std::alloc::{AllocError, Global};
@@ -110,22 +110,57 @@ impl Relation {
         ensures least { (a b : ℕ) → Holds self.new a b → Path (Holds self.old) a b }
         ensures size { length self.new ≡ length self.old }
     {
-        for k in 0..self.size() {
-            self.close_through(k);
-        }
+        while self.lengthen() {}
     }
 
-    /// Relates `a` to `b` where `a` is related to `k` and `k` to `b`.
-    fn close_through(&mut self, k: usize)
-        requires { k < length self.old }
-        ensures through { (a b : ℕ) → Holds self.new a b ↔ (Holds self.old a b
-            ⊎ (Holds self.old a k × Holds self.old k b)) }
+    /// Relates each number to those that one leads to which it is related to, and returns whether some were not
+    /// related before.
+    fn lengthen(&mut self) -> bool
+        ensures contains { (a b : ℕ) → Holds self.old a b → Holds self.new a b }
+        ensures least { (a b : ℕ) → Holds self.new a b → Path (Holds self.old) a b }
+        ensures grows { OnTrue result (all_missing self.new < all_missing self.old) }
+        ensures stays { OnFalse result (IsTransitive (Holds self.new)) }
         ensures size { length self.new ≡ length self.old }
     {
+        let mut grown = false;
         for a in 0..self.size() {
-            if self.holds(a, k) {
-                self.rows.join_row(k, a);
+            if self.lengthen_from(a) {
+                grown = true;
             }
         }
+        grown
+    }
+
+    /// The same for the number `a`.
+    fn lengthen_from(&mut self, a: usize) -> bool
+        requires { a < length self.old }
+        ensures contains { (x y : ℕ) → Holds self.old x y → Holds self.new x y }
+        ensures least { (x y : ℕ) → Holds self.new x y → Path (Holds self.old) x y }
+        ensures grows { OnTrue result (all_missing self.new < all_missing self.old) }
+        ensures stays { OnFalse result (self.new ≡ self.old) }
+        ensures passed { OnFalse result (HasPassedOn self.new a) }
+        ensures size { length self.new ≡ length self.old }
+    {
+        let mut grown = false;
+        let mut from = 0;
+        while let Some(k) = self.successors(a).next(from) {
+            if self.take_over(a, k) {
+                grown = true;
+            }
+            from = k + 1;
+        }
+        grown
+    }
+
+    /// Relates `a` to what `k` is related to, and returns whether it was not to some of that.
+    fn take_over(&mut self, a: usize, k: usize) -> bool
+        requires to { a < length self.old }
+        requires from { k < length self.old }
+        ensures takes { (x y : ℕ) → Holds self.new x y ↔ (Holds self.old x y ⊎ ((x ≡ a) × Holds self.old k y)) }
+        ensures grows { OnTrue result (all_missing self.new < all_missing self.old) }
+        ensures stays { OnFalse result (self.new ≡ self.old) }
+        ensures size { length self.new ≡ length self.old }
+    {
+        self.rows.join_row(k, a)
     }
 }
