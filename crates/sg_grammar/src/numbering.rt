@@ -1,24 +1,35 @@
 //! The grammar of a specification.
-ghost use Rattle.std.specs.Prelude.{◌≡◌, ◌+◌, ◌≤◌, ◌<◌, ◌^◌, map, length, bytes_eq, IfOk, OnOk};
+ghost use Rattle.std.specs.Prelude.{◌≡◌, suc, ◌+◌, ◌≤◌, ◌<◌, ◌^◌, map, length, bytes_eq, IfOk, OnOk};
 ghost use Rattle.std.specs.List.{position_or_len};
 ghost use Rattle.sg_patterns.specs.Lexemes.{with_text, literals_in, literals_of};
-ghost use Rattle.sg_grammar.specs.Numbered.{first_literal, first_lexeme, first_nonterminal, lexeme_number, symbol_number, rule_of, starts_of, grammar_of, start_of};
+ghost use Rattle.sg_kinds.specs.Instances.{below};
+ghost use Rattle.sg_kinds.specs.declared.spec.Symbol.TheVariants as written;
+ghost use Rattle.sg_prec.specs.Levels.{levels_before};
+ghost use Rattle.sg_prec.specs.Spread.{spread_of};
+ghost use Rattle.sg_grammar.specs.Numbered.{first_literal, first_lexeme, first_nonterminal, nonterminal_count, level_number, symbol_count, lexeme_number, symbol_number, spread_number, made_by, rule_of, starts_of, grammar_of, start_of};
 
 use crate::grammar::{Grammar, MOST, Made, Production};
-use crate::named::{named_by, named_over};
+use crate::named::named_by;
 use indexmap::IndexSet;
+use sg_kinds::ids::PhylumId;
 use sg_kinds::marks::Shape;
 use sg_kinds::memory::NoMemory;
 use sg_kinds::row::Row;
 use sg_kinds::spec::{Entry, Phylum, Production as Written, Spec, Symbol};
+use sg_prec::named::named_over;
+use sg_prec::{From, LevelSymbol, Levels, Spread, spread};
 use std::alloc::Global;
 
-/// The literals of a specification, by first occurrence.
+/// The literals of a specification, by first occurrence; how many levels stand before those of each nonterminal, and
+/// last how many there are in all.
 #[derive(Drop)]
 struct Numbering<'a> {
     spec: &'a Spec,
     literals: IndexSet<Vec<u8>>,
+    before: Vec<u32>,
     ghost known: { map (λ v. v.items) literals.keys ≡ literals_of spec.now.productions },
+    ghost levels: { before.items ≡ map (levels_before spec.now.levels spec.now.productions)
+        (below (suc (nonterminal_count spec.now))) },
     ghost few: { (length spec.now.entries ≤ 2 ^ 30) × (length literals.keys ≤ 2 ^ 30)
         × (length spec.now.lexemes ≤ 2 ^ 30) },
 }
@@ -82,6 +93,40 @@ fn literals_of(alloc: Global, productions: &[Written]) -> Result<IndexSet<Vec<u8
     Ok(literals)
 }
 
+/// How many nonterminals productions and entries name.
+fn nonterminals(spec: &Spec) -> usize
+    ensures number { result ≡ nonterminal_count spec.now }
+    ensures few { result ≤ 2 ^ 32 }
+{
+    named_over(spec.productions.as_slice()).max(named_by(spec.entries.as_slice()))
+}
+
+/// How many levels stand before those of each nonterminal, and last how many there are in all.
+fn levels_before(alloc: Global, spec: &Spec) -> Result<Vec<u32>, NoMemory>
+    ensures { IfOk result (λ v. v.items ≡ map (levels_before spec.now.levels spec.now.productions)
+        (below (suc (nonterminal_count spec.now)))) }
+{
+    let levels = Levels::new(alloc, spec.productions.as_slice(), spec.levels.as_slice())?;
+    let mut before = Vec::new(alloc);
+    let mut total = 0u32;
+    for n in 0..nonterminals(spec) {
+        before.push(total)?;
+        total = number(total as usize + 1 + levels.height(n as u32))?;
+    }
+    before.push(total)?;
+    Ok(before)
+}
+
+/// What the result of a production of the spread grammar is.
+fn made_by(from: From) -> Made
+    ensures { result ≡ made_by from }
+{
+    match from {
+        From::Written(expr) => Made::Outcome(expr),
+        From::Chain(_) => Made::Same,
+    }
+}
+
 impl<'a> Numbering<'a> {
     fn new(alloc: Global, spec: &'a Spec) -> Result<Numbering<'a>, NoMemory>
         ensures { IfOk result (λ n. n.spec.now ≡ spec.now) }
@@ -90,7 +135,12 @@ impl<'a> Numbering<'a> {
         if spec.entries.len() > MOST || literals.len() > MOST || spec.lexemes.len() > MOST {
             return Err(NoMemory);
         }
-        Ok(Numbering { spec, literals })
+        let before = levels_before(alloc, spec)?;
+        Ok(Numbering {
+            spec,
+            literals,
+            before,
+        })
     }
 
     fn first_literal(&self) -> usize
@@ -134,32 +184,59 @@ impl<'a> Numbering<'a> {
         }
     }
 
-    /// The number of a symbol.
-    fn symbol(&self, symbol: &Symbol) -> Result<u32, NoMemory>
-        ensures { IfOk result (λ n. n ≡ symbol_number self.now.spec.now symbol.now) }
+    /// How many symbols there are.
+    fn symbols(&self) -> Result<u32, NoMemory>
+        ensures { IfOk result (λ n. n ≡ symbol_count self.now.spec.now) }
     {
-        match symbol {
-            Symbol::Quoted(text) => self.literal(text.as_slice()),
-            Symbol::Lexical(p) => match self.spec.phyla.place(p.number) {
-                Some(phylum) => self.lexeme(phylum),
-                None => Ok(0),
-            },
-            Symbol::Nonterminal(n) => number(self.first_nonterminal() + *n as usize),
+        match self.before.last() {
+            Some(levels) => number(self.first_nonterminal() + *levels as usize),
+            None => Err(NoMemory),
         }
     }
 
-    fn rule(&self, alloc: Global, production: &Written) -> Result<Production, NoMemory>
+    /// The number of a level of a nonterminal. `NoMemory` is also the answer past the last nonterminal that is named.
+    fn level(&self, n: u32, i: u32) -> Result<u32, NoMemory>
+        ensures { IfOk result (λ m. m ≡ level_number self.now.spec.now n i) }
+    {
+        match self.before.get(n as usize) {
+            Some(before) => number(self.first_nonterminal() + *before as usize + i as usize),
+            None => Err(NoMemory),
+        }
+    }
+
+    /// The number of the lexeme of a phylum by its number.
+    fn lexical(&self, p: PhylumId) -> Result<u32, NoMemory>
+        ensures { IfOk result (λ n. n ≡ symbol_number self.now.spec.now (written.Lexical p)) }
+    {
+        match self.spec.phyla.place(p.number) {
+            Some(phylum) => self.lexeme(phylum),
+            None => Ok(0),
+        }
+    }
+
+    /// The number of a symbol.
+    fn symbol(&self, symbol: &LevelSymbol) -> Result<u32, NoMemory>
+        ensures { IfOk result (λ n. n ≡ spread_number self.now.spec.now symbol.now) }
+    {
+        match symbol {
+            LevelSymbol::Quoted(text) => self.literal(text.as_slice()),
+            LevelSymbol::Lexical(p) => self.lexical(*p),
+            LevelSymbol::Level(n, i) => self.level(*n, *i),
+        }
+    }
+
+    fn rule(&self, alloc: Global, production: &Spread) -> Result<Production, NoMemory>
         ensures { IfOk result (λ r. r ≡ rule_of self.now.spec.now production.now) }
     {
         let mut right = Vec::with_capacity(alloc, production.right.len())?;
         for symbol in production.right.as_slice() {
             right.push(self.symbol(symbol)?)?;
         }
-        let left = number(self.first_nonterminal() + production.left as usize)?;
+        let left = self.level(production.left, production.level)?;
         Ok(Production {
             left,
             right: Row::new(right),
-            made: Made::Outcome(production.expr),
+            made: made_by(production.from),
         })
     }
 
@@ -169,7 +246,7 @@ impl<'a> Numbering<'a> {
     {
         let mut right = Vec::with_capacity(alloc, 2)?;
         right.push(number(place + 1)?)?;
-        right.push(number(self.first_nonterminal() + entry.nonterminal as usize)?)?;
+        right.push(self.level(entry.nonterminal, 0)?)?;
         Ok(Production {
             left: 0,
             right: Row::new(right),
@@ -178,10 +255,16 @@ impl<'a> Numbering<'a> {
     }
 
     fn rules(&self, alloc: Global) -> Result<Vec<Production>, NoMemory>
-        ensures { IfOk result (λ v. v.items ≡ map (rule_of self.now.spec.now) self.now.spec.now.productions) }
+        ensures { IfOk result (λ v. v.items ≡ map (rule_of self.now.spec.now)
+            (spread_of self.now.spec.now.levels self.now.spec.now.productions)) }
     {
-        let mut rules = Vec::with_capacity(alloc, self.spec.productions.len())?;
-        for production in self.spec.productions.as_slice() {
+        let found = spread(
+            alloc,
+            self.spec.productions.as_slice(),
+            self.spec.levels.as_slice(),
+        )?;
+        let mut rules = Vec::with_capacity(alloc, found.len())?;
+        for production in &found {
             rules.push(self.rule(alloc, production)?)?;
         }
         Ok(rules)
@@ -198,21 +281,18 @@ impl<'a> Numbering<'a> {
     }
 }
 
-/// The grammar of a specification: the productions in their order, and for each entry a start production of its
-/// marker and its nonterminal. The symbols are, in this order, the end, the markers, the literals by first
-/// occurrence, the lexemes and the nonterminals. `NoMemory` is also the answer where there are more of them than
-/// their numbers reach.
+/// The grammar of a specification: the productions of its spread grammar in their order, and for each entry a start
+/// production of its marker and its nonterminal. The symbols are, in this order, the end, the markers, the literals by
+/// first occurrence, the lexemes and the levels of the nonterminals. `NoMemory` is also the answer where there are more
+/// of them than their numbers reach.
 pub fn make(alloc: Global, spec: &Spec) -> Result<Grammar, NoMemory>
     ensures { IfOk result (λ g. g ≡ grammar_of spec.now) }
 {
     let numbering = Numbering::new(alloc, spec)?;
     let rules = Row::new(numbering.rules(alloc)?);
     let entries = Row::new(numbering.starts(alloc)?);
-    let first = numbering.first_nonterminal();
-    let written = named_over(spec.productions.as_slice());
-    let entered = named_by(spec.entries.as_slice());
-    let terminals = number(first)?;
-    let symbols = number(first + written.max(entered))?;
+    let terminals = number(numbering.first_nonterminal())?;
+    let symbols = numbering.symbols()?;
     match Grammar::new(rules, entries, terminals, symbols) {
         Some(grammar) => Ok(grammar),
         None => Err(NoMemory),

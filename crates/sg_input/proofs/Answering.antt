@@ -8,7 +8,7 @@ use Rattle.sg_kinds.specs.Fits.{Fits}
 use Rattle.sg_kinds.specs.Plain.{plain}
 use Rattle.sg_kinds.specs.Sound.{IsSound}
 use Rattle.sg_kinds.specs.InputPieces.{InputPiece}
-use Rattle.sg_input.specs.Derivation.{derives}
+use Rattle.sg_prec.specs.WellGrouped.{derives}
 use Rattle.sg_kinds.specs.declared.spec.Entry.{Entry}
 use Rattle.sg_kinds.specs.declared.spec.Spec.{Spec}
 use Rattle.sg_patterns.specs.LexemesOf.{AreLexemesOf}

@@ -1,6 +1,6 @@
 -- The steps of the parser keep its stacks to those of the machine.
 use Rattle.std.proofs.Common.{◌≡◌, ℕ, zero, suc, ◌+◌, ◌-◌, ◌<◌, ◌≤◌, inl, inr, true, false, cond, List, [], ◌∷◌, ◌++◌, length, get_or, map, take, drop, refl, sym, ap, ◌∙◌, subst, arith, Some}
-use Rattle.std.specs.Prelude.{◌⊎◌, slice_get, option_map, unwrap_or, nat_le, count_by, All}
+use Rattle.std.specs.Prelude.{◌⊎◌, slice_get, option_map, unwrap_or, nat_le, count_by, All, Contains}
 use Rattle.std.proofs.lemmas.Option.{slice_get_within}
 use Rattle.std.proofs.lemmas.List.{append-nil, length-append, length-map, take_at, drop-map, take-map}
 use Rattle.std.proofs.lemmas.List.Concat.{flat_map-append}
@@ -10,10 +10,15 @@ use Rattle.sg_kinds.specs.Values.{Value, Chars}
 use Rattle.sg_kinds.specs.Sound.{IsSound}
 use Rattle.sg_kinds.specs.declared.spec.Spec.{Spec}
 use Rattle.sg_pool.specs.Pools.{value_at}
+use Rattle.sg_prec.specs.Spread.{spread_of}
+use Rattle.sg_prec.specs.declared.productions.Spread.{Spread}
+use Rattle.sg_prec.specs.LevelDerives.{made_from}
+use Rattle.sg_prec.proofs.Spreads.{spread_cases}
+use Rattle.sg_grammar.proofs.LevelNumbers.{level_behind}
 use Rattle.sg_grammar.specs.Grammar.{Grammar, right_of}
 use Rattle.sg_grammar.specs.declared.grammar.Production.{Production}
 use Rattle.sg_grammar.specs.Derives.{Token, Derives, nothing, token, under}
-use Rattle.sg_grammar.specs.Numbered.{first_lexeme, first_nonterminal, grammar_of}
+use Rattle.sg_grammar.specs.Numbered.{first_lexeme, level_number, spread_number, grammar_of}
 use Rattle.sg_lalr.specs.declared.table.Action.{Action}
 use Rattle.sg_lalr.specs.declared.table.Action.TheVariants.{Shift, Reduce, Accept, Stop}
 use Rattle.sg_lalr.specs.Items.{item, HasNext}
@@ -35,7 +40,7 @@ use Rattle.sg_input.specs.Entered.{nonterminal_of}
 use Rattle.sg_input.specs.Results.{joined, made_of, results_of}
 use Rattle.sg_input.specs.Driven.{bound_in, Driven}
 use Rattle.sg_input.proofs.Symbols.{lt-true, lt-false}
-use Rattle.sg_input.proofs.Bridge.{map-append, node-values, rule-at}
+use Rattle.sg_input.proofs.Bridge.{map-append, contains-at, node-values, rule-at}
 use Rattle.sg_input.proofs.Reading.{is-entry}
 
 -- ---- lists
@@ -96,22 +101,35 @@ module _ (spec : Spec) (sound : IsSound spec) where
       cases-below : (a b : ℕ) → (a < b) ⊎ (b ≤ a)
       cases-below a b = grind arith
 
+  -- a production gives one value
+  one-bound : (N i : ℕ) → bound_in spec (level_number spec N i ∷ []) ≡ 1
+  one-bound N i = count-yes (first_lexeme spec) (level_number spec N i) [] (omega (arith, level_behind spec N i))
+
+  one-made : (x : Spread) → Contains (spread_of spec.levels spec.productions) x → (vs : List Value) → length vs ≡ bound_in spec (map (spread_number spec) x.right) → length (made_from spec x.from vs) ≡ 1
+  one-made x has vs = elim (spread_cases spec.levels spec.productions x has) [
+    | inl (r, there, is) ↦ subst (λ (z : Spread). length vs ≡ bound_in spec (map (spread_number spec) z.right) → length (made_from spec z.from vs) ≡ 1) is (λ long. refl)
+    | inr (N, i, low, is) ↦ subst (λ (z : Spread). length vs ≡ bound_in spec (map (spread_number spec) z.right) → length (made_from spec z.from vs) ≡ 1) is (λ long. long ∙ one-bound N (suc i))
+  ]
+
   pub counted : (Xs : List ℕ) (ts : List Token) (bs : List (List Value)) (n : ℕ) → Derives (grammar_of spec) (results_of spec) Xs ts bs n → length (joined bs) ≡ bound_in spec Xs
   counted _ _ _ _ nothing = refl
   counted _ _ _ _ (token x X Xs ts vs n low is d) = leaf-counted x X Xs vs is (counted Xs ts vs n d)
   counted _ _ _ _ (under p r X Xs us ts all ws vs m n k is left d f split count) =
-      let q = rule-at spec sound p r is in
-      let side : X ≡ first_nonterminal spec + q.0.left = left ∙ ap (λ (z : Production). z.left) q.2 in
+      let q = rule-at spec p r is in
+      let side : X ≡ level_number spec q.0.left q.0.level = left ∙ ap (λ (z : Production). z.left) q.2 in
       let i = counted Xs ts vs n f in
-      let c = count-yes (first_lexeme spec) X Xs (omega (arith, side)) in
-      ap (λ z. length (z ++ joined vs)) (node-values spec sound p q.0 q.1 ws) ∙ (ap suc i ∙ sym c)
+      let within = counted r.right us ws m d ∙ ap (λ (z : Production). bound_in spec z.right) q.2 in
+      let one = one-made q.0 (contains-at (spread_of spec.levels spec.productions) p q.0 q.1) (joined ws) within in
+      let c = count-yes (first_lexeme spec) X Xs (omega (arith, side, level_behind spec q.0.left q.0.level)) in
+      let made = ap (λ z. length (z ++ joined vs)) (node-values spec p q.0 q.1 ws) ∙ length-append (made_from spec q.0.from (joined ws)) (joined vs) in
+      omega (arith, made, one, i, c)
 
   module _ (v : View) (same : v.grammar ≡ grammar_of spec) (tables : IsTables v) (entry : ℕ) (within : entry < length spec.entries) where
     entries-of : length v.grammar.entries ≡ length (grammar_of spec).entries
     entries-of = ap (λ (g : Grammar). length g.entries) same
 
-    is-entry-here : machine.IsEntry v.grammar entry (first_nonterminal spec + nonterminal_of spec entry)
-    is-entry-here = subst (λ g. machine.IsEntry g entry (first_nonterminal spec + nonterminal_of spec entry)) (sym same) (is-entry spec entry within)
+    is-entry-here : machine.IsEntry v.grammar entry (level_number spec (nonterminal_of spec entry) 0)
+    is-entry-here = subst (λ g. machine.IsEntry g entry (level_number spec (nonterminal_of spec entry) 0)) (sym same) (is-entry spec entry within)
 
     pub within-tables : entry < length v.grammar.entries
     within-tables = slice_get_within v.grammar.entries entry is-entry-here.0 is-entry-here.1
@@ -193,18 +211,18 @@ module _ (spec : Spec) (sound : IsSound spec) where
 
       -- ---- where it ends
 
-      pub driven-stop : (rest : List Token) → t ≡ look rest → t < v.grammar.terminals → (s : ℕ) → s ≡ get_or states (length states - 1) 0 → IsAction v s t Stop → machine.FailsAt (grammar_of spec) (first_nonterminal spec + nonterminal_of spec entry) (us ++ rest) (length us)
+      pub driven-stop : (rest : List Token) → t ≡ look rest → t < v.grammar.terminals → (s : ℕ) → s ≡ get_or states (length states - 1) 0 → IsAction v s t Stop → machine.FailsAt (grammar_of spec) (level_number spec (nonterminal_of spec entry) 0) (us ++ rest) (length us)
       driven-stop rest first low s is act =
           let does = acts low s is Stop act in
           let K = subst (λ z. Kept (results_of spec) D.decided entry [] us z (pushed D.cells [])) first D.kept in
-          let f = stop-fails v tables D.decided (results_of spec) entry (first_nonterminal spec + nonterminal_of spec entry) is-entry-here [] us (pushed D.cells []) rest K (ap (λ z. D.decided.act (top (pushed D.cells [])) z) (sym first) ∙ does) in
-          subst (λ g. machine.FailsAt g (first_nonterminal spec + nonterminal_of spec entry) (us ++ rest) (length us)) same f
+          let f = stop-fails v tables D.decided (results_of spec) entry (level_number spec (nonterminal_of spec entry) 0) is-entry-here [] us (pushed D.cells []) rest K (ap (λ z. D.decided.act (top (pushed D.cells [])) z) (sym first) ∙ does) in
+          subst (λ g. machine.FailsAt g (level_number spec (nonterminal_of spec entry) 0) (us ++ rest) (length us)) same f
 
       -- the tokens are at their end, and the only result is that of the entry's nonterminal
       pub driven-accept : t < v.grammar.terminals → (s : ℕ) → s ≡ get_or states (length states - 1) 0 → IsAction v s t Accept
-          → (n : ℕ) × (b : List Value) × Derives (grammar_of spec) (results_of spec) ((first_nonterminal spec + nonterminal_of spec entry) ∷ []) us (b ∷ []) n × (map (value_at pool) ids ≡ b) × (t ≡ 0)
+          → (n : ℕ) × (b : List Value) × Derives (grammar_of spec) (results_of spec) (level_number spec (nonterminal_of spec entry) 0 ∷ []) us (b ∷ []) n × (map (value_at pool) ids ≡ b) × (t ≡ 0)
       driven-accept low s is act =
-          let N = first_nonterminal spec + nonterminal_of spec entry in
+          let N = level_number spec (nonterminal_of spec entry) 0 in
           let does = acts low s is Accept act in
           let r = accept-right v tables D.decided (results_of spec) entry N is-entry-here [] us t (pushed D.cells []) D.kept low does in
           let m = D.decided in

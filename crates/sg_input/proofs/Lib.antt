@@ -7,5 +7,5 @@ pub mod Steps
 pub mod Answering
 pub mod Entries
 pub mod Texts
+pub mod Productive
 pub mod Worked
-pub mod Derived

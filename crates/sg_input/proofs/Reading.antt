@@ -10,7 +10,7 @@ use Rattle.sg_kinds.specs.Values.{Bytes, Value, Fault, is_text, is_text_byte}
 use Rattle.sg_kinds.specs.SameValue.{both}
 use Rattle.sg_kinds.specs.Sound.{IsSound}
 use Rattle.sg_kinds.specs.InputPieces.{InputPiece}
-use Rattle.sg_input.specs.Derivation.{IsSentence, derives}
+use Rattle.sg_prec.specs.WellGrouped.{IsSentence, derives}
 use Rattle.sg_kinds.specs.declared.marks.FaultKind.{FaultKind}
 use Rattle.sg_kinds.specs.declared.spec.Entry.{Entry}
 use Rattle.sg_kinds.specs.declared.spec.Spec.{Spec}
@@ -21,7 +21,7 @@ use Rattle.sg_patterns.specs.declared.scanning.InToken.{InToken}
 use Rattle.sg_patterns.proofs.ScanLaws.{tokens-unique, scanned-never-stops, one-stop, same-scan, same-stop}
 use Rattle.sg_grammar.specs.Grammar.{Grammar}
 use Rattle.sg_grammar.specs.Derives.{Token, Derives, plain}
-use Rattle.sg_grammar.specs.Numbered.{first_nonterminal, start_of, starts_of, grammar_of}
+use Rattle.sg_grammar.specs.Numbered.{level_number, start_of, starts_of, grammar_of}
 use Rattle.sg_lalr.specs.Tables.{View, IsTables, Decided}
 use Rattle.sg_machine.specs.Sentences as machine
 use Rattle.sg_machine.proofs.Derivations.{retold, one-result}
@@ -70,14 +70,14 @@ entry-there spec k l = by spec.entries k l
     by (x ∷ es) (suc j) l = by es j (omega (arith, l))
 
 -- the start production of an entry
-pub is-entry : (spec : Spec) (k : ℕ) → k < length spec.entries → machine.IsEntry (grammar_of spec) k (first_nonterminal spec + nonterminal_of spec k)
+pub is-entry : (spec : Spec) (k : ℕ) → k < length spec.entries → machine.IsEntry (grammar_of spec) k (level_number spec (nonterminal_of spec k) 0)
 is-entry spec k l =
     let x = entry-there spec k l in
     let named : nonterminal_of spec k ≡ x.0.nonterminal = ap (λ o. unwrap_or (option_map (λ (e : Entry). e.nonterminal) o) 0) x.1 in
     (start_of spec (0 + k) x.0, starts-at spec 0 spec.entries k x.0 x.1, same-right (0 + k) x.0.nonterminal (omega arith) (sym named))
   where
-    same-right : (j n : ℕ) → j ≡ k → n ≡ nonterminal_of spec k → suc j ∷ (first_nonterminal spec + n) ∷ [] ≡ suc k ∷ (first_nonterminal spec + nonterminal_of spec k) ∷ []
-    same-right j n e f = ap (λ z. suc z ∷ (first_nonterminal spec + n) ∷ []) e ∙ ap (λ z. suc k ∷ (first_nonterminal spec + z) ∷ []) f
+    same-right : (j n : ℕ) → j ≡ k → n ≡ nonterminal_of spec k → suc j ∷ level_number spec n 0 ∷ [] ≡ suc k ∷ level_number spec (nonterminal_of spec k) 0 ∷ []
+    same-right j n e f = ap (λ z. suc z ∷ level_number spec n 0 ∷ []) e ∙ ap (λ z. suc k ∷ level_number spec z 0 ∷ []) f
 
 module _ (spec : Spec) (sound : IsSound spec) where
   -- ---- tokens and pieces
@@ -99,29 +99,26 @@ module _ (spec : Spec) (sound : IsSound spec) where
 
   -- ---- sentences
 
-  number : ℕ → ℕ
-  number N = first_nonterminal spec + N
-
-  pub sentence-in : (N : ℕ) (ps : List InputPiece) → IsSentence spec N ps → machine.IsSentenceOf (grammar_of spec) (first_nonterminal spec + N) (map (token_for spec) ps)
+  pub sentence-in : (N : ℕ) (ps : List InputPiece) → IsSentence spec N ps → machine.IsSentenceOf (grammar_of spec) (level_number spec N 0) (map (token_for spec) ps)
   sentence-in N ps s =
       let d = numbers-derive spec sound N ps s.0 s.1 in
-      let p = retold (grammar_of spec) (results_of spec) plain ((first_nonterminal spec + N) ∷ []) (map (token_for spec) ps) ((s.0 ∷ []) ∷ []) d.0 d.1 in
+      let p = retold (grammar_of spec) (results_of spec) plain (level_number spec N 0 ∷ []) (map (token_for spec) ps) ((s.0 ∷ []) ∷ []) d.0 d.1 in
       (p.0, d.0, p.1)
 
-  pub sentence-out : (N : ℕ) (ts : List Token) → machine.IsSentenceOf (grammar_of spec) (first_nonterminal spec + N) ts → IsSentence spec N (map (piece_for spec) ts)
+  pub sentence-out : (N : ℕ) (ts : List Token) → machine.IsSentenceOf (grammar_of spec) (level_number spec N 0) ts → IsSentence spec N (map (piece_for spec) ts)
   sentence-out N ts s =
-      let p = retold (grammar_of spec) plain (results_of spec) ((first_nonterminal spec + N) ∷ []) ts s.0 s.1 s.2 in
-      let o = one-result (grammar_of spec) (results_of spec) (first_nonterminal spec + N) ts p.0 s.1 p.1 in
-      let d = nonterminal-derives spec sound N ts o.0 s.1 (subst (λ z. Derives (grammar_of spec) (results_of spec) ((first_nonterminal spec + N) ∷ []) ts z s.1) o.1 p.1) in
+      let p = retold (grammar_of spec) plain (results_of spec) (level_number spec N 0 ∷ []) ts s.0 s.1 s.2 in
+      let o = one-result (grammar_of spec) (results_of spec) (level_number spec N 0) ts p.0 s.1 p.1 in
+      let d = nonterminal-derives spec sound N ts o.0 s.1 (subst (λ z. Derives (grammar_of spec) (results_of spec) (level_number spec N 0 ∷ []) ts z s.1) o.1 p.1) in
       (d.0, d.2)
 
-  begins-in : (N : ℕ) (ps : List InputPiece) → BeginsSentence spec N ps → machine.BeginsSentence (grammar_of spec) (first_nonterminal spec + N) (map (token_for spec) ps)
-  begins-in N ps b = (map (token_for spec) b.0, subst (λ z. machine.IsSentenceOf (grammar_of spec) (first_nonterminal spec + N) z) (map-append (token_for spec) ps b.0) (sentence-in N (ps ++ b.0) b.1))
+  begins-in : (N : ℕ) (ps : List InputPiece) → BeginsSentence spec N ps → machine.BeginsSentence (grammar_of spec) (level_number spec N 0) (map (token_for spec) ps)
+  begins-in N ps b = (map (token_for spec) b.0, subst (λ z. machine.IsSentenceOf (grammar_of spec) (level_number spec N 0) z) (map-append (token_for spec) ps b.0) (sentence-in N (ps ++ b.0) b.1))
 
-  begins-out : (N : ℕ) (ts : List Token) → machine.BeginsSentence (grammar_of spec) (first_nonterminal spec + N) ts → BeginsSentence spec N (map (piece_for spec) ts)
+  begins-out : (N : ℕ) (ts : List Token) → machine.BeginsSentence (grammar_of spec) (level_number spec N 0) ts → BeginsSentence spec N (map (piece_for spec) ts)
   begins-out N ts b = (map (piece_for spec) b.0, subst (λ z. IsSentence spec N z) (map-append (piece_for spec) ts b.0) (sentence-out N (ts ++ b.0) b.1))
 
-  pub fails-out : (N : ℕ) (ts : List Token) (k : ℕ) → map (token_for spec) (map (piece_for spec) ts) ≡ ts → machine.FailsAt (grammar_of spec) (first_nonterminal spec + N) ts k → FailsAt spec N (map (piece_for spec) ts) k
+  pub fails-out : (N : ℕ) (ts : List Token) (k : ℕ) → map (token_for spec) (map (piece_for spec) ts) ≡ ts → machine.FailsAt (grammar_of spec) (level_number spec N 0) ts k → FailsAt spec N (map (piece_for spec) ts) k
   fails-out N ts k back f =
       let long = length-map ts (piece_for spec) in
       record {
@@ -130,18 +127,18 @@ module _ (spec : Spec) (sound : IsSound spec) where
         before = λ low b.
             let i = begins-in N (take (suc k) (map (piece_for spec) ts)) b in
             let front : map (token_for spec) (take (suc k) (map (piece_for spec) ts)) ≡ take (suc k) ts = sym (take-map (token_for spec) (suc k) (map (piece_for spec) ts)) ∙ ap (take (suc k)) back in
-            f.before (omega (arith, low, long)) (subst (λ z. machine.BeginsSentence (grammar_of spec) (first_nonterminal spec + N) z) front i);
-        at_end = λ e s. f.at_end (omega (arith, e, long)) (subst (λ z. machine.IsSentenceOf (grammar_of spec) (first_nonterminal spec + N) z) back (sentence-in N (map (piece_for spec) ts) s));
+            f.before (omega (arith, low, long)) (subst (λ z. machine.BeginsSentence (grammar_of spec) (level_number spec N 0) z) front i);
+        at_end = λ e s. f.at_end (omega (arith, e, long)) (subst (λ z. machine.IsSentenceOf (grammar_of spec) (level_number spec N 0) z) back (sentence-in N (map (piece_for spec) ts) s));
       }
 
   -- for the tokens of a text
-  pub text-fails : (N : ℕ) (text : Bytes) (ts : List InToken) (k : ℕ) → AreTokens spec text ts → machine.FailsAt (grammar_of spec) (first_nonterminal spec + N) (tokens_in text ts) k → FailsAt spec N (pieces_of spec text ts) k
+  pub text-fails : (N : ℕ) (text : Bytes) (ts : List InToken) (k : ℕ) → AreTokens spec text ts → machine.FailsAt (grammar_of spec) (level_number spec N 0) (tokens_in text ts) k → FailsAt spec N (pieces_of spec text ts) k
   text-fails N text ts k h f =
       let same = pieces-of-tokens text ts in
       let back = ap (map (token_for spec)) same ∙ tokens-of-pieces text ts h in
       subst (λ z. FailsAt spec N z k) same (fails-out N (tokens_in text ts) k back f)
 
-  pub text-derives : (N : ℕ) (text : Bytes) (ts : List InToken) (b : List Value) (n : ℕ) → Derives (grammar_of spec) (results_of spec) ((first_nonterminal spec + N) ∷ []) (tokens_in text ts) (b ∷ []) n → (v : Value) × (b ≡ v ∷ []) × derives spec N (pieces_of spec text ts) v
+  pub text-derives : (N : ℕ) (text : Bytes) (ts : List InToken) (b : List Value) (n : ℕ) → Derives (grammar_of spec) (results_of spec) (level_number spec N 0 ∷ []) (tokens_in text ts) (b ∷ []) n → (v : Value) × (b ≡ v ∷ []) × derives spec N (pieces_of spec text ts) v
   text-derives N text ts b n d =
       let r = nonterminal-derives spec sound N (tokens_in text ts) b n d in
       (r.0, r.1, subst (λ z. derives spec N z r.0) (pieces-of-tokens text ts) r.2)
@@ -152,16 +149,16 @@ module _ (spec : Spec) (sound : IsSound spec) where
   same-value v w e = cc
 
   module _ (t : View) (same : t.grammar ≡ grammar_of spec) (tables : IsTables t) (m : Decided t) where
-    pub entry-of-tables : (k : ℕ) → k < length spec.entries → machine.IsEntry t.grammar k (first_nonterminal spec + nonterminal_of spec k)
-    entry-of-tables k l = subst (λ g. machine.IsEntry g k (first_nonterminal spec + nonterminal_of spec k)) (sym same) (is-entry spec k l)
+    pub entry-of-tables : (k : ℕ) → k < length spec.entries → machine.IsEntry t.grammar k (level_number spec (nonterminal_of spec k) 0)
+    entry-of-tables k l = subst (λ g. machine.IsEntry g k (level_number spec (nonterminal_of spec k) 0)) (sym same) (is-entry spec k l)
 
     pub one-value : (k : ℕ) → k < length spec.entries → (ps : List InputPiece) (v w : Value) → derives spec (nonterminal_of spec k) ps v → derives spec (nonterminal_of spec k) ps w → v ≡ w
     one-value k l ps v w d e =
         let N = nonterminal_of spec k in
         let x = numbers-derive spec sound N ps v d in
         let y = numbers-derive spec sound N ps w e in
-        let D = λ (g : Grammar) (b : List Value) (n : ℕ). Derives g (results_of spec) ((first_nonterminal spec + N) ∷ []) (map (token_for spec) ps) (b ∷ []) n in
-        let o = one-derivation t tables m (results_of spec) k (first_nonterminal spec + N) (entry-of-tables k l) [] (map (token_for spec) ps) (v ∷ []) (w ∷ []) x.0 y.0
+        let D = λ (g : Grammar) (b : List Value) (n : ℕ). Derives g (results_of spec) (level_number spec N 0 ∷ []) (map (token_for spec) ps) (b ∷ []) n in
+        let o = one-derivation t tables m (results_of spec) k (level_number spec N 0) (entry-of-tables k l) [] (map (token_for spec) ps) (v ∷ []) (w ∷ []) x.0 y.0
         (subst (λ g. D g (v ∷ []) x.0) (sym same) x.1) (subst (λ g. D g (w ∷ []) y.0) (sym same) y.1) in
         same-value v w o.0
 

@@ -4,22 +4,25 @@ use Rattle.std.specs.Prelude.{IfNone, IfSome, IsSome, OnOk, Result, Ok, Err, Opt
 use Rattle.std.proofs.lemmas.Bool.{cases_lt}
 use Rattle.std.proofs.lemmas.List.{append-nil, length-append, length-map, length-drop, take-append-drop}
 use Rattle.std.proofs.lemmas.List.Elements.{All-nil, All-append, All-cons, All-head, All-tail, All-take, All-drop}
-use Rattle.std.proofs.lemmas.Option.{slice_get_within, none-some, same_Some, slice_get-get_or, slice_get_past}
+use Rattle.std.proofs.lemmas.Option.{slice_get_within, none-some, same_Some, slice_get_past}
 use Rattle.sg_kinds.specs.Values.{Bytes, Value, Chars}
 use Rattle.sg_kinds.specs.Evaluation.{untyped}
 use Rattle.sg_kinds.specs.Outcome.{outcome_of}
 use Rattle.sg_kinds.specs.Sound.{IsSound}
-use Rattle.sg_input.specs.Derivation.{derives}
+use Rattle.sg_prec.specs.WellGrouped.{derives}
 use Rattle.sg_kinds.specs.declared.spec.Spec.{Spec}
 use Rattle.sg_pool.specs.Pools.{value_at, IsGrown, StandsFor}
 use Rattle.sg_patterns.specs.declared.scanning.InToken.{InToken}
+use Rattle.sg_prec.specs.Spread.{spread_of}
+use Rattle.sg_prec.specs.declared.productions.Spread.{Spread}
+use Rattle.sg_prec.proofs.Spreads.{spread_cases}
 use Rattle.sg_grammar.specs.Grammar.{Grammar, right_of, symbol_at}
 use Rattle.sg_grammar.specs.WellFormed.{IsWellFormed, IsRule, IsStart, AreBetween}
 use Rattle.sg_grammar.specs.declared.grammar.Made.{Made}
 use Rattle.sg_grammar.specs.declared.grammar.Made.TheVariants.{Outcome, Same}
 use Rattle.sg_grammar.specs.declared.grammar.Production.{Production}
 use Rattle.sg_grammar.specs.Derives.{Token, Derives}
-use Rattle.sg_grammar.specs.Numbered.{first_lexeme, first_nonterminal, grammar_of}
+use Rattle.sg_grammar.specs.Numbered.{first_lexeme, first_nonterminal, level_number, made_by, grammar_of}
 use Rattle.sg_lalr.specs.declared.table.Action.TheVariants.{Shift, Accept, Stop}
 use Rattle.sg_lalr.specs.Tables.{View, IsTables, IsAction}
 use Rattle.sg_machine.specs.Machine.{look}
@@ -35,7 +38,7 @@ use Rattle.sg_input.specs.Entered.{nonterminal_of}
 use Rattle.sg_input.specs.Results.{token_in, tokens_in, made_of, results_of}
 use Rattle.sg_input.specs.Driven.{Driven}
 use Rattle.sg_input.proofs.Symbols.{lt-true, lt-false}
-use Rattle.sg_input.proofs.Bridge.{map-append, at-map, rule-at}
+use Rattle.sg_input.proofs.Bridge.{map-append, at-map, contains-at, rule-at}
 use Rattle.sg_input.proofs.Reading.{tokens-fit, text-fails, text-derives}
 use Rattle.sg_input.proofs.Driving.{driven-shift, driven-stop, driven-accept}
 
@@ -215,8 +218,8 @@ module _ (spec : Spec) (sound : IsSound spec) (v : View) (same : v.grammar ≡ g
         let ts = tokens_in text tokens in
         let f = driven-stop spec sound v same tables entry within (take at ts) (look (drop at ts)) states ids pool D (drop at ts) refl (low-terminal at) s is act in
         let long : length (take at ts) ≡ at = take-long ts at (let m = length-map tokens (token_in text) in omega (arith, m, inside)) in
-        let f1 = subst (λ z. machine.FailsAt (grammar_of spec) (first_nonterminal spec + N) z (length (take at ts))) (take-append-drop at ts) f in
-        text-fails spec sound N text tokens at are (subst (λ n. machine.FailsAt (grammar_of spec) (first_nonterminal spec + N) ts n) long f1)
+        let f1 = subst (λ z. machine.FailsAt (grammar_of spec) (level_number spec N 0) z (length (take at ts))) (take-append-drop at ts) f in
+        text-fails spec sound N text tokens at are (subst (λ n. machine.FailsAt (grammar_of spec) (level_number spec N 0) ts n) long f1)
 
     pub accepted : (s : ℕ) → s ≡ get_or states (length states - 1) 0 → IsAction v s (look (drop at (tokens_in text tokens))) Accept → (w : Value) × (map (value_at pool) ids ≡ w ∷ []) × derives spec (nonterminal_of spec entry) (pieces_of spec text tokens) w
     accepted s is act =
@@ -233,7 +236,7 @@ module _ (spec : Spec) (sound : IsSound spec) (v : View) (same : v.grammar ≡ g
           | inr p ↦ p
         ] in
         let whole : take at ts ≡ ts = take-none ts at (let m = length-map tokens (token_in text) in omega (arith, m, past)) in
-        let d = text-derives spec sound N text tokens a.1 a.0 (subst (λ z. Derives (grammar_of spec) (results_of spec) ((first_nonterminal spec + N) ∷ []) z (a.1 ∷ []) a.0) whole a.2) in
+        let d = text-derives spec sound N text tokens a.1 a.0 (subst (λ z. Derives (grammar_of spec) (results_of spec) (level_number spec N 0 ∷ []) z (a.1 ∷ []) a.0) whole a.2) in
         (d.0, a.3 ∙ d.1, d.2)
 
   -- ---- what a production needs
@@ -246,7 +249,11 @@ module _ (spec : Spec) (sound : IsSound spec) (v : View) (same : v.grammar ≡ g
 
   pub rule-applied : (p : ℕ) (r : Production) → slice_get v.grammar.rules p ≡ Some r → (e : ℕ) → r.made ≡ Outcome e → IsApplied spec e
   rule-applied p r at e is =
-      let q = rule-at spec sound p r (subst (λ (g : Grammar). slice_get g.rules p ≡ Some r) same at) in
-      let same : q.0.expr ≡ e = same-outcome q.0.expr e (sym (ap (λ (z : Production). z.made) q.2) ∙ is) in
-      let low = slice_get_within spec.productions p q.0 q.1 in
-      inr (p, q.0, low, same_Some (get_or spec.productions p q.0) q.0 (sym (slice_get-get_or spec.productions p q.0 low) ∙ q.1), same)
+      let q = rule-at spec p r (subst (λ (g : Grammar). slice_get g.rules p ≡ Some r) same at) in
+      let made : made_by q.0.from ≡ Outcome e = sym (ap (λ (z : Production). z.made) q.2) ∙ is in
+      elim (spread_cases spec.levels spec.productions q.0 (contains-at (spread_of spec.levels spec.productions) p q.0 q.1)) [
+        | inl (w, there, rule) ↦
+            let whole : Outcome w.expr ≡ Outcome e = ap (λ (z : Spread). made_by z.from) rule ∙ made in
+            inr (there.0, w, there.1, there.2, same-outcome w.expr e whole)
+        | inr (N, i, low, step) ↦ let no : Same ≡ Outcome e = ap (λ (z : Spread). made_by z.from) step ∙ made in absurd (cc)
+      ]

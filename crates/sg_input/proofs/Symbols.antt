@@ -1,13 +1,13 @@
 -- The symbols of the productions of a sound specification and their numbers tell each other.
-use Rattle.std.proofs.Common.{◌≡◌, ℕ, zero, suc, ◌+◌, ◌-◌, ◌<◌, ◌≤◌, ◌⊎◌, inl, inr, Bool, true, false, not, cond, ◌||◌, List, [], ◌∷◌, ◌++◌, length, get_or, refl, sym, ap, ◌∙◌, subst, arith, Some, None}
+use Rattle.std.proofs.Common.{◌≡◌, ℕ, zero, suc, ◌+◌, ◌-◌, ◌<◌, ◌≤◌, ◌⊎◌, inl, inr, Bool, true, false, not, cond, ◌||◌, List, [], ◌∷◌, ◌++◌, length, get_or, map, refl, sym, ap, ◌∙◌, subst, arith, Some, None}
 use Rattle.std.specs.Prelude.{Option, slice_get, option_map, unwrap_or, nat_lt, nat_eq, bytes_eq, All, Contains, MatchOption, IsTrue, ◌&&◌, option_and_then}
 use Rattle.std.specs.List.{position_or_len, list_any, flat_map}
-use Rattle.std.proofs.lemmas.Bool.{cases_Bool}
+use Rattle.std.proofs.lemmas.Bool.{cases_Bool, and_parts, eqb-true}
 use Rattle.std.proofs.lemmas.List.{length-append}
-use Rattle.std.proofs.lemmas.List.Elements.{All-contains, All-cons, All-nil}
+use Rattle.std.proofs.lemmas.List.Elements.{All-contains, All-cons, All-nil, All-head, All-tail}
 use Rattle.std.proofs.lemmas.List.Folds.{position_or_len_push}
 use Rattle.std.proofs.lemmas.List.Sums.{passes_at_first}
-use Rattle.std.proofs.lemmas.Option.{same_Some, none-some, slice_get_within}
+use Rattle.std.proofs.lemmas.Option.{same_Some, none-some, slice_get_within, slice_get-get_or}
 use Rattle.std.proofs.lemmas.Slice.Eq.{bytes_eq-Decides}
 use Rattle.sg_kinds.specs.Values.{Bytes}
 use Rattle.sg_kinds.specs.Instances.{below}
@@ -22,6 +22,14 @@ use Rattle.sg_kinds.specs.declared.spec.Production.{Production}
 use Rattle.sg_kinds.specs.declared.spec.Spec.{Spec}
 use Rattle.sg_kinds.specs.declared.spec.Symbol.{Symbol}
 use Rattle.sg_kinds.specs.declared.spec.Symbol.TheVariants.{Quoted, Lexical, Nonterminal}
+use Rattle.sg_prec.specs.Precedence.{line_with, literal_between, infix_line, groups_left, groups_right, is_before_itself}
+use Rattle.sg_prec.specs.Levels.{height, rank}
+use Rattle.sg_prec.specs.Spread.{lowered, first_at, last_at, spread_right, spread_of}
+use Rattle.sg_prec.specs.declared.productions.LevelSymbol.{LevelSymbol}
+use Rattle.sg_prec.specs.declared.productions.LevelSymbol.TheVariants as level
+use Rattle.sg_prec.specs.declared.productions.Spread.{Spread}
+use Rattle.sg_prec.proofs.Ranks.{IsLine, line_known, level_high, rank_low}
+use Rattle.sg_prec.proofs.Spreads.{spread_cases}
 use Rattle.sg_patterns.specs.Lexemes.{with_text, literals_in, literals_over, literals_of}
 use Rattle.sg_grammar.specs.Numbered.{first_literal, first_lexeme, first_nonterminal, lexeme_number, symbol_number}
 use Rattle.sg_eval.proofs.TypeFacts.{there, cond_is}
@@ -372,3 +380,81 @@ module _ (spec : Spec) (sound : IsSound spec) where
   symbols-of n r at =
       let t = right-types n r at in
       typed-symbols r.right t.0 t.1 (λ k s e. literal-over s [] spec.productions n k r at e)
+
+  -- ---- the symbols of the spread grammar
+
+  -- a terminal of the productions, or a level that its nonterminal has
+  abbrev pub IsLevelSymbol : LevelSymbol → Type 0
+  IsLevelSymbol (level.Quoted s) = IsSymbol (Quoted s)
+  IsLevelSymbol (level.Lexical p) = IsSymbol (Lexical p)
+  IsLevelSymbol (level.Level N i) = i ≤ height spec.levels spec.productions N
+
+  lowered-fits : (X : Symbol) → IsSymbol X → IsLevelSymbol (lowered 0 X)
+  lowered-fits (Quoted s) h = h
+  lowered-fits (Lexical p) h = h
+  lowered-fits (Nonterminal N) h = omega arith
+
+  first-fits : (Xs : List Symbol) → All IsSymbol Xs → All IsLevelSymbol (map (lowered 0) Xs)
+  first-fits [] h = All-nil IsLevelSymbol
+  first-fits (X ∷ Xs) h = All-cons IsLevelSymbol (lowered 0 X) (map (lowered 0) Xs) (lowered-fits X (All-head IsSymbol X Xs h)) (first-fits Xs (All-tail IsSymbol X Xs h))
+
+  module _ (N : ℕ) where
+    operand-low : (same : Bool) (k : ℕ) → IsLine spec.levels spec.productions N k
+        → cond same (rank spec.levels spec.productions N k) (suc (rank spec.levels spec.productions N k)) ≤ height spec.levels spec.productions N
+    operand-low true k line = let low = rank_low spec.levels spec.productions N k line in omega (arith, low)
+    operand-low false k line = let low = rank_low spec.levels spec.productions N k line in omega (arith, low)
+
+    prefix-fits : (s : Bytes) (a : ℕ) → N ≡ a → All IsSymbol (Quoted s ∷ Nonterminal a ∷ []) → All IsLevelSymbol (map (lowered (height spec.levels spec.productions N)) (Quoted s ∷ Nonterminal a ∷ []))
+    prefix-fits s a is h =
+        let high = height spec.levels spec.productions N in
+        let same = ap (height spec.levels spec.productions) is in
+        All-cons IsLevelSymbol (level.Quoted s) (level.Level a high ∷ []) (All-head IsSymbol (Quoted s) (Nonterminal a ∷ []) h)
+        (All-cons IsLevelSymbol (level.Level a high) [] (omega (arith, same)) (All-nil IsLevelSymbol))
+
+    infix-fits : (s : Bytes) (a b k : ℕ) → N ≡ a → N ≡ b → IsLine spec.levels spec.productions N k → All IsSymbol (Nonterminal a ∷ Quoted s ∷ Nonterminal b ∷ [])
+        → All IsLevelSymbol (spread_right spec.levels spec.productions N (Some k) false (Nonterminal a ∷ Quoted s ∷ Nonterminal b ∷ []))
+    infix-fits s a b k is also line h =
+        let r = rank spec.levels spec.productions N k in
+        let i = first_at spec.levels k r in
+        let j = last_at spec.levels k r in
+        let first = subst (λ M. i ≤ height spec.levels spec.productions M) is (operand-low (groups_left spec.levels k) k line) in
+        let last = subst (λ M. j ≤ height spec.levels spec.productions M) also (operand-low (groups_right spec.levels k) k line) in
+        let middle = All-head IsSymbol (Quoted s) (Nonterminal b ∷ []) (All-tail IsSymbol (Nonterminal a) (Quoted s ∷ Nonterminal b ∷ []) h) in
+        All-cons IsLevelSymbol (level.Level a i) (level.Quoted s ∷ level.Level b j ∷ []) first
+        (All-cons IsLevelSymbol (level.Quoted s) (level.Level b j ∷ []) middle (All-cons IsLevelSymbol (level.Level b j) [] last (All-nil IsLevelSymbol)))
+
+    right-fits : (Xs : List Symbol) → All IsSymbol Xs → ((k : ℕ) → option_and_then (line_with spec.levels) (literal_between N Xs) ≡ Some k → IsLine spec.levels spec.productions N k)
+        → All IsLevelSymbol (spread_right spec.levels spec.productions N (option_and_then (line_with spec.levels) (literal_between N Xs)) (is_before_itself N Xs) Xs)
+    right-fits (Nonterminal a ∷ Quoted s ∷ Nonterminal b ∷ []) h own = either (nat_eq N a && nat_eq N b) refl
+      where
+        with-line : N ≡ a → N ≡ b → (o : Option ℕ) → ((k : ℕ) → o ≡ Some k → IsLine spec.levels spec.productions N k)
+            → All IsLevelSymbol (spread_right spec.levels spec.productions N o false (Nonterminal a ∷ Quoted s ∷ Nonterminal b ∷ []))
+        with-line is also None line = first-fits (Nonterminal a ∷ Quoted s ∷ Nonterminal b ∷ []) h
+        with-line is also (Some k) line = infix-fits s a b k is also (line k refl) h
+
+        either : (c : Bool) → (nat_eq N a && nat_eq N b) ≡ c
+            → All IsLevelSymbol (spread_right spec.levels spec.productions N (option_and_then (line_with spec.levels) (cond c (Some s) None)) false (Nonterminal a ∷ Quoted s ∷ Nonterminal b ∷ []))
+        either false e = first-fits (Nonterminal a ∷ Quoted s ∷ Nonterminal b ∷ []) h
+        either true e =
+            let both = and_parts (nat_eq N a) (nat_eq N b) e in
+            with-line (eqb-true N a both.0) (eqb-true N b both.1) (line_with spec.levels s) (λ k at. own k (ap (λ c. option_and_then (line_with spec.levels) (cond c (Some s) None)) e ∙ at))
+    right-fits (Quoted s ∷ Nonterminal a ∷ []) h own = either (nat_eq N a) refl
+      where
+        either : (c : Bool) → nat_eq N a ≡ c → All IsLevelSymbol (spread_right spec.levels spec.productions N None c (Quoted s ∷ Nonterminal a ∷ []))
+        either false e = first-fits (Quoted s ∷ Nonterminal a ∷ []) h
+        either true e = prefix-fits s a (eqb-true N a e) h
+    right-fits Xs h own = first-fits Xs h
+
+  pub spread-symbols : (x : Spread) → Contains (spread_of spec.levels spec.productions) x → All IsLevelSymbol x.right
+  spread-symbols x has = elim (spread_cases spec.levels spec.productions x has) [
+    | inl (r, there, is) ↦
+        let at = slice_get-get_or spec.productions there.0 r there.1 ∙ ap Some there.2 in
+        subst (λ (z : Spread). All IsLevelSymbol z.right) is (right-fits r.left r.right (symbols-of there.0 r at) (line_known spec.levels spec.productions r there))
+    | inr (N, i, low, is) ↦ subst (λ (z : Spread). All IsLevelSymbol z.right) is (All-cons IsLevelSymbol (level.Level N (suc i)) [] (omega (arith, low)) (All-nil IsLevelSymbol))
+  ]
+
+  pub spread-level : (x : Spread) → Contains (spread_of spec.levels spec.productions) x → x.level ≤ height spec.levels spec.productions x.left
+  spread-level x has = elim (spread_cases spec.levels spec.productions x has) [
+    | inl (r, there, is) ↦ subst (λ (z : Spread). z.level ≤ height spec.levels spec.productions z.left) is (level_high spec.levels spec.productions r.left (infix_line spec.levels r) (line_known spec.levels spec.productions r there))
+    | inr (N, i, low, is) ↦ subst (λ (z : Spread). z.level ≤ height spec.levels spec.productions z.left) is (omega (arith, low))
+  ]

@@ -1,8 +1,8 @@
 -- Each text becomes something, over a specification with tables.
-use Rattle.std.proofs.Common.{◌≡◌, ℕ, ◌+◌, ◌<◌, inl, inr, true, List, [], ◌∷◌, length, refl, sym, subst, Some, None}
+use Rattle.std.proofs.Common.{◌≡◌, ℕ, ◌<◌, inl, inr, true, List, [], ◌∷◌, length, refl, sym, subst, Some, None}
 use Rattle.std.specs.Prelude.{◌⊎◌, Option}
 use Rattle.sg_kinds.specs.Values.{Bytes, Value, Truth, Number, Chars, Tree, Fault, is_text}
-use Rattle.sg_input.specs.Derivation.{derives}
+use Rattle.sg_prec.specs.WellGrouped.{derives}
 use Rattle.sg_kinds.specs.Sound.{IsSound}
 use Rattle.sg_kinds.specs.declared.spec.Spec.{Spec}
 use Rattle.sg_patterns.specs.LexemesOf.{AreLexemesOf}
@@ -11,7 +11,7 @@ use Rattle.sg_patterns.specs.declared.scanning.InToken.{InToken}
 use Rattle.sg_patterns.proofs.ScanLaws.{text-scanned}
 use Rattle.sg_grammar.specs.Derives.{Derives}
 use Rattle.sg_grammar.specs.Grammar.{Grammar}
-use Rattle.sg_grammar.specs.Numbered.{first_nonterminal, grammar_of}
+use Rattle.sg_grammar.specs.Numbered.{level_number, grammar_of}
 use Rattle.sg_lalr.specs.Tables.{View, IsTables, Decided}
 use Rattle.sg_machine.specs.Sentences as machine
 use Rattle.sg_machine.proofs.Inputs.{each-answer}
@@ -45,7 +45,7 @@ module _ (spec : Spec) (sound : IsSound spec) (l : Lexemes) (of : AreLexemesOf s
   with-tokens : (ts : List InToken) → AreTokensOf spec text ts → AreTokens spec text ts → Read
   with-tokens ts are fit =
       let N = nonterminal_of spec entry in
-      let number = first_nonterminal spec + N in
+      let number = level_number spec N 0 in
       let xs = tokens_in text ts in
       let low = subst (λ (g : Grammar). machine.AreTokens g xs) (sym same) (tokens-fit spec sound text ts fit) in
       elim (each-answer t tables m (results_of spec) entry number (entry-of-tables spec sound t same tables m entry within) xs low) [

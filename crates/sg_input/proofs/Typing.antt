@@ -17,7 +17,7 @@ use Rattle.sg_kinds.specs.Sound.{IsSound, symbol_type, symbol_types, result_type
 use Rattle.sg_kinds.specs.Specification.{has_shape, is_lexical_shape}
 use Rattle.sg_kinds.specs.Typing.{is_usable, is_accepted}
 use Rattle.sg_kinds.specs.InputPieces.{InputPiece}
-use Rattle.sg_input.specs.Derivation.{Derives, nothing, literal, lexeme, under, derives}
+use Rattle.sg_prec.specs.WellGrouped.{Derives, nothing, literal, lexeme, under, derives}
 use Rattle.sg_kinds.specs.declared.marks.Shape.{Shape}
 use Rattle.sg_kinds.specs.declared.marks.Shape.TheVariants as shape
 use Rattle.sg_kinds.specs.declared.spec.Entry.{Entry}
@@ -151,29 +151,29 @@ module _ (spec : Spec) (sound : IsSound spec) (text : Bytes) where
   typed-onto p v ps qs G vs first all t ts = subst (λ g. AreOfTypes spec g (v ∷ vs)) (ap (λ z. z ++ qs) first ∙ all) (t, ts)
 
   -- the values of a string are of the types of its symbols
-  pub typed : (Ys : List Symbol) (ps : List InputPiece) (vs : List Value) (n : ℕ) → Derives spec Ys ps vs n → All IsFit ps → (G : List ℕ) → symbol_types spec Ys ≡ Some G → AreOfTypes spec G vs
-  typed _ _ _ _ nothing h G e = subst (λ g. AreOfTypes spec g []) (same_Some [] G e) tt
-  typed _ _ _ _ (literal s t Xs ts vs n d) h G e =
+  pub typed : (Ys : List Symbol) (ps : List InputPiece) (vs : List Value) (bs : List (Option Production)) (n : ℕ) → Derives spec Ys ps vs bs n → All IsFit ps → (G : List ℕ) → symbol_types spec Ys ≡ Some G → AreOfTypes spec G vs
+  typed _ _ _ _ _ nothing h G e = subst (λ g. AreOfTypes spec g []) (same_Some [] G e) tt
+  typed _ _ _ _ _ (literal s t Xs ts vs bs n d) h G e =
       let two = both-types spec sound (Quoted s) Xs G e in
       let none : [] ≡ two.0 = same_Some [] two.0 two.1 in
-      subst (λ g. AreOfTypes spec g vs) (ap (λ z. z ++ two.2) none ∙ two.4) (typed Xs ts vs n d (All-tail IsFit (record { terminal = Quoted s; text = t }) ts h) two.2 two.3)
-  typed _ _ _ _ (lexeme p t Xs ts vs n d) h G e =
+      subst (λ g. AreOfTypes spec g vs) (ap (λ z. z ++ two.2) none ∙ two.4) (typed Xs ts vs bs n d (All-tail IsFit (record { terminal = Quoted s; text = t }) ts h) two.2 two.3)
+  typed _ _ _ _ _ (lexeme p t Xs ts vs bs n d) h G e =
       let two = both-types spec sound (Lexical p) Xs G e in
       let x : InputPiece = record { terminal = Lexical p; text = t } in
       let one = lexical-typed p t two.0 two.1 (All-head IsFit x ts h p refl) in
-      typed-onto p (Chars t) two.0 two.2 G vs one.0 two.4 one.1 (typed Xs ts vs n d (All-tail IsFit x ts h) two.2 two.3)
-  typed _ _ _ _ (under r Xs us ts all ws vs m n k c d f split count) h G e =
+      typed-onto p (Chars t) two.0 two.2 G vs one.0 two.4 one.1 (typed Xs ts vs bs n d (All-tail IsFit x ts h) two.2 two.3)
+  typed _ _ _ _ _ (under r Xs us ts all ws vs below bs m n k c g d f split count) h G e =
       let two = both-types spec sound (Nonterminal r.left) Xs G e in
       let q = at-contains spec.productions r c in
       let pieces = subst (All IsFit) split h in
       let right = right-types spec sound q.0 r q.1 in
-      let inner = typed r.right us ws m d (all-front IsFit us ts pieces) right.0 right.1 in
+      let inner = typed r.right us ws below m d (all-front IsFit us ts pieces) right.0 right.1 in
       let result = (All-contains (λ (s : Production). (result_type spec s.left ≡ Some s.of) × IsTrue (is_usable spec s.of)) spec.productions r sound.typed.results c).0 in
       typed-onto r.of (outcome_of spec r.expr ws) two.0 two.2 G vs (nonterminal-typed r.left r.of two.0 result two.1) two.4
-      (production_typed spec sound q.0 r q.1 right.0 ws right.1 inner) (typed Xs ts vs n f (all-back IsFit us ts pieces) two.2 two.3)
+      (production_typed spec sound q.0 r q.1 right.0 ws right.1 inner) (typed Xs ts vs bs n f (all-back IsFit us ts pieces) two.2 two.3)
 
   result-typed : (N p : ℕ) (ps : List InputPiece) (v : Value) → derives spec N ps v → All IsFit ps → result_type spec N ≡ Some p → IsOfType spec p v
-  result-typed N p ps v d h e = (typed (Nonterminal N ∷ []) ps (v ∷ []) d.0 d.1 h (p ∷ []) (ap (λ o. option_map (λ qs. qs ++ []) (option_map (λ q. q ∷ []) o)) e)).0
+  result-typed N p ps v d h e = (typed (Nonterminal N ∷ []) ps (v ∷ []) d.0 d.1 d.2 h (p ∷ []) (ap (λ o. option_map (λ qs. qs ++ []) (option_map (λ q. q ∷ []) o)) e)).0
 
   -- what an entry gives fits its phylum
   pub entry-fits : (entry : ℕ) (x : Entry) → slice_get spec.entries entry ≡ Some x → (ps : List InputPiece) (v : Value) → derives spec x.nonterminal ps v → All IsFit ps → (IsFault v → ⊥) → Fits spec (plain spec v x.phylum) x.phylum

@@ -1,12 +1,12 @@
 -- The definitions on worked examples: sums of numbers, typed in from their one entry.
 use Rattle.std.proofs.Common.{◌≡◌, ℕ, zero, suc, ◌+◌, ◌<◌, ◌≤◌, List, [], ◌∷◌, ◌++◌, length, map, false, refl, sym, ap, ◌∙◌, subst, arith, Some, None}
-use Rattle.std.specs.Prelude.{pos, Contains}
+use Rattle.std.specs.Prelude.{Option, pos, Contains}
 use Rattle.std.proofs.lemmas.List.{length-append}
 use Rattle.sg_kinds.specs.Values.{Bytes, Value, Number, Chars, Tree, NoValue, AndValue}
 use Rattle.sg_kinds.specs.Matches.{none}
 use Rattle.sg_kinds.specs.Outcome.{outcome_of}
 use Rattle.sg_kinds.specs.InputPieces.{InputPiece}
-use Rattle.sg_input.specs.Derivation.{Derives, derives, nothing, literal, lexeme, under}
+use Rattle.sg_prec.specs.WellGrouped.{Derives, derives, nothing, literal, lexeme, under}
 use Rattle.sg_kinds.specs.declared.spec.Symbol.{Symbol}
 use Rattle.sg_kinds.specs.declared.spec.Symbol.TheVariants.{Quoted, Lexical, Nonterminal}
 use Rattle.sg_kinds.specs.declared.spec.Production.{Production}
@@ -68,12 +68,12 @@ terminals = map Literal (literals_of sums.productions) ++ map Pattern sums.lexem
 
 -- ---- the empty text, which is no sum
 
-some : (Xs : List Symbol) (ps : List InputPiece) (vs : List Value) (n : ℕ) → Derives sums Xs ps vs n → 0 < length Xs → 0 < length ps
-some _ _ _ _ nothing l = l
-some _ _ _ _ (literal s text Xs ts vs n d) l = omega arith
-some _ _ _ _ (lexeme k text Xs ts vs n d) l = omega arith
-some _ _ _ _ (under r Xs us ts all ws vs m n k has d e whole sum) l =
-    let i = some r.right us ws m d (right-there has) in
+some : (Xs : List Symbol) (ps : List InputPiece) (vs : List Value) (bs : List (Option Production)) (n : ℕ) → Derives sums Xs ps vs bs n → 0 < length Xs → 0 < length ps
+some _ _ _ _ _ nothing l = l
+some _ _ _ _ _ (literal s text Xs ts vs bs n d) l = omega arith
+some _ _ _ _ _ (lexeme k text Xs ts vs bs n d) l = omega arith
+some _ _ _ _ _ (under r Xs us ts all ws vs below bs m n k has grouped d e whole sum) l =
+    let i = some r.right us ws below m d (right-there has) in
     let j = length-append us ts in
     let w = ap length whole in
     omega (arith, i, j, w)
@@ -97,8 +97,10 @@ unfolding piece
 number text =
     let x = piece (Lexical 5) text ∷ [] in
     let v = outcome_of sums 5 (Chars text ∷ []) in
-    let term = under (production 1 (Lexical 5 ∷ []) 5) [] x [] x (Chars text ∷ []) [] 1 0 1 of_number (lexeme 5 text [] [] [] 0 nothing) nothing refl refl in
-    (3, under (production 0 (Nonterminal 1 ∷ []) 2) [] x [] x (v ∷ []) [] 2 0 2 of_term term nothing refl refl)
+    let one = production 1 (Lexical 5 ∷ []) 5 in
+    let sum = production 0 (Nonterminal 1 ∷ []) 2 in
+    let term = under one [] x [] x (Chars text ∷ []) [] (None ∷ []) [] 1 0 1 of_number refl (lexeme 5 text [] [] [] [] 0 nothing) nothing refl refl in
+    (Some sum ∷ [], 3, under sum [] x [] x (v ∷ []) [] (Some one ∷ []) [] 2 0 2 of_term refl term nothing refl refl)
 
 -- ---- one byte
 
@@ -153,7 +155,7 @@ module _ (l : Lexemes) (of : AreLexemesOf sums l) where
       within = omega arith;
       begins = (piece (Lexical 5) (52 ∷ []) ∷ [], (outcome_of sums 2 (outcome_of sums 5 (Chars (52 ∷ []) ∷ []) ∷ []), number (52 ∷ [])));
       before = λ l. absurd (omega (arith, l));
-      at_end = λ e d. absurd (let l = some (Nonterminal 0 ∷ []) [] (d.0 ∷ []) d.1.0 d.1.1 (omega arith) in omega (arith, l));
+      at_end = λ e d. absurd (let l = some (Nonterminal 0 ∷ []) [] (d.0 ∷ []) d.1.0 d.1.1 d.1.2 (omega arith) in omega (arith, l));
     },
     refl,
   )

@@ -1,7 +1,7 @@
 -- What becomes of a text that is typed in from an entry.
 use Rattle.std.specs.Prelude.{◌≡◌, ℕ, ◌<◌, List, Option, Some, not, length, option_map, unwrap_or, slice_get, nat_eq, position, IsTrue}
 use Rattle.sg_kinds.specs.Values.{Bytes, Value, Fault, is_text, is_text_byte}
-use Rattle.sg_input.specs.Derivation.{derives}
+use Rattle.sg_prec.specs.WellGrouped.{derives}
 use Rattle.sg_kinds.specs.declared.marks.FaultKind.{FaultKind}
 use Rattle.sg_kinds.specs.declared.spec.Entry.{Entry}
 use Rattle.sg_kinds.specs.declared.spec.Spec.{Spec}

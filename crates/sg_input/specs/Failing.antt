@@ -1,7 +1,7 @@
 -- Where the pieces of a text fail to be a sentence of a nonterminal.
 use Rattle.std.specs.Prelude.{◌≡◌, ℕ, suc, ◌<◌, ◌≤◌, List, ◌++◌, length, take}
 use Rattle.sg_kinds.specs.InputPieces.{InputPiece}
-use Rattle.sg_input.specs.Derivation.{IsSentence}
+use Rattle.sg_prec.specs.WellGrouped.{IsSentence}
 use Rattle.sg_kinds.specs.declared.spec.Spec.{Spec}
 
 -- the nonterminal derives the pieces and some behind them

@@ -1,6 +1,6 @@
-pub mod Derivation
 pub mod Pieces
 pub mod Failing
+pub mod Unproductive
 pub mod Entered
 pub mod Results
 pub mod Parsed

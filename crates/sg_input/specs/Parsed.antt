@@ -2,7 +2,7 @@
 use Rattle.std.specs.Prelude.{◌≡◌, ℕ, List, Option, Some, None, Result, Ok, Err, ⊤}
 use Rattle.sg_kinds.specs.Values.{Bytes, Value, Fault}
 use Rattle.sg_kinds.specs.InputPieces.{InputPiece}
-use Rattle.sg_input.specs.Derivation.{derives}
+use Rattle.sg_prec.specs.WellGrouped.{derives}
 use Rattle.sg_kinds.specs.declared.spec.Spec.{Spec}
 use Rattle.sg_patterns.specs.Scan.{StopsAt}
 use Rattle.sg_patterns.specs.declared.lexemes.Lexemes.{Lexemes}

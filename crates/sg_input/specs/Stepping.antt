@@ -1,7 +1,7 @@
 -- What a step of the parser comes to.
 use Rattle.std.specs.Prelude.{◌≡◌, ℕ, ◌<◌, ◌≤◌, List, [], ◌∷◌, length, map, All}
 use Rattle.sg_kinds.specs.Values.{Value}
-use Rattle.sg_input.specs.Derivation.{derives}
+use Rattle.sg_prec.specs.WellGrouped.{derives}
 use Rattle.sg_pool.specs.Pools.{value_at}
 use Rattle.sg_input.specs.declared.stacks.Reading.{Reading}
 use Rattle.sg_input.specs.declared.stacks.Step.{Step}

@@ -1,6 +1,6 @@
 //! The parser over tables.
 ghost use Rattle.std.specs.Prelude.{◌≡◌, ◌<◌, IfOk, IfErr, MatchResult, length};
-ghost use Rattle.sg_input.specs.Derivation.{derives};
+ghost use Rattle.sg_prec.specs.WellGrouped.{derives};
 ghost use Rattle.sg_kinds.specs.Sound.{IsSound};
 ghost use Rattle.sg_kinds.specs.Values.{Value as IsValue};
 ghost use Rattle.sg_grammar.specs.Numbered.{grammar_of};
@@ -87,13 +87,13 @@ fn parsed(reading: &Reading) -> Result<Value, InputFault>
     Err(InputFault::NoMemory)
 }
 
-/// The value that the nonterminal of an entry derives from the tokens of a text. `entry` is a place among the entries
-/// of the specification. The answers exclude each other: the value comes exactly where the tokens are a sentence and
-/// its result is no fault, `Outcome` exactly where it is that fault, and `At` exactly where the tokens fail there,
-/// whatever faults came before.
+/// The value that the nonterminal of an entry derives, grouped as precedence lines say, from the tokens of a text.
+/// `entry` is a place among the entries of the specification. The answers exclude each other: the value comes exactly
+/// where the tokens are a sentence and its result is no fault, `Outcome` exactly where it is that fault, and `At`
+/// exactly where the tokens fail there, whatever faults came before.
 ///
-/// It is linear in the tokens and the productions of the derivation. No value is copied but the answer, and equal
-/// values are kept once.
+/// It is linear in the tokens and the productions of the derivation, with the steps between their levels. No value is
+/// copied but the answer, and equal values are kept once.
 pub fn parse(
     alloc: Global,
     t: &Tables,

@@ -1,2 +1,4 @@
 pub mod VertexLaws
 pub mod SymbolLaws
+pub mod StepPlaces
+pub mod LevelNames

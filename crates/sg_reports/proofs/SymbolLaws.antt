@@ -1,5 +1,5 @@
 -- The symbols of the grammar are printed as they are written.
-use Rattle.std.specs.Prelude.{◌≡◌, ℕ, zero, suc, ◌+◌, ◌-◌, ◌<◌, ◌≤◌, Bool, true, false, cond, not, if◌then◌else◌, ◌↔◌, List, [], ◌∷◌, ◌++◌, map, take, flat_map, length, bytes_eq, Contains, All, Some, slice_get, option_map, unwrap_or}
+use Rattle.std.specs.Prelude.{◌≡◌, ℕ, zero, suc, ◌+◌, ◌-◌, ◌<◌, ◌≤◌, Bool, true, false, cond, not, if◌then◌else◌, ◌↔◌, List, [], ◌∷◌, ◌++◌, map, take, flat_map, length, bytes_eq, Contains, All, Some, Result, Ok, Err, OnOk, slice_get, option_map, unwrap_or}
 use Rattle.std.specs.List.{position_or_len}
 use Rattle.std.proofs.Common.{refl, sym, ap, ◌∙◌, subst, get_or, arith, inl, inr}
 use Rattle.std.proofs.lemmas.Bool.{cases_lt, cases_eq, eq-eqb, ne_eqb, lt-ltb}
@@ -13,18 +13,22 @@ use Rattle.sg_kinds.specs.Instances.{below}
 use Rattle.sg_kinds.specs.Sound.{HasShapes, HasNames, IsNumbered, IsNamed, lexeme_place}
 use Rattle.sg_kinds.specs.declared.marks.Shape.{Shape}
 use Rattle.sg_kinds.specs.declared.marks.Shape.TheVariants.{Lexemes}
+use Rattle.sg_kinds.specs.declared.spec.LevelLine.{LevelLine}
 use Rattle.sg_kinds.specs.declared.spec.Phylum.{Phylum}
 use Rattle.sg_kinds.specs.declared.spec.Production.{Production}
-use Rattle.sg_kinds.specs.declared.spec.Symbol.TheVariants.{Quoted, Lexical, Nonterminal}
+use Rattle.sg_kinds.specs.declared.spec.Symbol.TheVariants.{Quoted, Lexical}
 use Rattle.sg_kinds.specs.declared.spec.Entry.{Entry}
 use Rattle.sg_kinds.specs.declared.spec.Spec.{Spec}
 use Rattle.sg_kinds.specs.declared.fault.PrintedSymbol.{PrintedSymbol}
 use Rattle.sg_kinds.specs.declared.fault.PrintedSymbol.TheVariants.{End, Marker, Literal, Name}
 use Rattle.sg_kinds.proofs.Elementary.{slice_get-seam}
 use Rattle.sg_patterns.specs.Lexemes.{literals_of}
-use Rattle.sg_grammar.specs.Numbered.{first_literal, first_lexeme, first_nonterminal, lexeme_number, symbol_number}
-use Rattle.sg_dependencies.proofs.Below.{length-below, get_or-below}
-use Rattle.sg_reports.specs.Symbols.{marker_of, lexeme_symbols, nonterminal_symbols, printed_symbols, symbol_in}
+use Rattle.sg_prec.specs.Levels.{lines_of, height, levels_before, levels_of, row_at}
+use Rattle.sg_prec.proofs.RisingRows.{row_of_levels}
+use Rattle.sg_grammar.specs.Numbered.{first_literal, first_lexeme, first_nonterminal, level_number, lexeme_number, symbol_number}
+use Rattle.sg_grammar.proofs.LevelNumbers.{before_rises}
+use Rattle.sg_dependencies.proofs.Below.{length-below, get_or-below, length-map-below, get_or-map-below}
+use Rattle.sg_reports.specs.Symbols.{marker_of, lexeme_symbols, level_name, level_symbols, nonterminal_symbols, symbols_named, printed_symbols, symbol_in, name_of, written_name}
 use Rattle.sg_reports.proofs.VertexLaws.{mapped_there}
 
 -- the first of the texts that is a text
@@ -109,59 +113,108 @@ lefts_under front x n m up low under k there = elim (Contains-append_cases (left
     only (zero, l, e) = omega (arith, e, low)
     only (suc j, l, e) = absurd (omega (arith, l))
 
-abbrev next_symbol : Bool → Production → List PrintedSymbol → List PrintedSymbol → List PrintedSymbol
-next_symbol b x next rest = if b then Name x.name ∷ next else rest
-
 in_list : (rs : List Production) (j : ℕ) (r : Production) → slice_get rs j ≡ Some r → Contains rs r
 in_list rs j r at = (j, slice_get_within rs j r at, get_or_from_slice_get rs j r r at)
 
 in_rest : (x : Production) (rest : List Production) (s : Production) → Contains rest s → Contains (x ∷ rest) s
 in_rest x rest s (k, low, is) = (suc k, omega (arith, low), is)
 
--- the symbol of r stands as far behind as there are numbers between
-abbrev IsSymbolAt : List PrintedSymbol → ℕ → Production → Type 0
-IsSymbolAt symbols k r = (k < length symbols) × (get_or symbols k End ≡ Name r.name)
-
 -- productions of one left side have one name
 abbrev AreNamed : List Production → Type 0
 AreNamed rest = (s t : Production) → Contains rest s → Contains rest t → s.left ≡ t.left → s.name ≡ t.name
 
--- the symbol of a nonterminal is that of its first production
-nonterminal_there : (front rest : List Production) (n j : ℕ) (r : Production) → IsNumbered (front ++ rest) → ((k : ℕ) → Contains (lefts front) k → k < n)
-    → AreNamed rest → slice_get rest j ≡ Some r → n ≤ r.left → IsSymbolAt (nonterminal_symbols n rest) (r.left - n) r
-nonterminal_there front [] n j r numbered under named at low = absurd (none-some r at)
-nonterminal_there front (x ∷ rest) n j r numbered under named at low =
-    elim (cases_eq x.left n) [
-      | inl new ↦ subst (λ b. IsSymbolAt (next_symbol b x (nonterminal_symbols (suc n) rest) (nonterminal_symbols n rest)) (r.left - n) r) (sym (eq-eqb x.left n new)) (
-          elim (cases_eq r.left n) [
-            | inl same ↦
-                let none : r.left - n ≡ 0 = omega (arith, same) in
-                let name : x.name ≡ r.name = named x r (0, omega arith, refl) (in_list (x ∷ rest) j r at) (new ∙ sym same) in
-                (omega (arith, none), ap (λ k. get_or (Name x.name ∷ nonterminal_symbols (suc n) rest) k End) none ∙ ap Name name)
-            | inr other ↦
-                let past : suc n ≤ r.left = omega (arith, low, other) in
-                let more : r.left - n ≡ suc (r.left - suc n) = omega (arith, past) in
-                let later = later_place j at (λ e. let z = ap (λ (s : Production). s.left) e in omega (arith, z, new, past)) in
-                let h = nonterminal_there (front ++ x ∷ []) rest (suc n) later.0 r numbered_rest (lefts_under front x n (suc n) (omega arith) (omega (arith, new)) under) named_rest later.1 past in
-                (let l = h.0 in omega (arith, l, more), ap (λ k. get_or (Name x.name ∷ nonterminal_symbols (suc n) rest) k End) more ∙ h.1)
-          ])
-      | inr known ↦
-          let high = left_low front rest x n numbered under in
-          let below : x.left < n = omega (arith, high, known) in
-          let later = later_place j at (λ e. let z = ap (λ (s : Production). s.left) e in omega (arith, z, below, low)) in
-          subst (λ b. IsSymbolAt (next_symbol b x (nonterminal_symbols (suc n) rest) (nonterminal_symbols n rest)) (r.left - n) r) (sym (ne_eqb x.left n known))
-          (nonterminal_there (front ++ x ∷ []) rest n later.0 r numbered_rest (lefts_under front x n n (omega arith) below under) named_rest later.1 low)
-    ]
-  where
-    numbered_rest : IsNumbered ((front ++ x ∷ []) ++ rest)
-    numbered_rest = subst IsNumbered (sym (append_assoc front (x ∷ []) rest)) numbered
+module _ (told : Bool) (lines : List LevelLine) (ps : List Production) where
+  -- a level of r stands at a place
+  abbrev IsSymbolAt : List PrintedSymbol → ℕ → Production → ℕ → Type 0
+  IsSymbolAt symbols k r i = (k < length symbols) × (get_or symbols k End ≡ Name (level_name told r.name (height lines ps r.left) i))
 
-    named_rest : AreNamed rest
-    named_rest s t a b e = named s t (in_rest x rest s a) (in_rest x rest t b) e
+  abbrev symbols_from : ℕ → List Production → List PrintedSymbol
+  symbols_from n rs = nonterminal_symbols told (height lines ps) n rs
 
-    later_place : (i : ℕ) → slice_get (x ∷ rest) i ≡ Some r → (x ≡ r → ⊥) → (k : ℕ) × (slice_get rest k ≡ Some r)
-    later_place zero e other = absurd (other (same_Some x r e))
-    later_place (suc k) e other = (k, e)
+  abbrev own_symbols : Bytes → ℕ → List PrintedSymbol
+  own_symbols name n = level_symbols told name (height lines ps n)
+
+  own_long : (name : Bytes) (n : ℕ) → length (own_symbols name n) ≡ suc (height lines ps n)
+  unfolding level_symbols
+  own_long name n = length-map-below (λ i. Name (level_name told name (height lines ps n) i)) (suc (height lines ps n))
+
+  abbrev next_symbols : Bool → ℕ → Production → List Production → List PrintedSymbol
+  next_symbols b n x rest = if b then own_symbols x.name n ++ symbols_from (suc n) rest else symbols_from n rest
+
+  -- the levels of the nonterminal that comes next
+  own_there : (x r : Production) (rest : List Production) (n i k : ℕ) → x.name ≡ r.name → r.left ≡ n → i ≤ height lines ps r.left → levels_before lines ps n + k ≡ levels_before lines ps r.left + i
+      → IsSymbolAt (own_symbols x.name n ++ symbols_from (suc n) rest) k r i
+  unfolding level_symbols
+  own_there x r rest n i k name same low place =
+      let before = ap (levels_before lines ps) same in
+      let last = ap (height lines ps) same in
+      let at : k ≡ i = omega (arith, before, place) in
+      let long = own_long x.name n in
+      let whole = length-append (own_symbols x.name n) (symbols_from (suc n) rest) in
+      let inside : k < length (own_symbols x.name n) = omega (arith, long, at, low, last) in (
+        omega (arith, inside, whole),
+        get_or_append_left (own_symbols x.name n) (symbols_from (suc n) rest) End k inside
+            ∙ get_or-map-below (λ j. Name (level_name told x.name (height lines ps n) j)) (suc (height lines ps n)) k End (omega (arith, at, low, last))
+            ∙ (λ t. Name (level_name told (name t) (sym last t) (at t))),
+      )
+
+  -- those behind them
+  rest_there : (x r : Production) (rest : List Production) (n i k : ℕ) → suc (height lines ps n) ≤ k → IsSymbolAt (symbols_from (suc n) rest) (k - suc (height lines ps n)) r i
+      → IsSymbolAt (own_symbols x.name n ++ symbols_from (suc n) rest) k r i
+  rest_there x r rest n i k past later =
+      let long = own_long x.name n in
+      let whole = length-append (own_symbols x.name n) (symbols_from (suc n) rest) in
+      let inside = later.0 in (
+        omega (arith, inside, whole, long, past),
+        get_or-append_right (own_symbols x.name n) (symbols_from (suc n) rest) (suc (height lines ps n)) k End long past ∙ later.1,
+      )
+
+  -- the symbols of a nonterminal are those of its first production
+  nonterminal_there : (front rest : List Production) (n j : ℕ) (r : Production) (i k : ℕ) → IsNumbered (front ++ rest) → ((m : ℕ) → Contains (lefts front) m → m < n)
+      → AreNamed rest → slice_get rest j ≡ Some r → n ≤ r.left → i ≤ height lines ps r.left → levels_before lines ps n + k ≡ levels_before lines ps r.left + i → IsSymbolAt (symbols_from n rest) k r i
+  nonterminal_there front [] n j r i k numbered under alike at low high place = absurd (none-some r at)
+  nonterminal_there front (x ∷ rest) n j r i k numbered under alike at low high place =
+      elim (cases_eq x.left n) [
+        | inl new ↦ subst (λ b. IsSymbolAt (next_symbols b n x rest) k r i) (sym (eq-eqb x.left n new)) (
+            elim (cases_eq r.left n) [
+              | inl same ↦ own_there x r rest n i k (alike x r (0, omega arith, refl) (in_list (x ∷ rest) j r at) (new ∙ sym same)) same high place
+              | inr other ↦
+                  let past : suc n ≤ r.left = omega (arith, low, other) in
+                  let up = before_rises lines ps n r.left past in
+                  let later = later_place j at (λ e. let z = ap (λ (s : Production). s.left) e in omega (arith, z, new, past)) in
+                  rest_there x r rest n i k (omega (arith, up, place))
+                  (nonterminal_there (front ++ x ∷ []) rest (suc n) later.0 r i (k - suc (height lines ps n)) numbered_rest (lefts_under front x n (suc n) (omega arith) (omega (arith, new)) under) alike_rest later.1 past high (omega (arith, up, place)))
+            ])
+        | inr known ↦
+            let most = left_low front rest x n numbered under in
+            let below : x.left < n = omega (arith, most, known) in
+            let later = later_place j at (λ e. let z = ap (λ (s : Production). s.left) e in omega (arith, z, below, low)) in
+            subst (λ b. IsSymbolAt (next_symbols b n x rest) k r i) (sym (ne_eqb x.left n known))
+            (nonterminal_there (front ++ x ∷ []) rest n later.0 r i k numbered_rest (lefts_under front x n n (omega arith) below under) alike_rest later.1 low high place)
+      ]
+    where
+      numbered_rest : IsNumbered ((front ++ x ∷ []) ++ rest)
+      numbered_rest = subst IsNumbered (sym (append_assoc front (x ∷ []) rest)) numbered
+
+      alike_rest : AreNamed rest
+      alike_rest s t a b e = alike s t (in_rest x rest s a) (in_rest x rest t b) e
+
+      later_place : (m : ℕ) → slice_get (x ∷ rest) m ≡ Some r → (x ≡ r → ⊥) → (l : ℕ) × (slice_get rest l ≡ Some r)
+      later_place zero e other = absurd (other (same_Some x r e))
+      later_place (suc l) e other = (l, e)
+
+  -- the last levels as the lines of each nonterminal tell them
+  pub levels_told : (rows : List (List ℕ)) → rows ≡ levels_of lines ps → (rs : List Production) → nonterminal_symbols told (λ n. length (row_at rows n)) 0 rs ≡ symbols_from 0 rs
+  levels_told rows is rs =
+      let row : (n : ℕ) → row_at rows n ≡ lines_of lines ps n = λ n. ap (λ z. row_at z n) is ∙ row_of_levels lines ps n in
+      let last : (λ (n : ℕ). length (row_at rows n)) ≡ height lines ps = λ t n. length (row n t) in
+      ap (λ (h : ℕ → ℕ). nonterminal_symbols told h 0 rs) last
+
+-- what the code puts behind the other symbols
+pub grammar_answer : {T E : Type 0} (r : Result T E) (told : Bool) (lines ls : List LevelLine) (ps rs : List Production) (rows : List (List ℕ)) (old new : List PrintedSymbol) → ls ≡ lines → rs ≡ ps → rows ≡ levels_of ls rs
+    → OnOk r (new ≡ old ++ nonterminal_symbols told (λ n. length (row_at rows n)) 0 rs) → OnOk r (new ≡ old ++ nonterminal_symbols told (height lines ps) 0 ps)
+grammar_answer (Ok x) told lines ls ps rs rows old new a b is h = h ∙ ap (λ xs. old ++ xs) (levels_told told ls rs rows is rs) ∙ (λ t. old ++ nonterminal_symbols told (height (a t) (b t)) 0 (b t))
+grammar_answer (Err e) told lines ls ps rs rows old new a b is h = tt
 
 module _ (spec : Spec) where
   abbrev markers : List PrintedSymbol
@@ -174,7 +227,7 @@ module _ (spec : Spec) where
   lexemes = lexeme_symbols spec.phyla
 
   abbrev nonterminals : List PrintedSymbol
-  nonterminals = nonterminal_symbols 0 spec.productions
+  nonterminals = nonterminal_symbols true (height spec.levels spec.productions) 0 spec.productions
 
   markers_length : length (End ∷ [] ++ markers) ≡ first_literal spec
   markers_length = let l = length-map spec.entries (marker_of spec.phyla) in let a = length-append (End ∷ []) markers in omega (arith, l, a)
@@ -236,15 +289,25 @@ module _ (spec : Spec) where
       ∙ ap (λ i. get_or lexemes i End) (rest ∙ sym same.0)
       ∙ get_or_from_slice_get lexemes has.at (Name x.name) End has.symbol
 
-  pub nonterminal_symbol : HasShapes spec → HasNames spec → (k : ℕ) (r : Production) → slice_get spec.productions k ≡ Some r → symbol_in (printed_symbols spec) (symbol_number spec (Nonterminal r.left)) ≡ Name r.name
-  nonterminal_symbol shapes names k r at =
-      let named : AreNamed spec.productions = λ s t a b e. ((all_of (λ q. (q.name ≡ t.name) ↔ (q.left ≡ t.left)) spec.productions (all_of (IsNamed spec) spec.productions names.nonterminals t b).1 s a).1 e) in
-      let there = nonterminal_there [] spec.productions 0 k r names.numbered (λ i c. absurd (let l = c.1 in omega (arith, l))) named at (omega arith) in
-      let ends = lexemes_end shapes in
-      let rest : first_nonterminal spec + r.left - first_nonterminal spec ≡ r.left - 0 = omega arith in
-      get_or-append_right (End ∷ [] ++ markers ++ literals ++ lexemes) nonterminals (first_nonterminal spec) (first_nonterminal spec + r.left) End ends (omega arith)
-      ∙ ap (λ i. get_or nonterminals i End) rest
+  told_symbol : (told : Bool) → HasShapes spec → HasNames spec → (k : ℕ) (r : Production) → slice_get spec.productions k ≡ Some r → (i : ℕ) → i ≤ height spec.levels spec.productions r.left
+      → symbol_in (symbols_named told spec) (level_number spec r.left i) ≡ Name (level_name told r.name (height spec.levels spec.productions r.left) i)
+  unfolding level_number
+  told_symbol told shapes names k r at i low =
+      let alike : AreNamed spec.productions = λ s t a b e. ((all_of (λ q. (q.name ≡ t.name) ↔ (q.left ≡ t.left)) spec.productions (all_of (IsNamed spec) spec.productions names.nonterminals t b).1 s a).1 e) in
+      let levels = nonterminal_symbols told (height spec.levels spec.productions) 0 spec.productions in
+      let number = first_nonterminal spec + (levels_before spec.levels spec.productions r.left + i) in
+      let there = nonterminal_there told spec.levels spec.productions [] spec.productions 0 k r i (number - first_nonterminal spec) names.numbered (λ j c. absurd (let l = c.1 in omega (arith, l))) alike at (omega arith) low (omega arith) in
+      get_or-append_right (End ∷ [] ++ markers ++ literals ++ lexemes) levels (first_nonterminal spec) number End (lexemes_end shapes) (omega arith)
       ∙ there.1
     where
       all_of : {X : Type 0} (P : X → Type 0) (xs : List X) → All P xs → (x : X) → Contains xs x → P x
       all_of P xs all x (j, low, is) = subst P is (all j x low)
+
+  pub nonterminal_symbol : HasShapes spec → HasNames spec → (k : ℕ) (r : Production) → slice_get spec.productions k ≡ Some r → (i : ℕ) → i ≤ height spec.levels spec.productions r.left
+      → symbol_in (printed_symbols spec) (level_number spec r.left i) ≡ Name (level_name true r.name (height spec.levels spec.productions r.left) i)
+  nonterminal_symbol = told_symbol true
+
+  pub written_symbol : HasShapes spec → HasNames spec → (k : ℕ) (r : Production) → slice_get spec.productions k ≡ Some r → (i : ℕ) → i ≤ height spec.levels spec.productions r.left
+      → written_name spec (level_number spec r.left i) ≡ r.name
+  unfolding level_name
+  written_symbol shapes names k r at i low = ap name_of (told_symbol false shapes names k r at i low)

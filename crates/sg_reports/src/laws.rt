@@ -1,6 +1,6 @@
 //! Laws of what is printed, each as the contract of a function without code.
-ghost use Rattle.std.specs.Prelude.{◌≡◌, ℕ, suc, ◌+◌, ◌∷◌, length, take, count_by, nat_eq, Some, slice_get, Contains};
-ghost use Rattle.sg_grammar.specs.Numbered.{symbol_number};
+ghost use Rattle.std.specs.Prelude.{◌≡◌, ℕ, suc, ◌+◌, ◌≤◌, true, ◌∷◌, length, take, count_by, nat_eq, Some, slice_get, Contains};
+ghost use Rattle.sg_grammar.specs.Numbered.{level_number, symbol_number};
 ghost use Rattle.sg_kinds.specs.Dependencies.{occurrence};
 ghost use Rattle.sg_kinds.specs.Sound.{HasNames, HasShapes};
 ghost use Rattle.sg_kinds.specs.Specification.{attrs_of, rules_of, phylum_name};
@@ -18,7 +18,8 @@ ghost use Rattle.sg_kinds.specs.declared.spec.Production.{Production};
 ghost use Rattle.sg_kinds.specs.declared.spec.Spec.{Spec};
 ghost use Rattle.sg_kinds.specs.declared.spec.Symbol.TheVariants as symbol;
 ghost use Rattle.sg_patterns.specs.Lexemes.{literals_of};
-ghost use Rattle.sg_reports.specs.Symbols.{printed_symbols, symbol_in};
+ghost use Rattle.sg_prec.specs.Levels.{height};
+ghost use Rattle.sg_reports.specs.Symbols.{level_name, printed_symbols, symbol_in, written_name};
 ghost use Rattle.sg_reports.specs.Vertices.{printed_vertices, vertex_in};
 
 /// A vertex is printed as what has its number: an attribute of the left side; an attribute of an argument, with how
@@ -39,7 +40,7 @@ pub fn vertices_are_printed_as_numbered()
 {}
 
 /// A symbol of the grammar is printed as what has its number: the end, the marker of an entry, a literal, a lexeme
-/// phylum, a nonterminal.
+/// phylum, a level of a nonterminal; and each level has the nonterminal's own name besides.
 pub fn symbols_are_printed_as_numbered()
     ensures end { (spec : Spec) → symbol_in (printed_symbols spec) 0 ≡ printed_symbol.End }
     ensures marker { (spec : Spec) (k : ℕ) (e : Entry) → slice_get spec.entries k ≡ Some e
@@ -50,6 +51,10 @@ pub fn symbols_are_printed_as_numbered()
         → x.shape ≡ shape.Lexemes l →
         symbol_in (printed_symbols spec) (symbol_number spec (symbol.Lexical p)) ≡ printed_symbol.Name x.name }
     ensures nonterminal { (spec : Spec) → HasShapes spec → HasNames spec → (k : ℕ) (r : Production)
-        → slice_get spec.productions k ≡ Some r →
-        symbol_in (printed_symbols spec) (symbol_number spec (symbol.Nonterminal r.left)) ≡ printed_symbol.Name r.name }
+        → slice_get spec.productions k ≡ Some r → (i : ℕ) → i ≤ height spec.levels spec.productions r.left →
+        symbol_in (printed_symbols spec) (level_number spec r.left i)
+        ≡ printed_symbol.Name (level_name true r.name (height spec.levels spec.productions r.left) i) }
+    ensures written { (spec : Spec) → HasShapes spec → HasNames spec → (k : ℕ) (r : Production)
+        → slice_get spec.productions k ≡ Some r → (i : ℕ) → i ≤ height spec.levels spec.productions r.left →
+        written_name spec (level_number spec r.left i) ≡ r.name }
 {}

@@ -1,8 +1,11 @@
 //! The symbols of the grammar as they are printed.
-ghost use Rattle.std.specs.Prelude.{◌≡◌, ◌++◌, map, IfOk, OnOk};
+ghost use Rattle.std.specs.Prelude.{◌≡◌, ◌+◌, ◌<◌, ◌^◌, ◌∷◌, ◌++◌, length, map, IfOk, OnOk};
+ghost use Rattle.std.specs.Fmt.{decimal};
 ghost use Rattle.sg_kinds.specs.Specification.{phylum_name};
-ghost use Rattle.sg_reports.specs.Symbols.{marker_of, lexeme_symbols, nonterminal_symbols, printed_symbols, symbol_in, name_of};
+ghost use Rattle.sg_prec.specs.Levels.{height, row_at};
+ghost use Rattle.sg_reports.specs.Symbols.{marker_of, lexeme_symbols, level_name, level_symbols, nonterminal_symbols, symbols_named, symbol_in, name_of};
 
+use sg_kinds::decimal::write_number;
 use sg_kinds::fault::PrintedSymbol;
 use sg_kinds::ids::PhylumId;
 use sg_kinds::marks::Shape;
@@ -11,6 +14,7 @@ use sg_kinds::row::Row;
 use sg_kinds::spec::{Entry, Phylum, Production, Spec};
 use sg_kinds::text::Text;
 use sg_patterns::Lexemes;
+use sg_prec::Levels;
 use std::alloc::Global;
 
 /// The name of a phylum, empty past the last.
@@ -71,28 +75,100 @@ fn push_lexemes(
     Ok(())
 }
 
+/// The name of a level of a nonterminal with its number, counted from 1.
+fn numbered(alloc: Global, name: &Text, level: usize) -> Result<Text, NoMemory>
+    requires { level < 2 ^ 63 }
+    ensures { IfOk result (λ t. t ≡ name.now ++ 47 ∷ decimal (level + 1)) }
+{
+    let mut bytes = Vec::from_slice(alloc, name.as_slice())?;
+    bytes.push(b'/')?;
+    write_number(alloc, &mut bytes, level as u64 + 1)?;
+    Ok(Text::new(bytes))
+}
+
+/// The name of a level of a nonterminal whose last level has this number: with its own number where there are several
+/// and levels are told.
+#[tactic(auto, using(crate::proofs::LevelNames::level_told, crate::proofs::LevelNames::level_untold, crate::proofs::LevelNames::level_alone))]
+fn level_name(
+    alloc: Global,
+    name: &Text,
+    last: usize,
+    level: usize,
+    told: bool,
+) -> Result<Text, NoMemory>
+    requires { level < 2 ^ 63 }
+    ensures { IfOk result (λ t. t ≡ level_name told name.now last level) }
+{
+    if told && last > 0 {
+        numbered(alloc, name, level)
+    } else {
+        Ok(name.copy(alloc)?)
+    }
+}
+
+/// Puts the levels of a nonterminal, of which the last has this number, behind the other symbols.
+fn push_levels(
+    alloc: Global,
+    symbols: &mut Vec<PrintedSymbol>,
+    name: &Text,
+    last: usize,
+    told: bool,
+) -> Result<(), NoMemory>
+    requires { last < 2 ^ 63 }
+    ensures { OnOk result (symbols.new.items ≡ symbols.old.items ++ level_symbols told name.now last) }
+{
+    for level in 0..last + 1 {
+        let name = level_name(alloc, name, last, level, told)?;
+        symbols.push(PrintedSymbol::Name(name))?;
+    }
+    Ok(())
+}
+
 /// Puts the nonterminals behind the other symbols, each where its first production stands.
 fn push_nonterminals(
     alloc: Global,
     symbols: &mut Vec<PrintedSymbol>,
     productions: &[Production],
+    levels: &Levels,
+    told: bool,
 ) -> Result<(), NoMemory>
-    ensures { OnOk result (symbols.new.items ≡ symbols.old.items ++ nonterminal_symbols 0 productions.now) }
+    ensures { OnOk result (symbols.new.items ≡ symbols.old.items
+        ++ nonterminal_symbols told (λ n. length (row_at levels.now n)) 0 productions.now) }
 {
     let mut next = 0usize;
     for production in productions {
         if production.left as usize == next {
-            let name = production.name.copy(alloc)?;
-            symbols.push(PrintedSymbol::Name(name))?;
+            let last = levels.height(production.left);
+            push_levels(alloc, symbols, &production.name, last, told)?;
             next += 1;
         }
     }
     Ok(())
 }
 
-/// The symbols of the grammar of a specification, in the order of their numbers.
-pub fn printed_symbols(alloc: Global, spec: &Spec) -> Result<Vec<PrintedSymbol>, NoMemory>
-    ensures { IfOk result (λ v. v.items ≡ printed_symbols spec.now) }
+/// Puts the nonterminals of the grammar of a specification behind the other symbols.
+fn push_grammar(
+    alloc: Global,
+    symbols: &mut Vec<PrintedSymbol>,
+    spec: &Spec,
+    told: bool,
+) -> Result<(), NoMemory>
+    ensures { OnOk result (symbols.new.items ≡ symbols.old.items
+        ++ nonterminal_symbols told (height spec.now.levels spec.now.productions) 0 spec.now.productions) }
+{
+    let productions = spec.productions.as_slice();
+    let levels = Levels::new(alloc, productions, spec.levels.as_slice())?;
+    push_nonterminals(alloc, symbols, productions, &levels, told)
+}
+
+/// The symbols of the grammar of a specification, in the order of their numbers; the levels of a nonterminal are told
+/// apart, or each has the nonterminal's own name.
+pub fn printed_symbols(
+    alloc: Global,
+    spec: &Spec,
+    told: bool,
+) -> Result<Vec<PrintedSymbol>, NoMemory>
+    ensures { IfOk result (λ v. v.items ≡ symbols_named told spec.now) }
 {
     let lexemes = Lexemes::new(alloc, spec)?;
     let mut symbols = Vec::new(alloc);
@@ -100,7 +176,7 @@ pub fn printed_symbols(alloc: Global, spec: &Spec) -> Result<Vec<PrintedSymbol>,
     push_markers(alloc, &mut symbols, &spec.phyla, spec.entries.as_slice())?;
     push_literals(alloc, &mut symbols, lexemes.literals.as_slice())?;
     push_lexemes(alloc, &mut symbols, spec.phyla.as_slice())?;
-    push_nonterminals(alloc, &mut symbols, spec.productions.as_slice())?;
+    push_grammar(alloc, &mut symbols, spec, told)?;
     Ok(symbols)
 }
 

@@ -29,18 +29,18 @@ fn printed_table(
 {
     match fault {
         TableFault::Unproductive(x) => {
-            let name = name_in(alloc, &printed_symbols(alloc, spec)?, x)?;
+            let name = name_in(alloc, &printed_symbols(alloc, spec, false)?, x)?;
             Ok(SpecFault::Unproductive(head_place(name.as_slice(), decls), name))
         }
         TableFault::States => Ok(SpecFault::States),
         TableFault::Conflict(prefix, terminal, first, second) => {
-            let symbols = printed_symbols(alloc, spec)?;
-            let places = production_places(alloc, decls)?;
+            let symbols = printed_symbols(alloc, spec, true)?;
+            let places = production_places(alloc, decls, spec)?;
             let conflict = PrintedConflict {
                 prefix: symbols_in(alloc, &symbols, prefix.as_slice())?,
                 terminal: symbol_in(alloc, &symbols, terminal)?,
-                first: printed_item(alloc, spec, grammar, &symbols, first)?,
-                second: printed_item(alloc, spec, grammar, &symbols, second)?,
+                first: printed_item(alloc, grammar, &symbols, first)?,
+                second: printed_item(alloc, grammar, &symbols, second)?,
             };
             Ok(SpecFault::Conflict(place_in(&places, first.production), conflict))
         }

@@ -1,4 +1,4 @@
-use Rattle.sg_reports.proofs.SymbolLaws.{end_symbol, marker_symbol, literal_symbol, lexeme_symbol, nonterminal_symbol}
+use Rattle.sg_reports.proofs.SymbolLaws.{end_symbol, marker_symbol, literal_symbol, lexeme_symbol, nonterminal_symbol, written_symbol}
 use Rattle.sg_reports.proofs.laws.symbols_are_printed_as_numbered.Goals as goal
 
 pub returns-clause-end : goal.returns-clause-end
@@ -15,3 +15,6 @@ returns-clause-lexeme c = lexeme_symbol
 
 pub returns-clause-nonterminal : goal.returns-clause-nonterminal
 returns-clause-nonterminal c = nonterminal_symbol
+
+pub returns-clause-written : goal.returns-clause-written
+returns-clause-written c = written_symbol
