@@ -1,4 +1,4 @@
--- Where no row of equations has a fault, each owed occurrence is defined once, and nothing else is.
+-- Where no row of equations has a fault, each occurrence that equations owe is defined once, and nothing else is.
 use Rattle.std.proofs.Common.{◌≡◌, refl, sym, subst, ◌∙◌, arith, ℕ, zero, suc, ◌<◌, ◌≤◌, Bool, true, false, cond, nat_eq, List, [], ◌∷◌, map, length, Option, Some, None, slice_get}
 use Rattle.std.specs.Prelude.{◌&&◌, not, is_some, option_map, option_and_then, unwrap_or}
 use Rattle.std.specs.List.{AllByRecursion, count_by}
@@ -22,7 +22,7 @@ use Rattle.sg_names.specs.Drafted.{drafted}
 use Rattle.sg_names.specs.declared.table.Table.{Table}
 use Rattle.sg_equations.specs.declared.targets.Defined.{Defined}
 use Rattle.sg_equations.specs.Complete.{not_owed, not_defined_here, is_same_target, twice_at, twice, is_defined, lacks_slot, lacks_at, lacks, lacking, first_lacking, missing_at, missing, incomplete}
-use Rattle.sg_equations.specs.Owed.{owes}
+use Rattle.sg_equations.specs.Owed.{is_far_there, owes}
 use Rattle.sg_equations.specs.Targets.{defined_in}
 use Rattle.sg_equations.proofs.Counts.{count_any, count_once, repeat_within, none_at, some_at, false_at}
 use Rattle.sg_equations.proofs.RuleKeys.{defined_key, is_for}
@@ -39,7 +39,7 @@ owed_is : (b : Bool) (place : Position) → cond b None (Some (fault.NotDefinedH
 owed_is true place h = refl
 owed_is false place h = cc
 
-all_owed : (t : Table) (defs : List Defined) → AllByRecursion (λ d. not_owed t d ≡ None) defs → AllByRecursion (λ d. is_owed (drafted t) d.op d.target.at d.target.slot ≡ true) defs
+all_owed : (t : Table) (defs : List Defined) → AllByRecursion (λ d. not_owed t d ≡ None) defs → AllByRecursion (λ d. owes t d.op d.target ≡ true) defs
 all_owed t [] h = tt
 all_owed t (d ∷ defs) h = (owed_is (owes t d.op d.target) d.place h.0, all_owed t defs h.1)
 
@@ -126,23 +126,23 @@ owed_there t op zero slot h =
     (omega arith, slice_get_within (slots_there (drafted t) op 0) slot x.0 x.1)
 owed_there t op (suc k) slot h = inherited_there t op k slot h
 
-owed_defined : (t : Table) (defs : List Defined) → first_lacking t defs ≡ None → (op k slot : ℕ) → op < length t.ops → is_owed (drafted t) op k slot ≡ true → is_defined defs op (occurrence k slot) ≡ true
+owed_defined : (t : Table) (defs : List Defined) → first_lacking t defs ≡ None → (op k slot : ℕ) → op < length t.ops → owes t op (occurrence k slot) ≡ true → is_defined defs op (occurrence k slot) ≡ true
 owed_defined t defs none op k slot low owed =
-    let there = owed_there t op k slot owed in
+    let there = owed_there t op k slot (and_parts (is_owed (drafted t) op k slot) (not (is_far_there t op (occurrence k slot))) owed).0 in
     let a : lacks t defs op ≡ false = lacks_none (lacks t defs op) op (none_at (lacking t defs) op (length t.ops) none low) in
     let b : lacks_at t defs op k ≡ false = false_at (lacks_at t defs op) k (suc (length (args_of t.ops op))) a there.0 in
     let c : lacks_slot t defs op k slot ≡ false = false_at (lacks_slot t defs op k) slot (length (slots_there (drafted t) op k)) b there.1 in
-    not_lacking (is_owed (drafted t) op k slot) (is_defined defs op (occurrence k slot)) c owed
+    not_lacking (owes t op (occurrence k slot)) (is_defined defs op (occurrence k slot)) c owed
 
-module _ (t : Table) (ds : List Decl) (places : length t.op_places ≡ length t.ops) (complete : incomplete t ds ≡ None) where
+module _ (t : Table) (ds : List Decl) (complete : incomplete t ds ≡ None) where
   rows : (not_defined_here t (defined_in t ds) ≡ None) × (twice (defined_in t ds) ≡ None) × (missing t (defined_in t ds) ≡ None)
   rows = parts (not_defined_here t (defined_in t ds)) (twice (defined_in t ds)) (missing t (defined_in t ds)) complete
 
-  pub defined_owed : AllByRecursion (λ d. is_owed (drafted t) d.op d.target.at d.target.slot ≡ true) (defined_in t ds)
+  pub defined_owed : AllByRecursion (λ d. owes t d.op d.target ≡ true) (defined_in t ds)
   defined_owed = all_owed t (defined_in t ds) (first-none (not_owed t) (defined_in t ds) rows.0)
 
-  pub defined_once : (op k slot : ℕ) → op < length t.ops → is_owed (drafted t) op k slot ≡ true → count_by (λ d. is_for op (occurrence k slot) (defined_key d)) (defined_in t ds) ≡ 1
-  defined_once op k slot low owed =
+  pub defined_once : length t.op_places ≡ length t.ops → (op k slot : ℕ) → op < length t.ops → owes t op (occurrence k slot) ≡ true → count_by (λ d. is_for op (occurrence k slot) (defined_key d)) (defined_in t ds) ≡ 1
+  defined_once places op k slot low owed =
       let o : Occurrence = occurrence k slot in
       let most : count_by (λ d. is_for op o (defined_key d)) (defined_in t ds) ≤ 1 = count_once is_same_target (λ d. is_for op o (defined_key d)) (λ d e h g. same_target op o d e h g) (defined_in t ds) (none_twice (defined_in t ds) rows.1) in
       let least : 1 ≤ count_by (λ d. is_for op o (defined_key d)) (defined_in t ds) = count_any (λ d. is_for op o (defined_key d)) (defined_in t ds) (owed_defined t (defined_in t ds) (none_missing t (defined_in t ds) places rows.2) op k slot low owed) in

@@ -13,7 +13,7 @@ use Rattle.sg_ast.specs.FirstFault.{or_else, first, repeats_behind, repeats, rep
 use Rattle.sg_ast.specs.Rising.{places_of, RiseFrom, SomeOf, nothing, passed, taken}
 use Rattle.sg_ast.proofs.FirstLaws.{first-append}
 use Rattle.sg_ast.proofs.RisingLaws.{some_rise, some_some}
-use Rattle.sg_names.specs.Names.{names_of}
+use Rattle.sg_remote.specs.Longer.{names_of}
 use Rattle.sg_names.specs.declared.table.Table.{Table}
 use Rattle.sg_equations.specs.declared.targets.Defined.{Defined}
 use Rattle.sg_equations.specs.Complete.{not_defined_here, is_same_target, twice_at, twice, lacks, lacking, first_lacking, missing_at, missing}

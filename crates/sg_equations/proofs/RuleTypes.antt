@@ -11,7 +11,7 @@ use Rattle.sg_kinds.specs.Expressions as kept
 use Rattle.sg_kinds.specs.declared.spec.Occurrence.{Occurrence}
 use Rattle.sg_kinds.specs.declared.spec.Rule.{Rule}
 use Rattle.sg_kinds.specs.declared.spec.Spec.{Spec}
-use Rattle.sg_kinds.proofs.Elementary.{slice_get-behind}
+use Rattle.sg_kinds.proofs.Elementary.{slice_get-before, slice_get-behind}
 use Rattle.sg_ast.specs.Declarations.{Decl, Equation, Equations, Productions}
 use Rattle.sg_ast.specs.FirstFault.{first}
 use Rattle.sg_ast.specs.declared.decl.Target.{Target}
@@ -51,7 +51,7 @@ count_is t (Equations p op locals es) = length-map es (equation_typed t (bodies.
 count_is t (Productions n rights) = length-map rights (bodies.right_typed t n)
 count_is t d = refl
 
-module _ (t : Table) (spec : Spec) (table : HasTable t spec) (lists : HasLists t) (exprs : List TypedExpr) (have : spec.exprs ≡ map (λ (x : TypedExpr). x.expr) exprs) where
+module _ (t : Table) (spec : Spec) (table : HasTable t spec) (lists : HasLists t) (exprs : List TypedExpr) (more : List kept.Expr) (have : spec.exprs ≡ map (λ (x : TypedExpr). x.expr) exprs ++ more) where
   -- the rule of an equation whose expression stands at k
   one_typed : (op k : ℕ) (e : Equation) (o : Occurrence) → AreWritten e.expr → equation_mismatch t op e ≡ None → slice_get exprs k ≡ Some (equation_typed t op e) → target_there t op e.target ≡ Some o
       → is_rule_typed spec (record { op = op; target = o; args = args_of exprs k; expr = k }) ≡ true
@@ -63,7 +63,9 @@ module _ (t : Table) (spec : Spec) (table : HasTable t spec) (lists : HasLists t
       let named : args_of exprs k ≡ args = ap (λ (x : Option TypedExpr). unwrap_or (option_map (λ (y : TypedExpr). y.args) x) []) at in
       let slot : slot_type spec op o.at o.slot ≡ Some b.0 = slot_kept t spec table op o.at o.slot ∙ sym (target_is t op e.target o means) ∙ b.1 in
       let types : types_at spec op (args_of exprs k) ≡ Some G.0 = ap (types_at spec op) named ∙ types_kept t spec table op args ∙ G.1 in
-      let stands : slice_get spec.exprs k ≡ Some tree = ap (λ (l : List kept.Expr). slice_get l k) have ∙ slice_get-map (λ (x : TypedExpr). x.expr) exprs k ∙ ap (option_map (λ (x : TypedExpr). x.expr)) at in
+      let stands : slice_get spec.exprs k ≡ Some tree =
+      ap (λ (l : List kept.Expr). slice_get l k) have
+      ∙ slice_get-before (map (λ (x : TypedExpr). x.expr) exprs) more k tree (slice_get-map (λ (x : TypedExpr). x.expr) exprs k ∙ ap (option_map (λ (x : TypedExpr). x.expr)) at) in
       let right : is_found spec b.0 (type_of spec G.0 tree) ≡ true = ap (λ (l : List ℕ). is_found spec b.0 (type_of spec l tree)) (sym (append-nil G.0)) ∙ b.2 in
       let typed : is_typed spec G.0 k b.0 ≡ true = ap (λ (x : Option kept.Expr). is_found spec b.0 (option_and_then (type_of spec G.0) x)) stands ∙ right in
       ap (λ (x : Option ℕ). unwrap_or (option_and_then (λ p. option_map (λ (l : List ℕ). is_typed spec l k p) (types_at spec op (args_of exprs k))) x) false) slot

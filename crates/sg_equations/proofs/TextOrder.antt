@@ -15,7 +15,8 @@ use Rattle.sg_ast.specs.Parts.{op_places_at, target_place}
 use Rattle.sg_ast.specs.Spelling.{bar, spell_name, spell_alt, spell_local, spell_target, spell_equation}
 use Rattle.sg_ast.specs.Rising.{kept_places, places_of, SomeOf, nothing, passed, taken}
 use Rattle.sg_ast.proofs.RisingLaws.{some_of_each, in_front, in_back, in_both}
-use Rattle.sg_names.specs.Names.{names_of}
+use Rattle.sg_names.specs.Names as written
+use Rattle.sg_remote.specs.Longer.{names_of}
 use Rattle.sg_names.specs.Lookups.{operator_at}
 use Rattle.sg_names.specs.declared.table.Table.{Table}
 use Rattle.sg_equations.specs.declared.targets.Defined.{Defined}
@@ -36,7 +37,7 @@ operators_in (Operators p alts) = passed (in_front _ (join_by spell_alt bar alts
 operators_in d = nothing
 
 pub operators_ordered : (ds : List Decl) → SomeOf (names_of ds).op_places (flat_map places_of ds)
-unfolding names_of
+unfolding names_of written.names_of
 operators_ordered ds = some_of_each op_places_at places_of operators_in ds
 
 -- equations

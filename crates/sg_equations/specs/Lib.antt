@@ -1,5 +1,6 @@
 pub mod Targets
 pub mod Owed
+pub mod Handed
 pub mod Complete
 pub mod Keys
 pub mod RulesOf

@@ -38,7 +38,7 @@ pub fn owes(names: &Names, op: OpId, o: Occurrence) -> bool
         return false;
     };
     match names.attrs(phylum).get(o.slot as usize) {
-        Some(attr) => (attr.way == Way::Inherited) == (o.at != 0),
+        Some(attr) => attr.far.len() == 0 && (attr.way == Way::Inherited) == (o.at != 0),
         None => o.at == 0 && (o.slot as usize) < slot_count(names, op, 0),
     }
 }

@@ -15,17 +15,18 @@ use Rattle.sg_names.specs.declared.table.Table.{Table}
 use Rattle.sg_names.specs.Drafted.{HasTable}
 use Rattle.sg_names.specs.Heads.{number_in}
 use Rattle.sg_names.specs.Lookups.{phylum_named}
-use Rattle.sg_names.specs.Names.{phyla_in, signature, function_at, names_of}
+use Rattle.sg_names.specs.Names.{phyla_in, signature, function_at}
 use Rattle.sg_names.specs.UnknownName.{unknown_at}
 use Rattle.sg_names.specs.Uses.{UsesPhylum, Elsewhere, params_uses, params_scope, expr_uses, with_variable}
 use Rattle.sg_names.proofs.DraftedLaws.{usable_kept}
-use Rattle.sg_typing.specs.declared.bodies.TypedExpr.{TypedExpr}
+use Rattle.sg_names.specs.Names as text_names
+use Rattle.sg_remote.specs.Longer.{names_of}
 use Rattle.sg_types.specs.Bindings.{OfNothing}
 use Rattle.sg_typing.specs.Bodies.{expr_count, exprs_at, exprs_in, parameter, function_typed}
 use Rattle.sg_typing.specs.Written.{HasLists, AreOutside, known}
 use Rattle.sg_typing.proofs.BodyTyped.{body_kept}
 use Rattle.sg_typing.proofs.TableFacts.{usable_is}
-use Rattle.sg_record.specs.Record.{each_from, body_at, bodies_in, with_body, with_bodies}
+use Rattle.sg_record.specs.Record.{each_from, body_at, bodies_in, with_body, with_bodies, recorded_exprs}
 use Rattle.sg_record.proofs.Aligned.{StandAt, each_given}
 use Rattle.sg_record.proofs.ExprThere.{typed_there}
 use Rattle.sg_record.proofs.Known.{AreKnown, IsFine, phylum_known, named_of_usable, phylum_numbered}
@@ -65,7 +66,7 @@ module _ (ds : List Decl) (spec : Spec) (kept : HasTable (names_of ds) spec) whe
         (u.1, rest.1),
       )
 
-  module _ (lists : HasLists (names_of ds)) (made : spec.exprs ≡ map (λ (x : TypedExpr). x.expr) (exprs_in (names_of ds) ds)) where
+  module _ (lists : HasLists (names_of ds)) (made : spec.exprs ≡ recorded_exprs (names_of ds) ds) where
     function_typed_at : (k : ℕ) (d : Decl) → IsFine (names_of ds) d → StandAt (exprs_in (names_of ds) ds) k (exprs_at (names_of ds) d) → Each (λ (f : Function). is_typed spec f.params f.body f.result ≡ true) (made_at (phyla_in ds) k d)
     function_typed_at k (decl.Function of n params e) fine at =
         let t = names_of ds in
@@ -82,7 +83,7 @@ module _ (ds : List Decl) (spec : Spec) (kept : HasTable (names_of ds) spec) whe
 
     -- functions are of their types
     pub functions_typed : spec.functions ≡ with_bodies (bodies_in 0 ds) (names_of ds).functions → Each (IsFine (names_of ds)) ds → All (λ (f : Function). IsTrue (is_typed spec f.params f.body f.result)) spec.functions
-    unfolding names_of
+    unfolding names_of text_names.names_of
     functions_typed are fine =
         let all = each_given (names_of ds) ds (made_at (phyla_in ds)) (λ (f : Function). is_typed spec f.params f.body f.result ≡ true) (IsFine (names_of ds)) function_typed_at fine in
         All-from_recursion (λ (f : Function). IsTrue (is_typed spec f.params f.body f.result)) spec.functions
@@ -97,7 +98,7 @@ module _ (ds : List Decl) (spec : Spec) (kept : HasTable (names_of ds) spec) whe
   params_usable_at k d fine at = tt
 
   pub params_usable : spec.functions ≡ with_bodies (bodies_in 0 ds) (names_of ds).functions → Each (IsFine (names_of ds)) ds → All (λ (f : Function). All (λ p. IsTrue (is_usable spec p)) (f.result ∷ f.params)) spec.functions
-  unfolding names_of
+  unfolding names_of text_names.names_of
   params_usable are fine =
       let all = each_given (names_of ds) ds (made_at (phyla_in ds)) (λ (f : Function). Each (λ p. is_usable spec p ≡ true) (f.result ∷ f.params)) (IsFine (names_of ds)) params_usable_at fine in
       let there = subst (Each (λ (f : Function). Each (λ p. is_usable spec p ≡ true) (f.result ∷ f.params))) (sym (are ∙ functions_made (phyla_in ds) 0 ds)) all in

@@ -11,11 +11,16 @@ use Rattle.sg_ast.proofs.FirstLaws.{first-flat, first-none}
 use Rattle.sg_ast.specs.Written.{IsWritten, HaveWritten}
 use Rattle.sg_names.specs.declared.table.Table.{Table}
 use Rattle.sg_names.specs.Heads.{is_head, number_in}
-use Rattle.sg_names.specs.Names.{phyla_in, nonterminals_in, listings_of, attributes_of, owned, owners, operators_in, names_of}
+use Rattle.sg_names.specs.Names.{phyla_in, nonterminals_in, listings_of, attributes_of, owned, owners, operators_in}
 use Rattle.sg_names.specs.Lookups.{phylum_named, nonterminal_named, usable_named, is_whitespace}
 use Rattle.sg_names.specs.UnknownName.{unless_known, unknown_at, unknown_name}
 use Rattle.sg_names.specs.Uses.{Use, UsesPhylum, decl_uses}
+use Rattle.sg_names.proofs.MoreLaws.{phylum_more}
 use Rattle.sg_names.proofs.TableMade.{phylum_place, nonterminal_place}
+use Rattle.sg_names.specs.Names as text_names
+use Rattle.sg_remote.specs.Atoms.{atoms}
+use Rattle.sg_remote.specs.Lists.{lists_of}
+use Rattle.sg_remote.specs.Longer.{more, names_of}
 use Rattle.sg_typing.specs.Bodies.{mismatch_at_decl, first_mismatch}
 use Rattle.sg_record.proofs.Lists.{each_weaker}
 
@@ -68,11 +73,14 @@ place_is p xs k h = by (nat_lt (position_or_len p xs) (length xs)) h
     by false e = absurd (cc e)
 
 pub phylum_in_heads : (ds : List Decl) (n : Bytes) → phylum_named (names_of ds) n ≡ position (is_head n) (phyla_in ds)
-unfolding names_of
-phylum_in_heads ds n = phylum_place (listings_of (phyla_in ds) ds) (owned (owners (operators_in (phyla_in ds) ds))) (attributes_of (phyla_in ds) (phyla_in ds) ds) (phyla_in ds) (phyla_in ds) n
+unfolding names_of text_names.names_of
+phylum_in_heads ds n =
+    let t = text_names.names_of ds in
+    phylum_more t (more t (atoms t ds) (lists_of (atoms t ds))) n
+    ∙ phylum_place (listings_of (phyla_in ds) ds) (owned (owners (operators_in (phyla_in ds) ds))) (attributes_of (phyla_in ds) (phyla_in ds) ds) (phyla_in ds) (phyla_in ds) n
 
 pub nonterminal_in_heads : (ds : List Decl) (n : Bytes) → nonterminal_named (names_of ds) n ≡ position (is_head n) (nonterminals_in ds)
-unfolding names_of
+unfolding names_of text_names.names_of
 nonterminal_in_heads ds n = nonterminal_place (attributes_of (nonterminals_in ds) (phyla_in ds) ds) (nonterminals_in ds) n
 
 pub phylum_numbered : (ds : List Decl) (n : Bytes) (p : ℕ) → phylum_named (names_of ds) n ≡ Some p → number_in (phyla_in ds) n ≡ p

@@ -1,4 +1,3 @@
-pub mod PiecesMade
 pub mod Lists
 pub mod Aligned
 pub mod TableKept

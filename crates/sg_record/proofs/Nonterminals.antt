@@ -20,9 +20,10 @@ use Rattle.sg_names.specs.declared.table.Nonterminal.{Nonterminal}
 use Rattle.sg_names.specs.declared.table.Table.{Table}
 use Rattle.sg_names.specs.Heads.{is_head, head_of, with_head}
 use Rattle.sg_names.specs.Lookups.{nonterminal_named, phylum_named, symbol_attrs}
-use Rattle.sg_names.specs.Names.{map_from, nonterminal_defined, nonterminals_in, names_of}
+use Rattle.sg_names.specs.Names.{map_from, nonterminal_defined, nonterminals_in}
 use Rattle.sg_names.specs.Shapes.{has_one_result, result_count_at, result_count}
 use Rattle.sg_names.proofs.HeadLaws.{some_place}
+use Rattle.sg_remote.specs.Longer.{names_of}
 use Rattle.sg_typing.specs.Bodies.{expr_count}
 use Rattle.sg_typing.proofs.TableFacts.{position_there}
 use Rattle.sg_record.specs.Record.{nonterminal_in, production, productions_in}

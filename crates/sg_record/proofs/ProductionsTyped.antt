@@ -4,7 +4,7 @@ use Rattle.std.specs.Prelude.{unwrap_or, IsTrue, MatchOption}
 use Rattle.std.specs.List.{AllByRecursion as Each, All}
 use Rattle.std.proofs.lemmas.List.Elements.{All-from_recursion}
 use Rattle.sg_kinds.specs.Values.{Bytes}
-use Rattle.sg_kinds.specs.Sound.{result_type, symbol_types}
+use Rattle.sg_kinds.specs.Sound.{HasShapes, result_type, symbol_types}
 use Rattle.sg_kinds.specs.Typing.{type_of, is_found, is_usable, is_typed}
 use Rattle.sg_kinds.specs.declared.spec.Attr.{Attr}
 use Rattle.sg_kinds.specs.declared.spec.Production.{Production}
@@ -19,18 +19,19 @@ use Rattle.sg_names.specs.declared.table.Nonterminal.{Nonterminal}
 use Rattle.sg_names.specs.Drafted.{HasTable}
 use Rattle.sg_names.specs.Heads.{number_in}
 use Rattle.sg_names.specs.Lookups.{nonterminal_named, symbol_attrs}
-use Rattle.sg_names.specs.Names.{map_from, owned, attribute, attributes_at, attributes_in, nonterminal, nonterminals_in, attributes_of, phyla_in, names_of}
+use Rattle.sg_names.specs.Names.{map_from, owned, attribute, attributes_at, attributes_in, nonterminal, nonterminals_in, attributes_of, phyla_in}
 use Rattle.sg_names.specs.Shapes.{result_count}
 use Rattle.sg_names.specs.UnknownName.{unknown_at}
 use Rattle.sg_names.specs.Uses.{UsesPhylum, InProduction, right_uses, part_uses, expr_uses}
+use Rattle.sg_names.specs.Names as text_names
+use Rattle.sg_remote.specs.Longer.{names_of}
 use Rattle.sg_types.specs.Bindings.{OfProduction}
 use Rattle.sg_types.specs.Expressions.{recorded}
-use Rattle.sg_typing.specs.declared.bodies.TypedExpr.{TypedExpr}
 use Rattle.sg_typing.specs.Bodies as body
 use Rattle.sg_typing.specs.Bodies.{exprs_at, exprs_in, right_typed, right_mismatch}
 use Rattle.sg_typing.specs.Written.{HasLists}
 use Rattle.sg_typing.proofs.BodyTyped.{body_kept}
-use Rattle.sg_record.specs.Record.{production, productions_at, productions_in}
+use Rattle.sg_record.specs.Record.{production, productions_at, productions_in, recorded_exprs}
 use Rattle.sg_record.proofs.Aligned.{StandAt, each_given}
 use Rattle.sg_record.proofs.ExprThere.{typed_there}
 use Rattle.sg_record.proofs.FunctionsTyped.{used}
@@ -43,13 +44,13 @@ module _ (ds : List Decl) (spec : Spec) (kept : HasTable (names_of ds) spec) (re
   abbrev IsTypedProduction : Production → Type 0
   IsTypedProduction r = MatchOption (symbol_types spec r.right) ⊥ (λ G. IsTrue (is_typed spec G r.expr r.of))
 
-  module _ (lists : HasLists (names_of ds)) (made : spec.exprs ≡ map (λ (x : TypedExpr). x.expr) (exprs_in (names_of ds) ds)) where
+  module _ (shapes : HasShapes spec) (lists : HasLists (names_of ds)) (made : spec.exprs ≡ recorded_exprs (names_of ds) ds) where
     right_there : (n : Name) (k : ℕ) (r : Right) → AreKnown (names_of ds) (right_uses n.text r) → right_mismatch (names_of ds) n r ≡ None → AreWritten r.expr
         → slice_get (exprs_in (names_of ds) ds) k ≡ Some (right_typed (names_of ds) n r) → IsTypedProduction (production (names_of ds) n k r)
     right_there n k r known mismatch written at =
         let t = names_of ds in
         let uses = each_parts (λ u. unknown_at t u ≡ None) (flat_map part_uses r.parts) (expr_uses (InProduction n.text r.parts) [] r.expr) known in
-        let parts = parts_typed ds spec kept results r.parts uses.0 in
+        let parts = parts_typed ds spec kept shapes results r.parts uses.0 in
         let there = body_kept t spec kept lists (OfProduction n.text r.parts) parts.0 (production_outside t r.parts parts.0 parts.2 n.text) [] [] refl (body.result_type t n) r.expr written mismatch in
         let found : is_found spec there.0 (type_of spec parts.0 (recorded t (OfProduction n.text r.parts) [] r.expr)) ≡ true =
         ap (λ G. is_found spec there.0 (type_of spec G (recorded t (OfProduction n.text r.parts) [] r.expr))) (sym (append-nil parts.0)) ∙ there.2 in
@@ -109,7 +110,7 @@ module _ (ds : List Decl) (spec : Spec) (kept : HasTable (names_of ds) spec) whe
   )
 
   result_usable : Each (IsFine (names_of ds)) ds → (n : Bytes) (k : ℕ) (a : Attr) → nonterminal_named (names_of ds) n ≡ Some k → symbol_attrs (names_of ds) n ≡ a ∷ [] → is_usable spec a.of ≡ true
-  unfolding names_of
+  unfolding names_of text_names.names_of
   result_usable fine n k a named one =
       let x = nonterminal_there (names_of ds) n k named in
       let all = each_at (λ (y : Nonterminal). Each IsOfUsable y.attrs) (names_of ds).nonterminals k x.0 (nonterminals_used 0 (nonterminals_in ds) fine) x.1 in

@@ -20,10 +20,10 @@ use Rattle.sg_ast.proofs.FirstLaws.{first-none}
 use Rattle.sg_names.specs.declared.table.Table.{Table}
 use Rattle.sg_names.specs.Drafted.{drafted, HasTable}
 use Rattle.sg_names.specs.Lookups.{nonterminal_named, usable_named, symbol_attrs, symbol_type, attr_type}
-use Rattle.sg_names.specs.Names.{names_of}
 use Rattle.sg_names.specs.UnknownName.{unless_known, unknown_at}
 use Rattle.sg_names.specs.Uses.{UsesResult, decl_uses}
 use Rattle.sg_names.proofs.DraftedLaws.{accepted_kept, usable_kept}
+use Rattle.sg_remote.specs.Longer.{names_of}
 use Rattle.sg_types.specs.Types as types
 use Rattle.sg_typing.proofs.TableFacts.{usable_is}
 use Rattle.sg_record.specs.Entries.{entered, twice_at, entry_twice, type_fault, entry_type}

@@ -1,12 +1,13 @@
 -- The schemes of the record.
-use Rattle.std.proofs.Common.{◌≡◌, ℕ, zero, suc, ◌+◌, ◌<◌, ◌≤◌, Bool, true, false, cond, ◌&&◌, ◌||◌, if◌then◌else◌, List, [], ◌∷◌, ◌++◌, map, flat_map, length, Option, Some, None, slice_get, nat_eq, refl, sym, ap, subst, ◌∙◌, arith}
+use Rattle.std.proofs.Common.{◌≡◌, ℕ, zero, suc, ◌+◌, ◌-◌, ◌<◌, ◌≤◌, inl, inr, Bool, true, false, cond, ◌&&◌, ◌||◌, if◌then◌else◌, List, [], ◌∷◌, ◌++◌, map, flat_map, length, Option, Some, None, slice_get, nat_eq, refl, sym, ap, subst, ◌∙◌, arith}
 use Rattle.std.specs.Prelude.{option_map, option_and_then, unwrap_or, count_by, IsTrue, MatchOption}
 use Rattle.std.specs.List.{AllByRecursion as Each, All, Contains, list_any}
-use Rattle.std.proofs.lemmas.Bool.{and_parts}
+use Rattle.std.proofs.lemmas.Bool.{and_parts, cases_lt}
 use Rattle.std.proofs.lemmas.List.{length-append}
 use Rattle.std.proofs.lemmas.List.Sums.{sum_by-cons}
 use Rattle.std.proofs.lemmas.List.Elements.{All-from_recursion}
-use Rattle.std.proofs.lemmas.Option.{slice_get_within}
+use Rattle.std.proofs.lemmas.Option.{slice_get-map, slice_get_within}
+use Rattle.sg_kinds.specs.Instances.{below}
 use Rattle.sg_kinds.specs.InView.{schemes_in_view}
 use Rattle.sg_kinds.specs.Sound.{HasSchemes, IsScheme, IsItem, IsShown, is_place, separators_fit, is_pair, root, argument}
 use Rattle.sg_kinds.specs.Specification.{args_of, phylum_of, has_shape, is_list_shape, is_leaf_shape}
@@ -18,7 +19,8 @@ use Rattle.sg_kinds.specs.declared.spec.Operator.{Operator}
 use Rattle.sg_kinds.specs.declared.spec.Scheme.{Scheme}
 use Rattle.sg_kinds.specs.declared.spec.Spec.{Spec}
 use Rattle.sg_kinds.specs.declared.views.Views.{Views}
-use Rattle.sg_kinds.proofs.Elementary.{eq_is, eq_itself}
+use Rattle.sg_kinds.specs.Values.{Bytes}
+use Rattle.sg_kinds.proofs.Elementary.{eq_is, eq_itself, slice_get-front, slice_get-behind}
 use Rattle.sg_ast.specs.declared.decl.Item.{Item as Written}
 use Rattle.sg_ast.specs.declared.decl.Item.TheVariants.{Writes, Child, Shows, Separates}
 use Rattle.sg_ast.specs.declared.decl.SchemeDecl.{SchemeDecl}
@@ -30,13 +32,15 @@ use Rattle.sg_ast.specs.FirstFault.{first}
 use Rattle.sg_ast.proofs.FirstLaws.{first-none}
 use Rattle.sg_ast.specs.Written.{IsWritten}
 use Rattle.sg_ast.specs.Parts.{target_place}
+use Rattle.sg_counts.specs.Definitions.{is_same_view, view_name}
 use Rattle.sg_names.specs.declared.table.Table.{Table}
 use Rattle.sg_names.specs.Drafted.{drafted, HasTable}
 use Rattle.sg_names.specs.Lookups.{phylum_named, operator_named, reference, operator_at}
-use Rattle.sg_names.specs.Names.{map_from, owned, op_named, if_of, names_of}
+use Rattle.sg_names.specs.Names.{map_from, owned, op_named, if_of}
 use Rattle.sg_names.proofs.DraftedLaws.{args_kept, phylum_kept, slot_kept}
 use Rattle.sg_names.proofs.OpPlaces.{places_count}
 use Rattle.sg_names.proofs.Owned.{owned_append}
+use Rattle.sg_remote.specs.Longer.{names_of}
 use Rattle.sg_schemes.specs.Places as places
 use Rattle.sg_schemes.specs.Places.{places_fault, operator_faults, phylum_faults, kids_fault, scheme_kids}
 use Rattle.sg_schemes.specs.NoScheme.{gives, LacksScheme, IsNoScheme, all_have, first_lacks}
@@ -46,7 +50,9 @@ use Rattle.sg_typing.specs.Bodies.{reference_type, target_type}
 use Rattle.sg_typing.specs.Bodies as body
 use Rattle.sg_typing.specs.Shown.{hidden, hidden_item, hidden_scheme, hidden_at, first_hidden}
 use Rattle.sg_typing.proofs.RecordTyped.{unless_is}
-use Rattle.sg_record.specs.Record.{first_slot, shown, item_of, scheme_of, schemes_under, schemes_at, schemes_of, with_scheme, with_schemes}
+use Rattle.sg_views.specs.Schemes.{first_slot, shown, item_of, scheme_of, schemes_under, schemes_at, schemes_of}
+use Rattle.sg_views.specs.Views.{view_names, row_of, views_of}
+use Rattle.sg_record.specs.Record.{with_scheme, with_schemes}
 use Rattle.sg_record.proofs.Lists.{each_append, each_both, each_flat, each_map, slice_get-map_from}
 
 -- what stands at a place of a list whose elements are made with their places
@@ -111,6 +117,24 @@ fitting_is pair arity op s h = by (places.is_fitting pair arity s) h
     by true e = refl
     by false e = absurd (cc e)
 
+-- what stands at a place of the numbers below one
+below_length : (n : ℕ) → length (below n) ≡ n
+below_length zero = refl
+below_length (suc n) = let e = length-append (below n) (n ∷ []) in omega (arith, e, below_length n)
+
+below_at : (n k m : ℕ) → slice_get (below n) k ≡ Some m → m ≡ k
+below_at zero k m e = absurd (cc e)
+below_at (suc n) k m e = elim (cases_lt k n) [
+  | inl less ↦ below_at n k m (sym (slice_get-front (below n) (n ∷ []) k (omega (arith, less, below_length n))) ∙ e)
+  | inr more ↦
+      let there : slice_get (below n ++ n ∷ []) (length (below n) + (k - n)) ≡ Some m = ap (slice_get (below n ++ n ∷ [])) (let s : length (below n) + (k - n) ≡ k = omega (arith, more, below_length n) in s) ∙ e in
+      last (k - n) (sym (slice_get-behind (below n) (n ∷ []) (k - n)) ∙ there) (omega (arith, more))
+]
+  where
+    last : (j : ℕ) → slice_get (n ∷ []) j ≡ Some m → k ≡ n + j → m ≡ k
+    last zero f g = let same : n ≡ m = cc f in omega (arith, same, g)
+    last (suc j) f g = absurd (cc f)
+
 module _ (t : Table) (spec : Spec) (kept : HasTable t spec) where
   same_pair : (p op : ℕ) → phylum_of t.ops op ≡ Some p → is_pair spec op ≡ places.is_list_pair t p op
   same_pair p op own =
@@ -156,9 +180,9 @@ module _ (t : Table) (spec : Spec) (kept : HasTable t spec) where
   abbrev IsOfOperator : ℕ × Scheme → Type 0
   IsOfOperator x = IsScheme spec x.0 x.1
 
-  schemes_fine : (p op : Name) (ss : List SchemeDecl) (o : Option ℕ) → operator_at t p op ≡ o → kids_fault t (Schemes p op None ss) ≡ None → first (hidden_scheme t (body.operator t p op)) ss ≡ None → Each IsOfOperator (schemes_under t ss o)
-  schemes_fine p op ss None e kids hid = tt
-  schemes_fine p op ss (Some k) e kids hid =
+  schemes_fine : (p op : Name) (v : Option Name) (ss : List SchemeDecl) (o : Option ℕ) → operator_at t p op ≡ o → kids_fault t (Schemes p op v ss) ≡ None → first (hidden_scheme t (body.operator t p op)) ss ≡ None → Each IsOfOperator (schemes_under t ss o)
+  schemes_fine p op v ss None e kids hid = tt
+  schemes_fine p op v ss (Some k) e kids hid =
       let there = at_there t p op k e in
       let own = operator_there t there.0 k op.text there.2 in
       let none : operator_faults t there.0 k op ss ≡ None =
@@ -170,9 +194,13 @@ module _ (t : Table) (spec : Spec) (kept : HasTable t spec) where
       (each_both (λ s. places_fault (places.is_list_pair t there.0 k) (length (args_of t.ops k)) op s ≡ None) (λ s. hidden_scheme t k s ≡ None) ss
       (first-none (places_fault (places.is_list_pair t there.0 k) (length (args_of t.ops k)) op) ss none) (first-none (hidden_scheme t k) ss shows))
 
-  decl_fine : (d : Decl) → (kids_fault t d ≡ None) × (hidden_at t d ≡ None) → Each IsOfOperator (schemes_at t d)
-  decl_fine (Schemes p op None ss) h = schemes_fine p op ss (operator_at t p op) refl h.0 h.1
-  decl_fine d h = tt
+  decl_fine : (view : Option Bytes) (d : Decl) → (kids_fault t d ≡ None) × (hidden_at t d ≡ None) → Each IsOfOperator (schemes_at t view d)
+  decl_fine view (Schemes p op v ss) h = by (is_same_view (view_name v) view)
+    where
+      by : (b : Bool) → Each IsOfOperator (if b then schemes_under t ss (operator_at t p op) else [])
+      by true = schemes_fine p op v ss (operator_at t p op) refl h.0 h.1
+      by false = tt
+  decl_fine view d h = tt
 
   owned_fine : (pairs : List (ℕ × Scheme)) (k : ℕ) → Each IsOfOperator pairs → Each (IsScheme spec k) (owned pairs k)
   owned_fine [] k h = tt
@@ -182,11 +210,29 @@ module _ (t : Table) (spec : Spec) (kept : HasTable t spec) where
       one true e = (subst (λ j. IsScheme spec j x.1) (eq_is x.0 k e) h.0, tt)
       one false e = tt
 
-  all_fine : (ds : List Decl) (k : ℕ) → scheme_kids t ds ≡ None → first_hidden t ds ≡ None → Each (IsScheme spec k) (schemes_of t ds k)
-  all_fine ds k kids hid =
-      owned_fine (flat_map (schemes_at t) ds) k
-      (each_flat IsOfOperator (λ d. (kids_fault t d ≡ None) × (hidden_at t d ≡ None)) (schemes_at t) ds decl_fine
+  all_fine : (view : Option Bytes) (ds : List Decl) (k : ℕ) → scheme_kids t ds ≡ None → first_hidden t ds ≡ None → Each (IsScheme spec k) (schemes_of t view ds k)
+  all_fine view ds k kids hid =
+      owned_fine (flat_map (schemes_at t view) ds) k
+      (each_flat IsOfOperator (λ d. (kids_fault t d ≡ None) × (hidden_at t d ≡ None)) (schemes_at t view) ds (decl_fine view)
       (each_both (λ d. kids_fault t d ≡ None) (λ d. hidden_at t d ≡ None) ds (first-none (kids_fault t) ds kids) (first-none (hidden_at t) ds hid)))
+
+  -- so do the schemes of each view
+  row_fine : (ds : List Decl) → scheme_kids t ds ≡ None → first_hidden t ds ≡ None → (n op : ℕ) (view : Bytes) → Each (IsScheme spec op) (unwrap_or (slice_get (map (schemes_of t (Some view) ds) (below n)) op) [])
+  row_fine ds kids hid n op view = subst (λ (o : Option (List Scheme)). Each (IsScheme spec op) (unwrap_or o [])) (sym (slice_get-map (schemes_of t (Some view) ds) (below n) op)) (by (slice_get (below n) op) refl)
+    where
+      by : (o : Option ℕ) → slice_get (below n) op ≡ o → Each (IsScheme spec op) (unwrap_or (option_map (schemes_of t (Some view) ds) o) [])
+      by None e = tt
+      by (Some k) e = subst (λ j. Each (IsScheme spec op) (schemes_of t (Some view) ds j)) (sym (below_at n op k e)) (all_fine (Some view) ds op kids hid)
+
+  viewed_fine : (ds : List Decl) → scheme_kids t ds ≡ None → first_hidden t ds ≡ None → (v op : ℕ) → Each (IsScheme spec op) (schemes_in_view (views_of t ds) v op)
+  unfolding views_of
+  viewed_fine ds kids hid zero op = tt
+  viewed_fine ds kids hid (suc v) op =
+      subst (λ (o : Option (List (List Scheme))). Each (IsScheme spec op) (unwrap_or (slice_get (unwrap_or o []) op) [])) (sym (slice_get-map (row_of t ds) (view_names ds) v)) (by (slice_get (view_names ds) v))
+    where
+      by : (o : Option Bytes) → Each (IsScheme spec op) (unwrap_or (slice_get (unwrap_or (option_map (row_of t ds) o) []) op) [])
+      by None = tt
+      by (Some view) = row_fine ds kids hid (length t.ops) op view
 
 -- an operator to which declarations give schemes has some
 some_owned : (t : Table) (k : ℕ) (ss : List SchemeDecl) → (ss ≡ [] → ⊥) → 1 ≤ length (owned (map (λ s. (k, scheme_of t k s)) ss) k)
@@ -197,7 +243,7 @@ some_owned t k (s ∷ ss) some =
     let n : length (owned (map (λ x. (k, scheme_of t k x)) (s ∷ ss)) k) ≡ suc (length (owned (map (λ x. (k, scheme_of t k x)) ss) k)) = ap length e in
     omega (arith, n)
 
-gives_some : (t : Table) (k : ℕ) (d : Decl) → IsWritten d → gives t k d ≡ true → 1 ≤ length (owned (schemes_at t d) k)
+gives_some : (t : Table) (k : ℕ) (d : Decl) → IsWritten d → gives t k d ≡ true → 1 ≤ length (owned (schemes_at t None d) k)
 gives_some t k (Schemes p op None ss) written h = by (operator_at t p op) h
   where
     by : (o : Option ℕ) → unwrap_or (option_map (nat_eq k) o) false ≡ true → 1 ≤ length (owned (schemes_under t ss o) k)
@@ -205,16 +251,16 @@ gives_some t k (Schemes p op None ss) written h = by (operator_at t p op) h
     by (Some j) e = subst (λ m. 1 ≤ length (owned (schemes_under t ss (Some m)) k)) (eq_is k j e) (some_owned t k ss written)
 gives_some t k d written h = absurd (cc h)
 
-given_has : (t : Table) (k : ℕ) (ds : List Decl) → Each IsWritten ds → list_any (gives t k) ds ≡ true → 1 ≤ length (schemes_of t ds k)
+given_has : (t : Table) (k : ℕ) (ds : List Decl) → Each IsWritten ds → list_any (gives t k) ds ≡ true → 1 ≤ length (schemes_of t None ds k)
 given_has t k [] written h = absurd (cc h)
 given_has t k (d ∷ ds) written h = by (gives t k d) refl (given_has t k ds written.1) h
   where
-    parts : length (schemes_of t (d ∷ ds) k) ≡ length (owned (schemes_at t d) k) + length (schemes_of t ds k)
-    parts = ap length (owned_append (schemes_at t d) (flat_map (schemes_at t) ds) k) ∙ length-append (owned (schemes_at t d) k) (schemes_of t ds k)
+    parts : length (schemes_of t None (d ∷ ds) k) ≡ length (owned (schemes_at t None d) k) + length (schemes_of t None ds k)
+    parts = ap length (owned_append (schemes_at t None d) (flat_map (schemes_at t None) ds) k) ∙ length-append (owned (schemes_at t None d) k) (schemes_of t None ds k)
 
-    by : (b : Bool) → gives t k d ≡ b → (list_any (gives t k) ds ≡ true → 1 ≤ length (schemes_of t ds k)) → (b || list_any (gives t k) ds) ≡ true → 1 ≤ length (schemes_of t (d ∷ ds) k)
-    by true is rest some = let e = parts in let n : 1 ≤ length (owned (schemes_at t d) k) = gives_some t k d written.0 is in omega (arith, e, n)
-    by false is rest some = let e = parts in let n : 1 ≤ length (schemes_of t ds k) = rest some in omega (arith, e, n)
+    by : (b : Bool) → gives t k d ≡ b → (list_any (gives t k) ds ≡ true → 1 ≤ length (schemes_of t None ds k)) → (b || list_any (gives t k) ds) ≡ true → 1 ≤ length (schemes_of t None (d ∷ ds) k)
+    by true is rest some = let e = parts in let n : 1 ≤ length (owned (schemes_at t None d) k) = gives_some t k d written.0 is in omega (arith, e, n)
+    by false is rest some = let e = parts in let n : 1 ≤ length (schemes_of t None ds k) = rest some in omega (arith, e, n)
 
 -- where none is missing, no operator lacks a scheme
 place_there : (xs : List Position) (k : ℕ) → k < length xs → (p : Position) × (slice_get xs k ≡ Some p)
@@ -238,31 +284,29 @@ module _ (t : Table) (spec : Spec) (kept : HasTable t spec) where
   shown_kept (argument op p q own is there) =
       argument op p q (sym (phylum_kept t spec kept op) ∙ own) (shown_kept is) (subst (λ (l : List ℕ). Contains l q) (args_kept t spec kept op) there)
 
--- without views no operator has schemes in one
-none_viewed : (v op : ℕ) → schemes_in_view (record { names = []; rows = [] }) v op ≡ []
-none_viewed zero op = refl
-none_viewed (suc v) op = refl
-
 -- the schemes of the record fit their operators, and the operators of shown phyla have some
-pub record_schemes : (ds : List Decl) (spec : Spec) → HasTable (names_of ds) spec → spec.ops ≡ with_schemes (schemes_of (names_of ds) ds) (names_of ds).ops → Each IsWritten ds
+pub record_schemes : (ds : List Decl) (spec : Spec) → HasTable (names_of ds) spec → spec.ops ≡ with_schemes (schemes_of (names_of ds) None ds) (names_of ds).ops → Each IsWritten ds
     → IsNoScheme (names_of ds) ds None → scheme_kids (names_of ds) ds ≡ None → first_hidden (names_of ds) ds ≡ None
-    → spec.views ≡ record { names = []; rows = [] } → HasSchemes spec
+    → spec.views ≡ views_of (names_of ds) ds → HasSchemes spec
+unfolding names_of
 record_schemes ds spec kept made written none kids hid viewed = record { shown = shown_have; schemes = schemes_fit; views = in_views }
   where
     in_views : (v op : ℕ) → op < length spec.ops → All (IsScheme spec op) (schemes_in_view spec.views v op)
-    in_views v op low = subst (All (IsScheme spec op)) (sym (ap (λ (x : Views). schemes_in_view x v op) viewed ∙ none_viewed v op)) (All-from_recursion (IsScheme spec op) [] tt)
+    in_views v op low =
+        subst (λ (x : Views). All (IsScheme spec op) (schemes_in_view x v op)) (sym viewed)
+        (All-from_recursion (IsScheme spec op) (schemes_in_view (views_of (names_of ds) ds) v op) (viewed_fine (names_of ds) spec kept ds kids hid v op))
 
     schemes_fit : (op : ℕ) (o : Operator) → slice_get spec.ops op ≡ Some o → All (IsScheme spec op) o.schemes
     schemes_fit op o at =
-        let there = made_there (with_scheme (schemes_of (names_of ds) ds)) (names_of ds).ops op o (ap (λ l. slice_get l op) (sym made) ∙ at) in
+        let there = made_there (with_scheme (schemes_of (names_of ds) None ds)) (names_of ds).ops op o (ap (λ l. slice_get l op) (sym made) ∙ at) in
         All-from_recursion (IsScheme spec op) o.schemes
-        (subst (Each (IsScheme spec op)) (ap (λ (x : Operator). x.schemes) there.2) (all_fine (names_of ds) spec kept ds op kids hid))
+        (subst (Each (IsScheme spec op)) (ap (λ (x : Operator). x.schemes) there.2) (all_fine (names_of ds) spec kept None ds op kids hid))
 
     shown_have : (op : ℕ) (o : Operator) → slice_get spec.ops op ≡ Some o → IsShown spec o.phylum → 1 ≤ length o.schemes
     shown_have op o at is = by (list_any (gives (names_of ds) op) ds) refl
       where
-        there : (x : Operator) × (slice_get (names_of ds).ops op ≡ Some x) × (with_scheme (schemes_of (names_of ds) ds) op x ≡ o)
-        there = made_there (with_scheme (schemes_of (names_of ds) ds)) (names_of ds).ops op o (ap (λ l. slice_get l op) (sym made) ∙ at)
+        there : (x : Operator) × (slice_get (names_of ds).ops op ≡ Some x) × (with_scheme (schemes_of (names_of ds) None ds) op x ≡ o)
+        there = made_there (with_scheme (schemes_of (names_of ds) None ds)) (names_of ds).ops op o (ap (λ l. slice_get l op) (sym made) ∙ at)
 
         is_shown : IsShown (drafted (names_of ds)) there.0.phylum
         is_shown = subst (IsShown (drafted (names_of ds))) (ap (λ (x : Operator). x.phylum) (sym there.2)) (shown_kept (names_of ds) spec kept is)

@@ -12,9 +12,9 @@ use Rattle.sg_ast.specs.FirstFault.{or_else}
 use Rattle.sg_ast.specs.Written.{HaveWritten}
 use Rattle.sg_names.specs.declared.table.Table.{Table}
 use Rattle.sg_names.specs.Drafted.{HasTable}
-use Rattle.sg_names.specs.Names.{names_of}
 use Rattle.sg_names.specs.Shapes.{result_count}
 use Rattle.sg_names.specs.UnknownName.{unknown_name}
+use Rattle.sg_remote.specs.Longer.{names_of}
 use Rattle.sg_schemes.specs.Places.{scheme_kids}
 use Rattle.sg_schemes.specs.NoScheme.{IsNoScheme}
 use Rattle.sg_typing.specs.Bodies.{first_mismatch}
@@ -65,7 +65,7 @@ module _ (ds : List Decl) (rules : List Rule) (lexemes : List Lexeme) (written :
         params = params_usable ds spec kept refl fine;
         transforms = transforms_typed (names_of ds) spec kept ds lists refl refl fine;
         phyla = phyla_usable (names_of ds) spec kept ds refl fine;
-        productions = productions_typed ds spec kept all lists refl refl fine;
+        productions = productions_typed ds spec kept all shapes lists refl refl fine;
         results = results_typed ds spec kept refl results fine;
       }
 

@@ -1,9 +1,9 @@
 -- The symbols of input productions, their types, and what references name among them.
-use Rattle.std.proofs.Common.{◌≡◌, ℕ, zero, suc, ◌+◌, ◌-◌, Bool, true, false, cond, ◌&&◌, ◌||◌, if◌then◌else◌, List, [], ◌∷◌, ◌++◌, map, flat_map, take, length, Option, Some, None, slice_get, bytes_eq, nat_eq, refl, sym, ap, subst, ◌∙◌, arith, zero-add}
+use Rattle.std.proofs.Common.{◌≡◌, ℕ, zero, suc, ◌+◌, ◌-◌, Bool, true, false, cond, ◌&&◌, ◌||◌, if◌then◌else◌, List, [], ◌∷◌, ◌++◌, map, flat_map, take, length, Option, Some, None, slice_get, bytes_eq, nat_eq, refl, sym, ap, subst, ◌∙◌, arith}
 use Rattle.std.specs.Prelude.{is_some, option_map, option_and_then, unwrap_or, count_by}
 use Rattle.sg_kinds.specs.Values.{Bytes}
-use Rattle.sg_kinds.specs.Sound.{symbol_type, symbol_types, result_type}
-use Rattle.sg_kinds.specs.Specification.{attrs_of, has_shape, is_lexical_shape, is_leaf_shape}
+use Rattle.sg_kinds.specs.Sound.{HasShapes, IsShaped, IsValue, symbol_type, symbol_types, result_type}
+use Rattle.sg_kinds.specs.Specification.{attrs_of, has_shape, is_lexical_shape}
 use Rattle.sg_kinds.specs.Typing.{is_usable}
 use Rattle.sg_kinds.specs.declared.marks.Shape.{Shape}
 use Rattle.sg_kinds.specs.declared.marks.Shape.TheVariants.{Lexemes}
@@ -19,47 +19,40 @@ use Rattle.sg_ast.specs.declared.name.Occurrence.TheVariants as occurrence
 use Rattle.sg_ast.specs.declared.name.Reference.{Reference}
 use Rattle.sg_ast.specs.Declarations.{Decl}
 use Rattle.sg_ast.specs.FirstFault.{or_else}
-use Rattle.sg_names.specs.declared.heads.Head.{Head}
 use Rattle.sg_names.specs.declared.table.Nonterminal.{Nonterminal}
 use Rattle.sg_names.specs.declared.table.Table.{Table}
 use Rattle.sg_names.specs.Drafted.{drafted, HasTable}
 use Rattle.sg_names.specs.Lookups.{nonterminal_named, phylum_named, usable_named, symbol_attrs, attr_type, name_of, symbol, places_from, places, chosen, is_part, not_left}
 use Rattle.sg_names.specs.Lookups as look
-use Rattle.sg_names.specs.Names.{map_from, value_attr, attrs_there, phylum, phyla_in, listings_of, attributes_of, owned, owners, operators_in, names_of}
+use Rattle.sg_names.specs.Names.{value_attr}
 use Rattle.sg_names.specs.UnknownName.{unknown_at, is_lexeme, is_nonterminal}
 use Rattle.sg_names.specs.Uses.{UsesSymbol, part_uses}
 use Rattle.sg_names.proofs.DraftedLaws.{usable_kept}
+use Rattle.sg_remote.specs.Longer.{names_of}
 use Rattle.sg_types.specs.Bindings.{OfProduction, is_bound, symbol_there, reference_at}
 use Rattle.sg_typing.specs.Written.{AreOutside}
 use Rattle.sg_typing.proofs.TableFacts.{usable_is}
 use Rattle.sg_record.specs.Record.{phylum_in, symbol_named, symbol_of}
 use Rattle.sg_record.proofs.Known.{AreKnown, known_is, named_of_usable}
-use Rattle.sg_record.proofs.Lists.{count-cons, slice_get-map_from}
+use Rattle.sg_record.proofs.Lists.{count-cons}
 
 -- a lexeme phylum has the one attribute of its text
-lexical_leaf : (s : Shape) → is_lexical_shape s ≡ true → is_leaf_shape s ≡ true
-lexical_leaf (Lexemes l) h = refl
-lexical_leaf s h = absurd (cc h)
-
-value_there : (k : ℕ) (s : Shape) (attrs : List Attr) → is_lexical_shape s ≡ true → attrs_there attrs k s ≡ value_attr k ∷ []
-value_there k s attrs h = ap (λ b. if b then value_attr k ∷ [] else attrs) (lexical_leaf s h)
-
-made_attrs : (heads : List Head) (listings : ℕ → List Shape) (ops : ℕ → List ℕ) (attrs : ℕ → List Attr) (p : ℕ) → has_shape (map_from (phylum heads listings ops attrs) 0 heads) is_lexical_shape p ≡ true
-    → attrs_of (map_from (phylum heads listings ops attrs) 0 heads) p ≡ value_attr p ∷ []
-made_attrs heads listings ops attrs p h = by (slice_get heads p) (slice_get-map_from (phylum heads listings ops attrs) 0 heads p)
+lexeme_attrs : (t : Table) (spec : Spec) → HasTable t spec → HasShapes spec → (p : ℕ) → has_shape t.phyla is_lexical_shape p ≡ true → attrs_of t.phyla p ≡ value_attr p ∷ []
+lexeme_attrs t spec kept shapes p h = by (slice_get t.phyla p) refl h
   where
-    by : (o : Option Head) → slice_get (map_from (phylum heads listings ops attrs) 0 heads) p ≡ option_map (phylum heads listings ops attrs (0 + p)) o → attrs_of (map_from (phylum heads listings ops attrs) 0 heads) p ≡ value_attr p ∷ []
-    by None e =
-        let none : has_shape (map_from (phylum heads listings ops attrs) 0 heads) is_lexical_shape p ≡ false = ap (λ o. unwrap_or (option_map (λ (y : Phylum). is_lexical_shape y.shape) o) false) e in
-        absurd (cc (none, h))
-    by (Some x) e =
-        let there : slice_get (map_from (phylum heads listings ops attrs) 0 heads) p ≡ Some (phylum heads listings ops attrs p x) = e ∙ ap (λ k. Some (phylum heads listings ops attrs k x)) (zero-add p) in
-        let shape : is_lexical_shape (phylum heads listings ops attrs p x).shape ≡ true = sym (ap (λ o. unwrap_or (option_map (λ (y : Phylum). is_lexical_shape y.shape) o) false) there) ∙ h in
-        ap (λ o. unwrap_or (option_map (λ (y : Phylum). y.attrs) o) []) there ∙ value_there p (phylum heads listings ops attrs p x).shape (attrs p) shape
+    one : (attrs : List Attr) → IsValue p attrs → attrs ≡ value_attr p ∷ []
+    one [] v = absurd v
+    one (a ∷ []) v = ap (λ (b : Attr). b ∷ []) v
+    one (a ∷ b ∷ attrs) v = absurd v
 
-pub lexeme_attrs : (ds : List Decl) (p : ℕ) → has_shape (names_of ds).phyla is_lexical_shape p ≡ true → attrs_of (names_of ds).phyla p ≡ value_attr p ∷ []
-unfolding names_of
-lexeme_attrs ds p h = made_attrs (phyla_in ds) (listings_of (phyla_in ds) ds) (owned (owners (operators_in (phyla_in ds) ds))) (attributes_of (phyla_in ds) (phyla_in ds) ds) p h
+    shaped : (x : Phylum) (s : Shape) → is_lexical_shape s ≡ true → IsShaped spec p x s → x.attrs ≡ value_attr p ∷ []
+    shaped x (Lexemes l) h is = one x.attrs is.1
+    shaped x s h is = absurd (cc h)
+
+    by : (o : Option Phylum) → slice_get t.phyla p ≡ o → unwrap_or (option_map (λ (x : Phylum). is_lexical_shape x.shape) o) false ≡ true
+        → unwrap_or (option_map (λ (x : Phylum). x.attrs) o) [] ≡ value_attr p ∷ []
+    by None e g = absurd (cc g)
+    by (Some x) e g = shaped x x.shape g (shapes.phyla p x (ap (λ l. slice_get l p) kept.phyla ∙ e)).shape
 
 -- the types of the named symbols, each that of the one attribute of its name
 abbrev pub PartsHave : Table → List Part → List ℕ → Type 0
@@ -197,7 +190,7 @@ module _ (t : Table) (parts : List Part) (G : List ℕ) (have : PartsHave t part
   }
 
 -- the symbols of a production that are known have types
-module _ (ds : List Decl) (spec : Spec) (kept : HasTable (names_of ds) spec) where
+module _ (ds : List Decl) (spec : Spec) (kept : HasTable (names_of ds) spec) (shapes : HasShapes spec) where
   lexeme_there : (n : Bytes) → is_lexeme (names_of ds) n ≡ true → (p : ℕ) × (usable_named (names_of ds) n ≡ Some p) × (has_shape (names_of ds).phyla is_lexical_shape p ≡ true)
   lexeme_there n h = by (usable_named (names_of ds) n) refl h
     where
@@ -230,7 +223,7 @@ module _ (ds : List Decl) (spec : Spec) (kept : HasTable (names_of ds) spec) whe
             let named = named_of_usable t n.text p.0 p.1 in
             let attrs : symbol_attrs t n.text ≡ value_attr p.0 ∷ [] =
             ap (λ o. unwrap_or (or_else (option_and_then (λ k. option_map (λ (x : Nonterminal). x.attrs) (slice_get t.nonterminals k)) o) (option_map (attrs_of t.phyla) (phylum_named t n.text))) []) e
-            ∙ ap (λ o. unwrap_or (option_map (attrs_of t.phyla) o) []) named ∙ lexeme_attrs ds p.0 p.2 in
+            ∙ ap (λ o. unwrap_or (option_map (attrs_of t.phyla) o) []) named ∙ lexeme_attrs t spec kept shapes p.0 p.2 in
             let number : phylum_in t n.text ≡ p.0 = ap (λ o. unwrap_or o 0) p.1 in
             (value_attr p.0, attrs, ap (λ q. cond (has_shape spec.phyla is_lexical_shape q && is_usable spec q) (Some (q ∷ [])) None) number ∙ lexical_typed p.0 p.2 (usable_is t n.text p.0 p.1))
           where

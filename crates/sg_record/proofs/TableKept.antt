@@ -14,7 +14,9 @@ use Rattle.sg_names.specs.declared.heads.Head.{Head}
 use Rattle.sg_names.specs.declared.table.Signature.{Signature}
 use Rattle.sg_names.specs.declared.table.Table.{Table}
 use Rattle.sg_names.specs.Drafted.{without_schemes, signature_of, HasTable}
-use Rattle.sg_names.specs.Names.{map_from, operator, operators_at, operators_in, phyla_in, with_local, names_of}
+use Rattle.sg_names.specs.Names.{map_from, operator, operators_at, operators_in, phyla_in, with_local}
+use Rattle.sg_names.specs.Names as text_names
+use Rattle.sg_remote.specs.Longer.{names_of}
 use Rattle.sg_record.specs.Premises.{HasNoSchemes}
 use Rattle.sg_record.specs.Record.{with_scheme, with_bodies, record_of}
 use Rattle.sg_record.proofs.Lists.{each_append}
@@ -58,5 +60,5 @@ bare_locals locals k [] h = tt
 bare_locals locals k (o ∷ ops) h = (h.0, bare_locals locals (suc k) ops h.1)
 
 pub names_bare : (ds : List Decl) → HasNoSchemes (names_of ds)
-unfolding names_of
+unfolding names_of text_names.names_of
 names_bare ds = All-from_recursion IsBare _ (bare_locals _ 0 (operators_in (phyla_in ds) ds) (bare_in (phyla_in ds) ds))

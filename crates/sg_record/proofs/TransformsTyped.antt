@@ -23,14 +23,13 @@ use Rattle.sg_types.specs.Bindings.{OfNothing}
 use Rattle.sg_types.specs.Expressions.{mismatch_at}
 use Rattle.sg_types.specs.Expressions as expr
 use Rattle.sg_types.specs.Patterns.{parts_of, mismatch_in, variables_of, variables_of_all, recorded}
-use Rattle.sg_typing.specs.declared.bodies.TypedExpr.{TypedExpr}
 use Rattle.sg_typing.specs.Bodies.{exprs_at, exprs_in, transform_typed, transform_mismatch}
 use Rattle.sg_typing.specs.Written.{HasLists, known}
 use Rattle.sg_typing.proofs.BodyTyped.{body_kept}
 use Rattle.sg_typing.proofs.Kept.{pattern_kept}
 use Rattle.sg_typing.proofs.RecordTyped.{known-append}
 use Rattle.sg_typing.proofs.TableFacts.{usable_is}
-use Rattle.sg_record.specs.Record.{phylum_in, transforms_at, transforms_in}
+use Rattle.sg_record.specs.Record.{phylum_in, transforms_at, transforms_in, recorded_exprs}
 use Rattle.sg_record.proofs.Aligned.{StandAt, each_given}
 use Rattle.sg_record.proofs.ExprThere.{typed_there}
 use Rattle.sg_record.proofs.FunctionsTyped.{nothing_outside}
@@ -63,7 +62,7 @@ module _ (t : Table) (spec : Spec) (kept : HasTable t spec) where
   abbrev IsTypedTransform : Transform → Type 0
   IsTypedTransform x = MatchOption (bound_types spec x.pattern x.phylum) ⊥ (λ G. IsTrue (is_typed spec G x.expr x.phylum))
 
-  module _ (ds : List Decl) (lists : HasLists t) (made : spec.exprs ≡ map (λ (x : TypedExpr). x.expr) (exprs_in t ds)) where
+  module _ (ds : List Decl) (lists : HasLists t) (made : spec.exprs ≡ recorded_exprs t ds) where
     transform_there : (k p : ℕ) (n : Name) (title : Quoted) (q : Pattern) (e : Expr) → usable_named t n.text ≡ Some p → transform_mismatch t n q e ≡ None → IsWritten (decl.Transform n title q e)
         → slice_get (exprs_in t ds) k ≡ Some (transform_typed t n q e) → MatchOption (bound_types spec (recorded t q) p) ⊥ (λ G. IsTrue (is_typed spec G k p))
     transform_there k p n title q e usable h written at =

@@ -1,5 +1,4 @@
 pub mod Record
-pub mod PiecesView
 pub mod Entries
 pub mod Premises
 pub mod RecordView

@@ -1,11 +1,12 @@
 //! The bodies of functions, and the expressions of the record.
-ghost use Rattle.std.specs.Prelude.{◌≡◌, ◌++◌, ◌+◌, map, IfOk, OnOk};
+ghost use Rattle.std.specs.Prelude.{◌≡◌, ◌++◌, ◌+◌, [], ◌∷◌, map, IfOk, OnOk};
 ghost use Rattle.sg_ast.specs.View.{tree_of, trees_of};
+ghost use Rattle.sg_kinds.specs.Expressions.{Named};
 ghost use Rattle.sg_record.specs.Record as spec;
 ghost use Rattle.sg_typing.specs.declared.bodies.TypedExpr.{TypedExpr};
 
 use sg_ast::decl::Decl;
-use sg_kinds::expr::Expr;
+use sg_kinds::expr::{Expr, ExprTree};
 use sg_kinds::ids::ExprId;
 use sg_kinds::memory::NoMemory;
 use sg_kinds::spec::Function;
@@ -89,13 +90,16 @@ pub(crate) fn with_bodies(
     Ok(made)
 }
 
-/// The expressions alone.
+/// The expressions alone, and behind them that which names the first of what an equation names.
 pub(crate) fn exprs(alloc: Global, typed: Vec<TypedExpr>) -> Result<Vec<Expr>, NoMemory>
-    ensures { IfOk result (λ v. v.items ≡ map (λ (x : TypedExpr). x.expr) typed.items) }
+    ensures { IfOk result (λ v. v.items ≡ map (λ (x : TypedExpr). x.expr) typed.items ++ Named 0 ∷ []) }
 {
     let mut exprs = Vec::new(alloc);
     for each in typed {
         exprs.push(each.expr)?;
     }
+    exprs.push(Expr {
+        tree: ExprTree::Named(0),
+    })?;
     Ok(exprs)
 }

@@ -8,7 +8,6 @@ ghost use Rattle.sg_kinds.specs.Sound.{HasEntries, HasSchemes, HasShapes, IsName
 ghost use Rattle.sg_kinds.specs.declared.fault.Position.{Position};
 ghost use Rattle.sg_kinds.specs.declared.spec.Rule.{Rule};
 ghost use Rattle.sg_names.specs.Drafted.{HasTable};
-ghost use Rattle.sg_names.specs.Names.{names_of};
 ghost use Rattle.sg_names.specs.Shapes.{result_count};
 ghost use Rattle.sg_names.specs.UnknownName.{unknown_name};
 ghost use Rattle.sg_names.specs.declared.table.Table.{Table};
@@ -17,6 +16,7 @@ ghost use Rattle.sg_record.specs.EntryPlaces.{entry_places, fault_place, is_same
 ghost use Rattle.sg_ast.specs.Written.{HaveWritten};
 ghost use Rattle.sg_record.specs.Premises.{AreApart, HasNoSchemes};
 ghost use Rattle.sg_record.specs.Record.{record_of};
+ghost use Rattle.sg_remote.specs.Longer.{names_of};
 ghost use Rattle.sg_schemes.specs.NoScheme.{IsNoScheme};
 ghost use Rattle.sg_schemes.specs.Places.{scheme_kids};
 ghost use Rattle.sg_schemes.specs.Spots.{IsFirst};
@@ -36,7 +36,7 @@ pub fn records_are_typed()
         HasShapes (record_of (names_of ds) ds rules lexemes) → IsTyped (record_of (names_of ds) ds rules lexemes) }
 {}
 
-/// Operators of shown phyla have schemes, and each scheme fits its operator.
+/// Operators of shown phyla have schemes in the ordinary view, and each scheme of each view fits its operator.
 pub fn records_have_schemes()
     ensures { (ds : List Decl) (rules : List Rule) (lexemes : List Lexeme) → HaveWritten ds →
         IsNoScheme (names_of ds) ds None → scheme_kids (names_of ds) ds ≡ None → first_fault (names_of ds) ds ≡ None →

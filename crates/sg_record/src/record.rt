@@ -1,18 +1,17 @@
 //! The record of declarations.
-ghost use Rattle.std.specs.Prelude.{◌≡◌, List, IfOk, map};
+ghost use Rattle.std.specs.Prelude.{◌≡◌, List, IfOk};
 ghost use Rattle.sg_ast.specs.Declarations.{Decl as Tree};
 ghost use Rattle.sg_ast.specs.View.{trees_of};
-ghost use Rattle.sg_record.specs.Record.{record_of};
+ghost use Rattle.sg_record.specs.Record.{record_of, recorded_exprs};
 ghost use Rattle.sg_record.specs.RecordView.{ArePartsOf};
-ghost use Rattle.sg_typing.specs.Bodies.{exprs_in, patterns_in};
+ghost use Rattle.sg_typing.specs.Bodies.{patterns_in};
 ghost use Rattle.sg_typing.specs.Checked.{typed_of};
-ghost use Rattle.sg_typing.specs.declared.bodies.TypedExpr.{TypedExpr};
 
 use crate::bodies::{bodies, exprs, with_bodies};
 use crate::entries::entries;
 use crate::levels::levels;
+use crate::operators::with_schemes;
 use crate::productions::productions;
-use crate::schemes::{schemes, with_schemes};
 use crate::transforms::transforms;
 use sg_ast::decl::Decl;
 use sg_kinds::expr::Expr;
@@ -27,12 +26,15 @@ use sg_names::groups::Groups;
 use sg_names::names::Names;
 use sg_names::table::Table;
 use sg_typing::Typed;
+use sg_views::schemes::schemes;
+use sg_views::views::views;
 use std::alloc::Global;
 
 /// What declarations give to the record besides names, types and rules.
 #[derive(Drop)]
 pub(crate) struct Given {
     schemes: Groups<Scheme>,
+    views: Views,
     transforms: Vec<Transform>,
     productions: Vec<Production>,
     entries: Vec<Entry>,
@@ -50,13 +52,15 @@ fn parts(
     ensures { IfOk result (ArePartsOf names.now (trees_of decls.now)) }
 {
     let transforms = transforms(alloc, decls, names, patterns)?;
-    let schemes = schemes(alloc, decls, names)?;
+    let schemes = schemes(alloc, decls, names, None)?;
+    let views = views(alloc, decls, names)?;
     let productions = productions(alloc, decls, names)?;
     let entries = entries(alloc, decls, names)?;
     let levels = levels(alloc, decls)?;
     let bodies = bodies(alloc, decls)?;
     Ok(Given {
         schemes,
+        views,
         transforms,
         productions,
         entries,
@@ -74,7 +78,7 @@ fn assembled(
     lexemes: Row<Lexeme>,
 ) -> Result<Spec, NoMemory>
     ensures { (ds : List Tree) → ArePartsOf table ds parts
-        → exprs.items ≡ map (λ (x : TypedExpr). x.expr) (exprs_in table ds)
+        → exprs.items ≡ recorded_exprs table ds
         → IfOk result (λ spec. spec ≡ record_of table ds rules lexemes) }
 {
     let functions = with_bodies(alloc, table.functions.into_vec(), &parts.bodies)?;
@@ -90,7 +94,7 @@ fn assembled(
         productions: Row::new(parts.productions),
         entries: Row::new(parts.entries),
         levels: Row::new(parts.levels),
-        views: Views::none(alloc),
+        views: parts.views,
         root: table.root,
     })
 }

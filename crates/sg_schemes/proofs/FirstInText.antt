@@ -19,7 +19,7 @@ use Rattle.sg_ast.specs.Rising.{places_of, RiseFrom}
 use Rattle.sg_ast.proofs.RisingLaws.{some_rise, later, whole}
 use Rattle.sg_names.specs.declared.table.Table.{Table}
 use Rattle.sg_names.specs.Lookups.{phylum_named, operator_named}
-use Rattle.sg_names.specs.Names.{names_of}
+use Rattle.sg_remote.specs.Longer.{names_of}
 use Rattle.sg_schemes.specs.NoScheme.{IsNoScheme, all_have, first_lacks}
 use Rattle.sg_schemes.specs.Places.{places_fault, is_fitting, is_list_pair, phylum_faults, operator_faults, kids_fault, scheme_kids}
 use Rattle.sg_schemes.specs.Shown.{fault_at}

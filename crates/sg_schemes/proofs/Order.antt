@@ -14,7 +14,8 @@ use Rattle.sg_ast.specs.Parts.{op_places_at}
 use Rattle.sg_ast.specs.Spelling.{Piece, bar, spell_name, spell_text, spell_alt, spell_item, spell_scheme, spell_view}
 use Rattle.sg_ast.specs.Rising.{kept_places, places_of, SomeOf, nothing, passed, taken}
 use Rattle.sg_ast.proofs.RisingLaws.{some_of_each, in_front, in_back, in_both}
-use Rattle.sg_names.specs.Names.{names_of}
+use Rattle.sg_names.specs.Names as written
+use Rattle.sg_remote.specs.Longer.{names_of}
 use Rattle.sg_schemes.specs.Spots.{scheme_places, item_strings, scheme_strings, strings_at}
 
 -- operators
@@ -31,7 +32,7 @@ operators_in (Operators p alts) = passed (in_front _ (join_by spell_alt bar alts
 operators_in d = nothing
 
 pub operators_ordered : (ds : List Decl) → SomeOf (names_of ds).op_places (flat_map places_of ds)
-unfolding names_of
+unfolding names_of written.names_of
 operators_ordered ds = some_of_each op_places_at places_of operators_in ds
 
 -- schemes

@@ -1,0 +1,3 @@
+pub mod PiecesMade
+pub mod ViewNames
+pub mod ViewRows

@@ -1,0 +1,3 @@
+pub mod PiecesView
+pub mod Schemes
+pub mod Views
