@@ -5,6 +5,16 @@ mod WrittenMarks
 mod WrittenTrees
 mod WrittenDecls
 pub mod WrittenLaws
+mod LongerLists
+mod LongerNames
+mod LongerShapes
+mod AlikeRemotes
+mod FarLists
+mod FarAtoms
+mod FarAttrs
+mod FarPhyla
+mod FarCounts
+pub mod FarSound
 pub mod NamesRead
 pub mod FirstLaws
 pub mod LexemeFaults

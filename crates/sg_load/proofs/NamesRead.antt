@@ -15,10 +15,13 @@ use Rattle.sg_ast.specs.Declarations.{Decl, Operators}
 use Rattle.sg_ast.specs.Spelling.{Mark, sign, bar, spell_alt, spell}
 use Rattle.sg_ast.specs.Spells.{EachSpells}
 use Rattle.sg_names.specs.declared.heads.Head.{Head}
-use Rattle.sg_names.specs.Names.{map_from, operator, operators_at, operators_in, phyla_in, names_of}
+use Rattle.sg_names.specs.Names.{map_from, operator, operators_at, operators_in, phyla_in}
+use Rattle.sg_names.specs.Names as table
+use Rattle.sg_names.specs.declared.table.Table.{Table}
 use Rattle.sg_record.specs.Record.{record_of}
+use Rattle.sg_remote.specs.Longer.{names_of}
 use Rattle.sg_resolve.specs.Resolved.{resolve_fault}
-use Rattle.sg_resolve.proofs.ShapeRows.{no_fault}
+use Rattle.sg_typing.specs.Checked.{first_fault}
 use Rattle.sg_resolve.proofs.ShapeLists.{each_append, each_split}
 use Rattle.sg_load.specs.FreeNames.{IsFreeName, operator_names}
 use Rattle.sg_load.specs.SpecOf.{equations_of, spec_with}
@@ -27,6 +30,7 @@ use Rattle.sg_load.specs.Verdict.{Accepted, IsOfTrees, IsVerdict}
 use Rattle.sg_load.proofs.WrittenMarks.{HaveForms, AreFormed, taken_formed}
 use Rattle.sg_load.proofs.WrittenTrees.{parts}
 use Rattle.sg_load.proofs.WrittenLaws.{trees_spelled, read_written}
+use Rattle.sg_load.proofs.FarAttrs.{long_is}
 use Rattle.sg_load.proofs.RecordNamed.{record_named}
 
 -- the names of alternatives, which stand before `(`
@@ -84,9 +88,12 @@ kept_named : (f : ℕ → Operator → Operator) → ((k : ℕ) (o : Operator) �
 kept_named f keeps k [] h = tt
 kept_named f keeps k (o ∷ ops) h = (keeps k o h.0, kept_named f keeps (suc k) ops h.1)
 
+written_named : (ds : List Decl) → AllByRecursion IsFreeName (flat_map operator_names ds) → AllByRecursion IsNamed (table.names_of ds).ops
+unfolding table.names_of
+written_named ds h = kept_named _ (λ k o is. is) 0 (operators_in (phyla_in ds) ds) (in_named (phyla_in ds) ds h)
+
 table_named : (ds : List Decl) → AllByRecursion IsFreeName (flat_map operator_names ds) → AllByRecursion IsNamed (names_of ds).ops
-unfolding names_of
-table_named ds h = kept_named _ (λ k o is. is) 0 (operators_in (phyla_in ds) ds) (in_named (phyla_in ds) ds h)
+table_named ds h = subst (λ (t : Table). AllByRecursion IsNamed t.ops) (sym (long_is ds)) (written_named ds h)
 
 spec_named : (ds : List Decl) (lexemes : _) → AllByRecursion IsFreeName (flat_map operator_names ds) → AllByRecursion IsNamed (spec_with ds lexemes).ops
 unfolding record_of
@@ -108,8 +115,8 @@ no_some (Some x) none = absurd (none x refl)
 
 judged_distinct : (bytes : Bytes) (r : Result (List Decl) SpecFault) (spec : Spec) → trees_in bytes ≡ r → IsOfTrees r (Accepted spec) → HasNames spec
 judged_distinct bytes (Ok ds) spec is v =
-    let rows = no_fault ds (no_some (resolve_fault ds) v.0.0) in
-    subst HasNames (sym v.1.made) (record_named ds (equations_of ds) v.1.lexemes (read_written bytes ds is) rows.duplicates rows.results)
+    subst HasNames (sym v.1.made)
+    (record_named ds (equations_of ds) v.1.lexemes (read_written bytes ds is) (no_some (resolve_fault ds) v.0.0) (no_some (first_fault (names_of ds) ds) v.0.1.0))
 judged_distinct bytes (Err f) spec is v = absurd (cc)
 
 pub accepted_distinct : (bytes : Bytes) (spec : Spec) → IsVerdict bytes (Accepted spec) → HasNames spec

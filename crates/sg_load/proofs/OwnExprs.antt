@@ -1,8 +1,12 @@
 -- No equation of a record has the expression of a function, a transformation or an input production.
-use Rattle.std.proofs.Common.{◌≡◌, ℕ, suc, ◌+◌, ◌<◌, ◌≤◌, ◌≢◌, List, [], ◌∷◌, ◌++◌, length, Option, Some, None, Result, Ok, Err, refl, sym, ap, subst, arith}
+use Rattle.std.proofs.Common.{◌≡◌, ℕ, suc, ◌+◌, ◌<◌, ◌≤◌, ◌≢◌, List, [], ◌∷◌, ◌++◌, length, Option, Some, None, Result, Ok, Err, refl, sym, ap, subst, ◌∙◌, arith, length-append}
 use Rattle.std.specs.List.{AllByRecursion as Each, All}
-use Rattle.std.proofs.lemmas.List.Elements.{All-from_recursion}
+use Rattle.std.proofs.lemmas.List.Elements.{All-append, All-from_recursion}
+use Rattle.sg_kinds.specs.Dependencies.{occurrence}
+use Rattle.sg_kinds.specs.Instances.{below}
+use Rattle.sg_kinds.specs.Specification.{args_of, attrs_of}
 use Rattle.sg_kinds.specs.Values.{Bytes}
+use Rattle.sg_kinds.specs.declared.spec.Attr.{Attr}
 use Rattle.sg_kinds.specs.Lexemes.{Lexeme}
 use Rattle.sg_kinds.specs.declared.fault.SpecFault.{SpecFault}
 use Rattle.sg_kinds.specs.declared.spec.Function.{Function}
@@ -18,16 +22,21 @@ use Rattle.sg_ast.specs.Declarations.{Decl, Equation, Right}
 use Rattle.sg_names.specs.declared.heads.Head.{Head}
 use Rattle.sg_names.specs.declared.table.Table.{Table}
 use Rattle.sg_names.specs.Lookups.{operator_at}
-use Rattle.sg_names.specs.Names.{map_from, phyla_in, names_of}
-use Rattle.sg_typing.specs.Bodies.{expr_count, exprs_in}
+use Rattle.sg_names.specs.Names.{map_from, phyla_in}
+use Rattle.sg_names.specs.Names as written
+use Rattle.sg_typing.specs.Bodies.{expr_count, exprs_at, exprs_in}
 use Rattle.sg_typing.specs.declared.bodies.TypedExpr.{TypedExpr}
 use Rattle.sg_equations.specs.Targets.{target_there}
 use Rattle.sg_equations.specs.RulesOf.{ruled, rules_from, rules_under, rules_at, rules_in}
 use Rattle.sg_record.specs.Record.{each_from, transforms_at, production, productions_at, bodies_in, with_bodies, record_of}
+use Rattle.sg_remote.specs.Handing.{argument_rules, handed_by, handing, operator_rules, slot_rules, source}
+use Rattle.sg_remote.specs.Longer.{names_of}
+use Rattle.sg_record.proofs.Aligned.{exprs_counted}
 use Rattle.sg_record.proofs.FunctionsTyped.{made_at, functions_made}
 use Rattle.sg_record.proofs.Lists.{each_append, each_both, each_weaker}
-use Rattle.sg_resolve.proofs.ShapeLists.{each_always}
+use Rattle.sg_resolve.proofs.ShapeLists.{each_always, each_flat}
 use Rattle.sg_load.specs.OwnExprs.{HasOwnExprs}
+use Rattle.sg_load.proofs.FarAttrs.{long_is}
 use Rattle.sg_load.specs.SpecOf.{equations_of, spec_with}
 use Rattle.sg_load.specs.Trees.{trees_in}
 use Rattle.sg_load.specs.Verdict.{IsOfTrees, IsVerdict}
@@ -70,6 +79,41 @@ module _ {A B : Type 0} (f : ℕ → Decl → List A) (g : ℕ → Decl → List
       (each_both (λ x. k + expr_count d ≤ p x) (λ x. Each (λ y. p x ≡ q y → ⊥) (each_from g (k + expr_count d) ds)) (each_from f (k + expr_count d) ds)
       (from_on f p own (k + expr_count d) ds) (all_apart (k + expr_count d) ds)))
 
+-- the equations that hand far attributes down have an expression of their own, behind all others
+module _ (t : Table) (e op : ℕ) where
+  slots_handed : (at slot : ℕ) (attrs : List Attr) → Each (λ (r : Rule). r.expr ≡ e) (slot_rules t e op at slot attrs)
+  slots_handed at slot [] = tt
+  slots_handed at slot (a ∷ attrs) =
+      each_append (λ (r : Rule). r.expr ≡ e) (handed_by e op (occurrence at slot) (source t op a)) (slot_rules t e op at (suc slot) attrs) (by (source t op a)) (slots_handed at (suc slot) attrs)
+    where
+      by : (o : Option ℕ) → Each (λ (r : Rule). r.expr ≡ e) (handed_by e op (occurrence at slot) o)
+      by None = tt
+      by (Some s) = (refl, tt)
+
+  arguments_handed : (k : ℕ) (qs : List ℕ) → Each (λ (r : Rule). r.expr ≡ e) (argument_rules t e op k qs)
+  arguments_handed k [] = tt
+  arguments_handed k (q ∷ qs) =
+      each_append (λ (r : Rule). r.expr ≡ e) (slot_rules t e op (suc k) 0 (attrs_of t.phyla q)) (argument_rules t e op (suc k) qs) (slots_handed (suc k) 0 (attrs_of t.phyla q)) (arguments_handed (suc k) qs)
+
+all_handed : (t : Table) (e : ℕ) → Each (λ (r : Rule). r.expr ≡ e) (handing t e)
+all_handed t e = each_flat (λ (r : Rule). r.expr ≡ e) (operator_rules t e) (below (length t.ops)) (each_always (λ op. Each (λ (r : Rule). r.expr ≡ e) (operator_rules t e op)) (λ op. arguments_handed t e op 0 (args_of t.ops op)) (below (length t.ops)))
+
+module _ {A : Type 0} (t : Table) (f : ℕ → Decl → List A) (p : A → ℕ) (own : (k : ℕ) (d : Decl) → Each (λ x. IsWithin k d (p x)) (f k d)) where
+  from_under : (k : ℕ) (ds : List Decl) → Each (λ x. p x < k + length (exprs_in t ds)) (each_from f k ds)
+  from_under k [] = tt
+  from_under k (d ∷ ds) =
+      let count : length (exprs_in t (d ∷ ds)) ≡ expr_count d + length (exprs_in t ds) = length-append (exprs_at t d) (exprs_in t ds) ∙ ap (λ n. n + length (exprs_in t ds)) (exprs_counted t d) in
+      each_append (λ x. p x < k + length (exprs_in t (d ∷ ds))) (f k d) (each_from f (k + expr_count d) ds)
+      (each_weaker (λ x. IsWithin k d (p x)) (λ x. p x < k + length (exprs_in t (d ∷ ds))) (f k d) (λ x h. omega (arith, h, count)) (own k d))
+      (each_weaker (λ x. p x < k + expr_count d + length (exprs_in t ds)) (λ x. p x < k + length (exprs_in t (d ∷ ds))) (each_from f (k + expr_count d) ds) (λ x h. omega (arith, h, count)) (from_under (k + expr_count d) ds))
+
+  handed_apart : (ds : List Decl) → All (λ (r : Rule). All (λ x. r.expr ≢ p x) (each_from f 0 ds)) (handing t (length (exprs_in t ds)))
+  handed_apart ds =
+      All-from_recursion (λ (r : Rule). All (λ x. r.expr ≢ p x) (each_from f 0 ds)) (handing t (length (exprs_in t ds)))
+      (each_weaker (λ (r : Rule). r.expr ≡ length (exprs_in t ds)) (λ (r : Rule). All (λ x. r.expr ≢ p x) (each_from f 0 ds)) (handing t (length (exprs_in t ds)))
+      (λ r same. All-from_recursion (λ x. r.expr ≢ p x) (each_from f 0 ds) (each_weaker (λ x. p x < 0 + length (exprs_in t ds)) (λ x. r.expr ≢ p x) (each_from f 0 ds) (λ x low e. omega (arith, low, same, e)) (from_under 0 ds)))
+      (all_handed t (length (exprs_in t ds))))
+
 -- equations
 ruled_own : (exprs : List TypedExpr) (op k n : ℕ) (o : Option Occurrence) → 1 ≤ n → Each (λ (r : Rule). (k ≤ r.expr) × (r.expr < k + n)) (ruled exprs op k o)
 ruled_own exprs op k n None some = tt
@@ -100,9 +144,12 @@ functions_own : (phyla : List Head) (k : ℕ) (d : Decl) → Each (λ (f : Funct
 functions_own phyla k (decl.Function of n params e) = ((omega arith, omega arith), tt)
 functions_own phyla k d = tt
 
+written_each : (ds : List Decl) → with_bodies (bodies_in 0 ds) (written.names_of ds).functions ≡ each_from (made_at (phyla_in ds)) 0 ds
+unfolding written.names_of
+written_each ds = functions_made (phyla_in ds) 0 ds
+
 functions_each : (ds : List Decl) → with_bodies (bodies_in 0 ds) (names_of ds).functions ≡ each_from (made_at (phyla_in ds)) 0 ds
-unfolding names_of
-functions_each ds = functions_made (phyla_in ds) 0 ds
+functions_each ds = ap (λ (t : Table). with_bodies (bodies_in 0 ds) t.functions) (long_is ds) ∙ written_each ds
 
 transforms_own : (t : Table) (k : ℕ) (d : Decl) → Each (λ (x : Transform). IsWithin k d x.expr) (transforms_at t k d)
 transforms_own t k (decl.Transform n title q e) = ((omega arith, omega arith), tt)
@@ -135,15 +182,24 @@ module _ {A : Type 0} (t : Table) (exprs : List TypedExpr) (g : ℕ → Decl →
       (subst (Each (λ (r : Rule). Each (λ x. r.expr ≢ q x) (each_from g 0 ds))) (sym (rules_each t exprs 0 ds))
       (all_apart (rules_at t exprs) g (λ (r : Rule). r.expr) q (rules_own t exprs) own equations_alone 0 ds)))
 
+both_apart : {A : Type 0} (q : A → ℕ) (xs : List A) (rs hs : List Rule) → All (λ (r : Rule). All (λ x. r.expr ≢ q x) xs) rs → All (λ (r : Rule). All (λ x. r.expr ≢ q x) xs) hs → All (λ (r : Rule). All (λ x. r.expr ≢ q x) xs) (rs ++ hs)
+both_apart q xs rs hs a b = All-append (λ (r : Rule). All (λ x. r.expr ≢ q x) xs) rs hs a b
+
 spec_own : (ds : List Decl) (lexemes : List Lexeme) → HasOwnExprs (spec_with ds lexemes)
 unfolding record_of
 spec_own ds lexemes =
     let t = names_of ds in
+    let rs = rules_in t (exprs_in t ds) 0 ds in
+    let hs = handing t (length (exprs_in t ds)) in
     record {
       functions = subst (λ (fs : List Function). All (λ (r : Rule). All (λ (f : Function). r.expr ≢ f.body) fs) (equations_of ds)) (sym (functions_each ds))
-          (rules_apart t (exprs_in t ds) (made_at (phyla_in ds)) (λ k n op locals es. refl) (λ (f : Function). f.body) (functions_own (phyla_in ds)) ds);
-      transforms = rules_apart t (exprs_in t ds) (transforms_at t) (λ k n op locals es. refl) (λ (x : Transform). x.expr) (transforms_own t) ds;
-      productions = rules_apart t (exprs_in t ds) (productions_at t) (λ k n op locals es. refl) (λ (s : Production). s.expr) (productions_own t) ds;
+          (both_apart (λ (f : Function). f.body) (each_from (made_at (phyla_in ds)) 0 ds) rs hs
+          (rules_apart t (exprs_in t ds) (made_at (phyla_in ds)) (λ k n op locals es. refl) (λ (f : Function). f.body) (functions_own (phyla_in ds)) ds)
+          (handed_apart t (made_at (phyla_in ds)) (λ (f : Function). f.body) (functions_own (phyla_in ds)) ds));
+      transforms = both_apart (λ (x : Transform). x.expr) (each_from (transforms_at t) 0 ds) rs hs
+          (rules_apart t (exprs_in t ds) (transforms_at t) (λ k n op locals es. refl) (λ (x : Transform). x.expr) (transforms_own t) ds) (handed_apart t (transforms_at t) (λ (x : Transform). x.expr) (transforms_own t) ds);
+      productions = both_apart (λ (x : Production). x.expr) (each_from (productions_at t) 0 ds) rs hs
+          (rules_apart t (exprs_in t ds) (productions_at t) (λ k n op locals es. refl) (λ (x : Production). x.expr) (productions_own t) ds) (handed_apart t (productions_at t) (λ (x : Production). x.expr) (productions_own t) ds);
     }
 
 judged_own : (r : Result (List Decl) SpecFault) (spec : Spec) → IsOfTrees r (Accepted spec) → HasOwnExprs spec

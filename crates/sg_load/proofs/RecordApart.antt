@@ -11,7 +11,7 @@ use Rattle.sg_ast.specs.Declarations as decl
 use Rattle.sg_ast.specs.Declarations.{Decl, Right}
 use Rattle.sg_names.specs.declared.heads.Head.{Head}
 use Rattle.sg_names.specs.Heads.{is_head, with_head, base_heads}
-use Rattle.sg_names.specs.Names.{phylum_defined, nonterminal_defined, phyla_in, nonterminals_in, names_of}
+use Rattle.sg_names.specs.Names.{phylum_defined, nonterminal_defined, phyla_in, nonterminals_in}
 use Rattle.sg_names.proofs.HeadLaws.{some_place}
 use Rattle.sg_counts.specs.declared.definitions.Form.{Form}
 use Rattle.sg_counts.specs.declared.definitions.Form.TheVariants as form
@@ -24,6 +24,7 @@ use Rattle.sg_resolve.proofs.ShapeApart as places
 use Rattle.sg_record.specs.Premises.{AreApart}
 use Rattle.sg_record.proofs.Known.{phylum_in_heads, nonterminal_in_heads}
 use Rattle.sg_record.proofs.Lists.{any_left, any_right}
+use Rattle.sg_remote.specs.Longer.{names_of}
 
 -- among elements of which none is like one before it, none is like another
 none_like : {X : Type 0} (same : X → X → Bool) (p : X → Bool) (x : X) (xs : List X) → ((y : X) → p y ≡ true → same x y ≡ true) → AllByRecursion (λ y. same x y ≡ false) xs → list_any p xs ≡ true → ⊥

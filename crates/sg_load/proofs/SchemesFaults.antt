@@ -3,8 +3,8 @@ use Rattle.std.proofs.Common.{◌≡◌, List, [], ◌∷◌, Option, Some, None
 use Rattle.sg_kinds.specs.declared.fault.SpecFault.{SpecFault}
 use Rattle.sg_ast.specs.Declarations.{Decl}
 use Rattle.sg_ast.specs.FirstFault.{or_else, first_of}
-use Rattle.sg_names.specs.Names.{names_of}
 use Rattle.sg_names.specs.declared.table.Table.{Table}
+use Rattle.sg_remote.specs.Longer.{names_of}
 use Rattle.sg_schemes.specs.NoScheme.{IsNoScheme}
 use Rattle.sg_schemes.specs.Places.{scheme_kids}
 use Rattle.sg_schemes.specs.Shown.{no_scheme}

@@ -53,7 +53,7 @@ decl_written (Equations n op locals es) is h =
     let s1 = parts (flat_map spell_local locals) (flat_map spell_equation es ++ sign RightBrace ∷ sign Semicolon ∷ []) h.1.1.1.1 in
     let s2 = parts (flat_map spell_equation es) (sign RightBrace ∷ sign Semicolon ∷ []) s1.1 in
     equations_written es is s2.0
-decl_written (Schemes n op view schemes) is h = is.1
+decl_written (Schemes n op view schemes) is h = is.0
 decl_written (Function t n params body) is h =
     let s = parts (join_by spell_param comma params) (sign RightParenthesis ∷ sign LeftBrace ∷ spell_expr body ++ sign RightBrace ∷ sign Semicolon ∷ []) h.1.1.1 in
     expr_before body (sign RightBrace ∷ sign Semicolon ∷ []) is s.1.1.1

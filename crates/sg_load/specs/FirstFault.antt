@@ -6,7 +6,6 @@ use Rattle.sg_kinds.specs.declared.spec.Spec.{Spec}
 use Rattle.sg_kinds.specs.Specification.{rules_of}
 use Rattle.sg_ast.specs.Declarations.{Decl}
 use Rattle.sg_ast.specs.FirstFault.{first_of}
-use Rattle.sg_names.specs.Names.{names_of}
 use Rattle.sg_resolve.specs.Resolved.{resolve_fault}
 use Rattle.sg_schemes.specs.NoScheme.{IsNoScheme}
 use Rattle.sg_schemes.specs.Places.{scheme_kids}
@@ -14,6 +13,8 @@ use Rattle.sg_schemes.specs.Strings.{scheme_text}
 use Rattle.sg_typing.specs.Checked.{first_fault}
 use Rattle.sg_equations.specs.Complete.{incomplete}
 use Rattle.sg_record.specs.Entries.{entry_twice, entry_type}
+use Rattle.sg_remote.specs.Longer.{names_of}
+use Rattle.sg_remote.specs.NoEnclosing.{IsNoEnclosing}
 use Rattle.sg_grammar.specs.Numbered.{grammar_of}
 use Rattle.sg_lalr.specs.Tables.{IsTableFault}
 use Rattle.sg_lalr.specs.declared.table.TableFault.{TableFault}
@@ -26,12 +27,13 @@ use Rattle.sg_reports.specs.Orders.{printed_order}
 use Rattle.sg_load.specs.Patterns.{IsLexemeFault}
 use Rattle.sg_load.specs.SpecOf.{IsSpecOf}
 
--- counts, names, shapes, made terms and bindings; types; equations; schemes; the patterns of lexeme phyla; entries;
--- tables of the input grammar; the order of evaluation
+-- counts, names, shapes, made terms and bindings; types; equations; references to enclosing nodes; schemes; the
+-- patterns of lexeme phyla; entries; tables of the input grammar; the order of evaluation
 pub data Phase : Type 0 where
   Names : Phase
   Types : Phase
   Equations : Phase
+  Enclosing : Phase
   Schemes : Phase
   Lexemes : Phase
   Entries : Phase
@@ -71,6 +73,7 @@ abbrev pub IsFaultOf : List Decl → Phase → SpecFault → Type 0
 IsFaultOf ds Names f = resolve_fault ds ≡ Some f
 IsFaultOf ds Types f = first_fault (names_of ds) ds ≡ Some f
 IsFaultOf ds Equations f = incomplete (names_of ds) ds ≡ Some f
+IsFaultOf ds Enclosing f = IsNoEnclosing (names_of ds) ds (Some f)
 IsFaultOf ds Schemes f = IsSchemesFault ds (Some f)
 IsFaultOf ds Lexemes f = IsLexemeFault ds f
 IsFaultOf ds Entries f = entries_fault ds ≡ Some f
@@ -90,9 +93,12 @@ abbrev pub IsFirstFault : List Decl → List Phase → SpecFault → Type 0
 IsFirstFault ds [] f = ⊥
 IsFirstFault ds (phase ∷ phases) f = IsFaultOf ds phase f ⊎ (HasNoFaultOf ds phase × IsFirstFault ds phases f)
 
--- the phases in their order: of names and equations, of what is shown and typed in, of the record
+-- the phases in their order: of names, types and equations, of what is shown and typed in, of the record
+abbrev pub equation_phases : List Phase
+equation_phases = Equations ∷ Enclosing ∷ []
+
 abbrev pub early_phases : List Phase
-early_phases = Names ∷ Types ∷ Equations ∷ []
+early_phases = Names ∷ Types ∷ equation_phases
 
 abbrev pub shown_phases : List Phase
 shown_phases = Schemes ∷ Lexemes ∷ Entries ∷ []

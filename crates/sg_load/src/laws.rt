@@ -2,27 +2,33 @@
 ghost use Rattle.sg_ast.specs.Declarations.{Decl};
 ghost use Rattle.sg_ast.specs.Rising.{places_of, RiseFrom, SomeOf};
 ghost use Rattle.sg_counts.specs.Duplicates.{duplicate};
-ghost use Rattle.sg_counts.specs.Limits.{limit};
+ghost use Rattle.sg_equations.specs.Complete.{incomplete};
+ghost use Rattle.sg_kinds.specs.Far.{HasFar};
 ghost use Rattle.sg_kinds.specs.Lexemes.{Lexeme};
-ghost use Rattle.sg_kinds.specs.Sound.{AreCounted, HasNames};
+ghost use Rattle.sg_kinds.specs.Sound.{AreCounted, HasNames, HasShapes};
 ghost use Rattle.sg_kinds.specs.Values.{Bytes};
 ghost use Rattle.sg_kinds.specs.declared.fault.Position.{Position};
 ghost use Rattle.sg_kinds.specs.declared.fault.SpecFault.TheVariants.{EmptyLexeme, PatternForm};
 ghost use Rattle.sg_kinds.specs.declared.spec.Rule.{Rule};
 ghost use Rattle.sg_load.specs.PatternPlaces.{pattern_places, IsFirstPattern};
-ghost use Rattle.sg_load.specs.Patterns.{HasNoForm, IsEmptyLexeme, IsPatternForm, MatchesEmpty};
+ghost use Rattle.sg_load.specs.Patterns.{AreLexemes, HasNoForm, IsEmptyLexeme, IsPatternForm, MatchesEmpty};
+ghost use Rattle.sg_load.specs.SpecOf.{spec_with};
 ghost use Rattle.sg_kinds.specs.declared.spec.Operator.{Operator};
 ghost use Rattle.sg_kinds.specs.declared.spec.Spec.{Spec};
 ghost use Rattle.sg_load.specs.FreeNames.{IsFreeName, operator_names};
 ghost use Rattle.sg_load.specs.OwnExprs.{HasOwnExprs};
 ghost use Rattle.sg_load.specs.Trees.{trees_in};
 ghost use Rattle.sg_load.specs.Verdict.{Accepted, IsVerdict};
-ghost use Rattle.sg_names.specs.Names.{names_of};
-ghost use Rattle.sg_names.specs.Shapes.{result_count};
+ghost use Rattle.sg_names.specs.Names as written_names;
+ghost use Rattle.sg_remote.specs.Lists.{lists};
+ghost use Rattle.sg_remote.specs.Longer.{names_of};
+ghost use Rattle.sg_remote.specs.NoEnclosing.{IsNoEnclosing};
+ghost use Rattle.sg_resolve.specs.Resolved.{resolve_fault};
+ghost use Rattle.sg_typing.specs.Checked.{first_fault};
 ghost use Rattle.sg_ast.specs.Written.{HaveWritten};
 ghost use Rattle.sg_record.specs.Premises.{AreApart};
 ghost use Rattle.sg_record.specs.Record.{record_of};
-ghost use Rattle.std.specs.Prelude.{◌≡◌, ◌<◌, ◌^◌, All, List, None, Ok, flat_map, length};
+ghost use Rattle.std.specs.Prelude.{◌≡◌, ◌<◌, ◌≤◌, ◌^◌, All, List, None, Ok, flat_map, length};
 
 /// The trees that are read of a text have values as their literals, and lists that may not be empty are not.
 #[tactic(auto, using(crate::proofs::WrittenLaws::read_written))]
@@ -47,11 +53,13 @@ pub fn equations_have_own_expressions()
     ensures { (bytes : Bytes) (spec : Spec) → IsVerdict bytes (Accepted spec) → HasOwnExprs spec }
 {}
 
-/// The counts of the record are in their limits where none of the declarations is over its own, no definition is a
-/// second one, and the rules are numbers of 32 bits.
+/// The counts of the record are in their limits where names and types have no fault, the rules are numbers of 32 bits,
+/// and there are no more lists of references to enclosing nodes than a text has bytes.
 pub fn records_are_counted()
-    ensures { (ds : List Decl) (rules : List Rule) (lexemes : List Lexeme) → limit ds ≡ None → duplicate ds ≡ None
-        → length rules < 2 ^ 32 → AreCounted (record_of (names_of ds) ds rules lexemes) }
+    ensures { (ds : List Decl) (rules : List Rule) (lexemes : List Lexeme) → resolve_fault ds ≡ None
+        → first_fault (names_of ds) ds ≡ None → length rules < 2 ^ 32
+        → length (lists (written_names.names_of ds) ds) ≤ 1048576
+        → AreCounted (record_of (names_of ds) ds rules lexemes) }
 {}
 
 /// Where no definition is a second one, no nonterminal has the name of a phylum.
@@ -59,12 +67,22 @@ pub fn records_are_apart()
     ensures { (ds : List Decl) → duplicate ds ≡ None → AreApart (names_of ds) }
 {}
 
-/// Then the names of each kind are distinct, and nonterminals with one result each are told by their names and by their
-/// numbers.
+/// Where names and types have no fault, the names of each kind are distinct, and nonterminals are told by their names
+/// and by their numbers.
 pub fn records_have_names()
-    ensures { (ds : List Decl) (rules : List Rule) (lexemes : List Lexeme) → HaveWritten ds → duplicate ds ≡ None
-        → result_count (names_of ds) ≡ None →
-        HasNames (record_of (names_of ds) ds rules lexemes) }
+    ensures { (ds : List Decl) (rules : List Rule) (lexemes : List Lexeme) → HaveWritten ds → resolve_fault ds ≡ None
+        → first_fault (names_of ds) ds ≡ None → HasNames (record_of (names_of ds) ds rules lexemes) }
+{}
+
+/// Where names, types, equations and references to enclosing nodes have no fault, the shapes of the record are sound,
+/// and its far attributes are named by their lists, list attributes of one type, and are handed down to each argument.
+pub fn far_attributes_are_sound()
+    ensures shapes { (ds : List Decl) (lexemes : List Lexeme) → HaveWritten ds → resolve_fault ds ≡ None
+        → first_fault (names_of ds) ds ≡ None → incomplete (names_of ds) ds ≡ None
+        → IsNoEnclosing (names_of ds) ds None → AreLexemes ds lexemes → HasShapes (spec_with ds lexemes) }
+    ensures far { (ds : List Decl) (lexemes : List Lexeme) → HaveWritten ds → resolve_fault ds ≡ None
+        → first_fault (names_of ds) ds ≡ None → incomplete (names_of ds) ds ≡ None
+        → IsNoEnclosing (names_of ds) ds None → AreLexemes ds lexemes → HasFar (spec_with ds lexemes) }
 {}
 
 /// The patterns of lexeme phyla are met in the order of the text. So of declarations whose places rise, as those of a

@@ -1,19 +1,23 @@
 //! The loading of a specification.
-ghost use Rattle.std.specs.Prelude.{◌≡◌, ◌≢◌, ◌++◌, Some, None, IfOk, IfErr, OnOk, [], All};
+ghost use Rattle.std.specs.Prelude.{◌≡◌, ◌≢◌, ◌<◌, ◌≤◌, ◌^◌, ◌++◌, Some, None, IfOk, IfErr, OnOk, [], All, length};
 ghost use Rattle.sg_kinds.specs.Matches.{Matches};
 ghost use Rattle.sg_kinds.specs.Sound.{HasLexemes, IsSound};
 ghost use Rattle.sg_kinds.specs.Specification.{rules_of};
 ghost use Rattle.sg_kinds.specs.ValidPlans.{AreValid};
 ghost use Rattle.sg_ast.specs.View.{trees_of};
 ghost use Rattle.sg_grammar.specs.Numbered.{grammar_of};
-ghost use Rattle.sg_names.specs.Names.{names_of};
+ghost use Rattle.sg_names.specs.Names as written_names;
+ghost use Rattle.sg_remote.specs.Handing as hands;
+ghost use Rattle.sg_remote.specs.Lists.{lists};
+ghost use Rattle.sg_remote.specs.Longer.{names_of};
+ghost use Rattle.sg_resolve.specs.Resolved.{resolve_fault};
 ghost use Rattle.sg_typing.specs.Checked.{typed_of};
 ghost use Rattle.sg_ast.specs.Written.{HaveWritten};
 ghost use Rattle.sg_ast.specs.FirstFault.{or_else};
 ghost use Rattle.sg_schemes.specs.Places.{scheme_kids as kids_row};
 ghost use Rattle.sg_schemes.specs.Strings.{scheme_text as text_row};
 ghost use Rattle.sg_load.specs.FirstFault as rows;
-ghost use Rattle.sg_load.specs.FirstFault.{HasNoFaultOf, HaveNoFault, early_phases, late_phases, phases, shown_phases};
+ghost use Rattle.sg_load.specs.FirstFault.{HasNoFaultOf, HaveNoFault, early_phases, equation_phases, late_phases, phases, shown_phases};
 ghost use Rattle.sg_load.specs.FirstFault.Phase.{Tables as TablesPhase, Order as OrderPhase};
 ghost use Rattle.sg_patterns.specs.LexemesOf.{AreLexemesOf};
 ghost use Rattle.sg_load.specs.Only.{AreTheLexemes, IsTheFault, IsTheFaultOf, IsTheJudgement, IsTheSpec, IsTheVerdict};
@@ -28,17 +32,20 @@ use sg_ast::decl::Decl;
 use sg_equations::rules;
 use sg_grammar::make;
 use sg_kinds::fault::SpecFault;
+use sg_kinds::ids::ExprId;
 use sg_kinds::lexeme::Lexeme;
 use sg_kinds::memory::NoMemory;
 use sg_kinds::plans::Plans;
 use sg_kinds::row::Row;
 use sg_kinds::spec::{Rule, Spec};
 use sg_lalr::{Tables, tables};
+use sg_names::callables::number;
 use sg_names::names::Names;
 use sg_orders::order;
 use sg_patterns::Lexemes;
 use sg_record::entries::{entry_twice, entry_type};
 use sg_record::record::record;
+use sg_remote::{handing, hide, no_enclosing};
 use sg_reports::orders::order_fault;
 use sg_reports::tables::table_fault;
 use sg_resolve::resolve;
@@ -197,6 +204,60 @@ fn recorded(
     Ok(record(alloc, decls, names, typed, rules, lexemes)?)
 }
 
+/// The names of declarations, with the attributes that hand those of enclosing nodes down, or the first fault of names
+/// and shapes. More lists of references to enclosing nodes than a text has bytes are want of memory.
+fn named(alloc: Global, decls: &[Decl]) -> Result<Names, SpecFault>
+    ensures value { IfOk result (λ n. n ≡ names_of (trees_of decls.now)) }
+    ensures few { OnOk result (length (lists (written_names.names_of (trees_of decls.now)) (trees_of decls.now))
+        ≤ 1048576) }
+    ensures none { OnOk result (resolve_fault (trees_of decls.now) ≡ None) }
+    ensures fault { IfErr result (λ f. f ≢ SpecFault.NoMemory → resolve_fault (trees_of decls.now) ≡ Some f) }
+{
+    let names = resolve(alloc, decls)?;
+    Ok(hide(alloc, decls, names)?)
+}
+
+/// These rules, and behind them those that hand attributes of enclosing nodes down, whose expression stands behind all
+/// others.
+fn with_handing(
+    alloc: Global,
+    names: &Names,
+    typed: &Typed,
+    written: Row<Rule>,
+) -> Result<Row<Rule>, NoMemory>
+    ensures rules { IfOk result (λ rs. rs ≡ written ++ hands.handing names.now (length typed.now.exprs)) }
+    ensures few { IfOk result (λ rs. length rs < 2 ^ 32) }
+{
+    let expr = ExprId {
+        number: number(typed.exprs.len())?,
+    };
+    let mut rules = written.into_vec();
+    handing(alloc, names, expr, &mut rules)?;
+    Ok(Row::new(rules))
+}
+
+/// The rules of declarations, or the first fault of their equations: of what they define, then of references to
+/// enclosing nodes.
+fn handed(
+    alloc: Global,
+    decls: &[Decl],
+    names: &Names,
+    typed: &Typed,
+) -> Result<Row<Rule>, SpecFault>
+    requires names { names.now ≡ names_of (trees_of decls.now) }
+    requires typed { typed.now ≡ typed_of names.now (trees_of decls.now) }
+    ensures rules { IfOk result (λ rs. rs ≡ equations_of (trees_of decls.now)) }
+    ensures few { IfOk result (λ rs. length rs < 2 ^ 32) }
+    ensures none { OnOk result (HaveNoFault (trees_of decls.now) equation_phases) }
+    ensures fault { IfErr result (λ f. f ≢ SpecFault.NoMemory
+        → IsTheFault (trees_of decls.now) (equation_phases ++ (shown_phases ++ late_phases)) f) }
+{
+    let written = rules(alloc, decls, names, typed)?;
+    let bare = no_enclosing(alloc, decls, names)?;
+    refused(bare)?;
+    Ok(with_handing(alloc, names, typed, written)?)
+}
+
 /// The record of declarations, or their first fault; but the faults of the record's input grammar and of its order of
 /// evaluation, which `complete` finds.
 pub fn assembled(alloc: Global, decls: &[Decl]) -> Result<Spec, SpecFault>
@@ -206,9 +267,9 @@ pub fn assembled(alloc: Global, decls: &[Decl]) -> Result<Spec, SpecFault>
     ensures none { OnOk result (HaveNoFault (trees_of decls.now) (early_phases ++ shown_phases)) }
     ensures fault { IfErr result (λ f. f ≢ SpecFault.NoMemory → IsTheFault (trees_of decls.now) phases f) }
 {
-    let names = resolve(alloc, decls)?;
+    let names = named(alloc, decls)?;
     let typed = check(alloc, decls, &names)?;
-    let rules = rules(alloc, decls, &names, &typed)?;
+    let rules = handed(alloc, decls, &names, &typed)?;
     recorded(alloc, decls, names, typed, rules)
 }
 

@@ -5,7 +5,7 @@ use Rattle.sg_kinds.specs.declared.fault.SpecFault.TheVariants.{NoMemory}
 use Rattle.sg_ast.specs.View.{trees_of}
 use Rattle.sg_load.specs.FirstFault.{late_phases, phases, shown_phases}
 use Rattle.sg_load.specs.Only.{IsTheFault, IsTheSpec}
-use Rattle.sg_load.proofs.Judging.{if_ok_both, rules_made, names_fault, types_fault, equations_fault, shown_fault, no_fault_before, sound_record}
+use Rattle.sg_load.proofs.Judging.{if_ok_both, names_fault, types_fault, equations_fault, shown_fault, no_fault_before, sound_record}
 use Rattle.sg_load.proofs.loading.assembled.Goals as goal
 
 pub returns-in_err-names-clause-fault : goal.returns-in_err-names-clause-fault
@@ -30,7 +30,7 @@ returns-clause-sound c =
     let ds = trees_of c.args.decls.now in
     if_ok_both (IsTheSpec ds) HasLexemes IsSound c.recorded.result
     (λ spec the lexemes shown. sound_record ds c.in_ok-names.names c.in_ok-names.ensures.value c.in_ok-names.ensures.none c.in_ok-typed.ensures.none c.in_ok-rules.ensures.none shown c.in_ok-rules.rules spec c.requires.written
-    (rules_made ds c.in_ok-names.names c.in_ok-typed.typed c.in_ok-rules.rules c.in_ok-names.ensures.value c.in_ok-typed.ensures.value c.in_ok-rules.ensures.rules) c.in_ok-rules.ensures.few the lexemes)
+    c.in_ok-rules.ensures.rules c.in_ok-rules.ensures.few c.in_ok-names.ensures.few the lexemes)
     c.recorded.ensures.the c.recorded.ensures.lexemes c.recorded.ensures.none
 
 pub returns-clause-none : goal.returns-clause-none
