@@ -21,6 +21,7 @@ pub record IsGone (mid new : Grove) (r : NodeId) : Type 0 where
   pub roots : (n : NodeId) → IsRoot (nodes new) n ↔ IsRoot (nodes mid) n × (n ≢ r)
   pub ways : KeepsWaysOutside (nodes mid) (nodes new) r
   pub spec : new.spec ≡ mid.spec
+  pub view : new.view ≡ mid.view
   pub pool : new.pool ≡ mid.pool
 
 module _ (old mid new : Grove) (r : NodeId) (rest : List NodeId) (is : IsGrove old) (held : IsGrove mid) (grew : GrewBy old mid (r ∷ rest)) (gone : IsGone mid new r) where
@@ -51,6 +52,7 @@ module _ (old mid new : Grove) (r : NodeId) (rest : List NodeId) (is : IsGrove o
   pub grew_without : GrewBy old new rest
   grew_without = record {
     spec = gone.spec ∙ grew.spec;
+    view = gone.view ∙ grew.view;
     pool = subst (IsGrown old.pool) (sym gone.pool) grew.pool;
     before = λ n live. gone.dropped.others n (λ inside. not_there old n (grew_outside old mid (r ∷ rest) grew is 0 n r refl inside) live) ∙ grew.before n live;
     fresh = λ k n at. grew.fresh (suc k) n at;

@@ -55,9 +55,10 @@ pub same_number : (g h : Grove) (n : NodeId) (slot id : ℕ) → nodes h n ≡ n
 same_number g h n slot id same at = ap (option_and_then (λ (x : forest.Node Kind Part). slice_get x.part.values slot)) (sym same) ∙ at
 
 -- nothing added
-pub grew_same : (old new : Grove) → new.spec ≡ old.spec → IsGrown old.pool new.pool → ((n : NodeId) → nodes new n ≡ nodes old n) → GrewBy old new []
-grew_same old new spec pool same = record {
+pub grew_same : (old new : Grove) → new.spec ≡ old.spec → new.view ≡ old.view → IsGrown old.pool new.pool → ((n : NodeId) → nodes new n ≡ nodes old n) → GrewBy old new []
+grew_same old new spec view pool same = record {
   spec = spec;
+  view = view;
   pool = pool;
   before = λ n live. same n;
   fresh = λ k n at. absurd (none-some n at);
@@ -68,7 +69,7 @@ grew_same old new spec pool same = record {
 }
 
 pub grew_none : (g : Grove) → GrewBy g g []
-grew_none g = grew_same g g refl (grown_itself g.pool) (λ n. refl)
+grew_none g = grew_same g g refl refl (grown_itself g.pool) (λ n. refl)
 
 module _ (old new : Grove) (roots : List NodeId) (grew : GrewBy old new roots) where
   pub grew_live : (n : NodeId) → IsLive (nodes old) n → IsLive (nodes new) n
@@ -128,6 +129,7 @@ module _ (old mid new : Grove) (xs ys : List NodeId) (one : GrewBy old mid xs) (
   pub grew_then : GrewBy old new (xs ++ ys)
   grew_then = record {
     spec = two.spec ∙ one.spec;
+    view = two.view ∙ one.view;
     pool = grown_twice old.pool mid.pool new.pool one.pool two.pool;
     before = λ n live. two.before n (grew_live old mid xs one n live) ∙ one.before n live;
     fresh = λ k n at. elim (first_or_second k n at) [ inl first ↦ one.fresh k n first | inr second ↦ grew_free old mid xs one n (two.fresh second.0 n second.1) ];

@@ -36,7 +36,7 @@ pub grew_still : (old mid new : Grove) (roots : List NodeId) → GrewBy old mid 
 grew_still old mid new roots one two = subst (GrewBy old new) (append-nil roots) (grew_then old mid new roots [] one two)
 
 pub grew_refused : (old mid new : Grove) (roots : List NodeId) → GrewBy old mid roots → IsAdded mid new → new.trees.nodes ≡ mid.trees.nodes → GrewBy old new roots
-grew_refused old mid new roots grew added same = grew_still old mid new roots grew (grew_same mid new added.spec added.pool (node_at-same mid.trees new.trees same))
+grew_refused old mid new roots grew added same = grew_still old mid new roots grew (grew_same mid new added.spec added.view added.pool (node_at-same mid.trees new.trees same))
 
 -- roots of which some are left to drop
 pub record IsUndone (was now : Grove) (roots left : List NodeId) : Type 0 where

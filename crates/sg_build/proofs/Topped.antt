@@ -130,6 +130,7 @@ module _ (mid new : Grove) (kids : List NodeId) (id : NodeId) (is : IsGrove mid)
     pub grew_over : GrewBy old new (id ∷ [])
     grew_over = record {
       spec = top.added.spec ∙ grew.spec;
+      view = top.added.view ∙ grew.view;
       pool = grown_twice old.pool mid.pool new.pool grew.pool top.added.pool;
       before = λ n live.
           let was = grew.before n live in

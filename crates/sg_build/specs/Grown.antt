@@ -19,6 +19,7 @@ pub record IsInOneOf (g : Grove) (roots : List NodeId) (n : NodeId) : Type 0 whe
 -- and no value of an added node's slots is known
 pub record GrewBy (old new : Grove) (roots : List NodeId) : Type 0 where
   pub spec : new.spec ≡ old.spec
+  pub view : new.view ≡ old.view
   pub pool : IsGrown old.pool new.pool
   pub before : (n : NodeId) → IsLive (nodes old) n → nodes new n ≡ nodes old n
   pub fresh : (k : ℕ) (n : NodeId) → slice_get roots k ≡ Some n → nodes old n ≡ None

@@ -39,6 +39,7 @@ part_itself kind p changed = record { scheme = refl; elided = refl; count = refl
 pub only_itself : (g : Grove) (changed : Slots) → OnlyStored g g changed
 only_itself g changed = record {
   spec = refl;
+  view = refl;
   pool = grown_itself g.pool;
   shape = shapes.KeepsShape-same (nodes g);
   room = λ n. refl;
@@ -48,6 +49,7 @@ only_itself g changed = record {
 pub only_more : (old new : Grove) (few more : Slots) → ((n : NodeId) (slot : ℕ) → few n slot → more n slot) → OnlyStored old new few → OnlyStored old new more
 only_more old new few more within only = record {
   spec = only.spec;
+  view = only.view;
   pool = only.pool;
   shape = only.shape;
   room = only.room;
@@ -63,6 +65,7 @@ only_more old new few more within only = record {
 pub only_twice : (old mid new : Grove) (first second : Slots) → OnlyStored old mid first → OnlyStored mid new second → OnlyStored old new (λ n slot. first n slot ⊎ second n slot)
 only_twice old mid new first second one two = record {
   spec = two.spec ∙ one.spec;
+  view = two.view ∙ one.view;
   pool = grown_twice old.pool mid.pool new.pool one.pool two.pool;
   shape = shapes.KeepsShape-then (nodes old) (nodes mid) (nodes new) one.shape two.shape;
   room = λ n. two.room n ∙ one.room n;
@@ -202,8 +205,8 @@ module _ (old new : Grove) (changed : Slots) (only : OnlyStored old new changed)
 module _ (g : Grove) (is : IsGrove g) (pool : List Value) (grown : IsGrown g.pool pool) where
   pub grown_term : (t : tree.Tree Kind Part) (n : NodeId) → tree.Stands (nodes g) n t → term_of pool t ≡ term_of g.pool t
   grown_term t n stands =
-      let later : Grove = record { spec = g.spec; trees = g.trees; pool = pool } in
+      let later : Grove = record { spec = g.spec; trees = g.trees; pool = pool; view = g.view } in
       let same : OnlyStored g g (λ n slot. ⊥) = only_itself g (λ n slot. ⊥) in
-      let only : OnlyStored g later (λ n slot. ⊥) = record { spec = refl; pool = grown; shape = same.shape; room = same.room; parts = same.parts } in
+      let only : OnlyStored g later (λ n slot. ⊥) = record { spec = refl; view = refl; pool = grown; shape = same.shape; room = same.room; parts = same.parts } in
       let now = tree_kept g later (λ n slot. ⊥) only is t n stands in
       ap (term_of pool) (one_tree (nodes g) t now.0 n stands now.1) ∙ now.2

@@ -9,3 +9,4 @@ pub mod PlacesOnce
 pub mod InstancesOnce
 pub mod EvaluatedOnce
 pub mod Worked
+pub mod Viewed

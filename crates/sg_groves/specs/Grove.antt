@@ -1,9 +1,10 @@
--- A forest that keeps terms: its specification, its trees, and the pool of their values.
+-- A forest that keeps terms: its specification, its trees, the pool of their values, and the view in which it is shown.
 use Rattle.std.specs.Prelude.{◌≡◌, ℕ, ◌<◌, false, List, [], ◌∷◌, Option, Some, slice_get, length, MatchOption}
 use Rattle.sg_kinds.specs.Values.{Value, Fault}
 use Rattle.sg_kinds.specs.Specification.{args_of, phylum_of}
 use Rattle.sg_kinds.specs.declared.spec.Spec.{Spec}
 use Rattle.sg_kinds.specs.declared.spec.Phylum.{Phylum}
+use Rattle.sg_kinds.specs.InView.{in_view}
 use Rattle.sg_kinds.specs.Typing.{slots_there}
 use Rattle.sg_kinds.specs.Fits.{MayHold}
 use Rattle.sg_kinds.specs.OfType.{IsOfType}
@@ -20,6 +21,11 @@ pub record Grove : Type 0 where
   pub spec : Spec
   pub trees : Trees Kind Part
   pub pool : List Value
+  pub view : ℕ
+
+-- its specification as it is seen in its view: what a scheme shows and where a selection rests is read in it
+abbrev pub spec_shown : Grove → Spec
+spec_shown g = in_view g.spec g.view
 
 -- the node under a number
 abbrev pub nodes : Grove → NodeId → Option (Node Kind Part)

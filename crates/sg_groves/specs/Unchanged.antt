@@ -20,6 +20,7 @@ pub record KeepsPart (kind : Kind) (old new : Part) (changed : ℕ → Type 0) :
 -- nothing differs but stored values of some slots of some nodes, and the pool has grown
 pub record OnlyStored (old new : Grove) (changed : NodeId → ℕ → Type 0) : Type 0 where
   pub spec : new.spec ≡ old.spec
+  pub view : new.view ≡ old.view
   pub pool : IsGrown old.pool new.pool
   pub shape : KeepsShape (nodes old) (nodes new)
   pub room : (n : NodeId) → room_below new.trees n ≡ room_below old.trees n

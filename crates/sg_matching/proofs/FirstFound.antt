@@ -1,5 +1,5 @@
 -- The first transformation that applies, and what its name gives.
-use Rattle.std.specs.Prelude.{◌≡◌, refl, ℕ, zero, suc, ◌+◌, ◌<◌, ◌≤◌, Bool, true, false, cond, ◌&&◌, nat_eq, bytes_eq, List, [], ◌∷◌, length, filter, Option, Some, None, slice_get, is_some, drop, MatchBool}
+use Rattle.std.specs.Prelude.{◌≡◌, refl, ℕ, zero, suc, ◌+◌, ◌<◌, Bool, true, false, cond, ◌&&◌, nat_eq, bytes_eq, List, [], ◌∷◌, length, filter, Option, Some, None, slice_get, is_some, MatchBool}
 use Rattle.std.specs.List.{list_any, position_from}
 use Rattle.std.specs.Option.{option_map_or}
 use Rattle.std.proofs.Common.{sym, ap, ◌∙◌, subst, arith, get_or}
@@ -9,8 +9,6 @@ use Rattle.sg_kinds.specs.Evaluation.{bound_by}
 use Rattle.sg_kinds.specs.Outcome.{outcome_of}
 use Rattle.sg_kinds.specs.declared.spec.Spec.{Spec}
 use Rattle.sg_kinds.specs.declared.spec.Transform.{Transform}
-use Rattle.sg_kinds.proofs.Kids.{drop_more}
-use Rattle.sg_kinds.proofs.Completed.{drop_all}
 use Rattle.sg_matching.specs.declared.named.TransformFault.{TransformFault}
 use Rattle.sg_matching.specs.declared.named.TransformFault.TheVariants as fault
 use Rattle.sg_matching.specs.Refusal.{IsRefused}
@@ -107,17 +105,11 @@ module _ (spec : Spec) (p : ℕ) (name : Bytes) (v : Value) where
   pub unnamed_given : (xs : List Transform) → list_any (is_of_name p name) xs ≡ false → given_by spec v (filter (is_of_name p name) xs) ≡ Unknown
   unnamed_given xs n = ap (given_by spec v) (none_named xs n)
 
--- the loop over transformations
+-- an element of a list
 pub item_there : {A : Type 0} (xs : List A) (k : ℕ) (x : A) → k < length xs → x ≡ get_or xs k x → slice_get xs k ≡ Some x
 item_there [] k x low is = absurd (omega (arith, low))
 item_there (y ∷ ys) zero x low is = ap Some (sym is)
 item_there (y ∷ ys) (suc k) x low is = item_there ys k x (omega (arith, low)) is
-
-pub found_here : {A : Type 0} (test : A → Bool) (xs : List A) (k : ℕ) (x : A) → position_from test 0 xs ≡ position_from test k (drop k xs) → k < length xs → x ≡ get_or xs k x → test x ≡ true → position_from test 0 xs ≡ Some k
-found_here test xs k x left low is passes = left ∙ ap (position_from test k) (drop_more xs k x low is) ∙ ap (λ b. cond b (Some k) (position_from test (k + 1) (drop (k + 1) xs))) passes
-
-pub found_past : {A : Type 0} (test : A → Bool) (xs : List A) (k : ℕ) → position_from test 0 xs ≡ position_from test k (drop k xs) → length xs ≤ k → position_from test 0 xs ≡ None
-found_past test xs k left past = left ∙ ap (position_from test k) (drop_all xs k past)
 
 -- why nothing was found
 pub missing_refused : (spec : Spec) (p : ℕ) (name : Bytes) (v : Value) (r : TransformFault) → position_from (applies spec p name v) 0 spec.transforms ≡ None

@@ -3,3 +3,4 @@ pub mod MadeValues
 pub mod Matched
 pub mod FirstFound
 pub mod Applied
+pub mod Numbered

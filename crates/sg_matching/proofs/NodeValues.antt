@@ -110,7 +110,7 @@ module _ (g : Grove) (is : IsGrove g) where
   pub node_of : (n : NodeId) (op : ℕ) → op_at g n ≡ Some op → IsNodeOf g n op
   node_of n op has =
       let x = op_node g n op has in
-      let o = operation_at g.spec g.trees g.trees g.pool g.pool (grown_itself g.pool) is n x.0 op x.1 x.2 in
+      let o = operation_at g.spec g.view g.trees g.trees g.pool g.pool (grown_itself g.pool) is n x.0 op x.1 x.2 in
       let count = is.forest.arities n x.0 x.1 in
       let there = option_map_some (λ (y : Operator). y.phylum) (slice_get g.spec.ops op) x.0.label.phylum o.phylum in
       let low = slice_get_within g.spec.ops op there.0 there.1 in

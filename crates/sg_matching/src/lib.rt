@@ -7,5 +7,5 @@ mod named;
 mod nodes;
 mod patterns;
 
-pub use named::{TransformFault, found, is_named, transform, transformed};
+pub use named::{TransformFault, found_by, is_named, numbers_of, transform, transformed};
 pub use patterns::matches;

@@ -1,9 +1,9 @@
 // The transformations of a name.
-ghost use Rattle.std.specs.Prelude.{◌≡◌, ◌≢◌, ◌<◌, ℕ, IfOk, IfSome, MatchBool, MatchResult, length};
+ghost use Rattle.std.specs.Prelude.{◌≡◌, ◌≢◌, ◌<◌, ℕ, IfOk, IfSome, MatchBool, MatchResult, length, nat_eq};
 ghost use Rattle.std.specs.List.{list_any, position_from};
 ghost use Rattle.sg_kinds.specs.Terms.{Term as IsTerm};
 ghost use Rattle.sg_kinds.specs.ValueOf.{value_of};
-ghost use Rattle.sg_kinds.specs.Values.{Fault};
+ghost use Rattle.sg_kinds.specs.Values.{Bytes, Fault};
 ghost use Rattle.sg_kinds.specs.Fits.{Fits};
 ghost use Rattle.sg_kinds.specs.OfType.{IsOfType};
 ghost use Rattle.sg_kinds.specs.Plain.{plain};
@@ -11,7 +11,8 @@ ghost use Rattle.sg_kinds.specs.declared.marks.FaultKind.{FaultKind as IsFault};
 ghost use Rattle.sg_forest.specs.Trees.{IsLive};
 ghost use Rattle.sg_groves.specs.Grove.{nodes};
 ghost use Rattle.sg_groves.specs.Holds.{Holds};
-ghost use Rattle.sg_matching.specs.Transformation.{is_of_name, applies, transformation, Gives};
+ghost use Rattle.sg_matching.specs.Transformation.{is_of_name, applies, numbers_of, suits_at, transformation, Gives};
+ghost use Rattle.sg_matching.specs.Under.{value_under};
 ghost use Rattle.sg_matching.specs.Refusal.{IsRefused};
 ghost use Rattle.sg_matching.specs.declared.named.TransformFault.TheVariants.{NoMemory as TransformNoMemory};
 
@@ -66,22 +67,59 @@ fn has_name(x: &Transform, p: PhylumId, name: &[u8]) -> bool
     x.phylum == p && x.name.as_slice() == name
 }
 
+/// The numbers of the transformations of a name, in source order.
+pub fn numbers_of(alloc: Global, terms: &Terms, name: &[u8]) -> Result<Vec<PatternId>, NoMemory>
+    ensures { IfOk result (λ v. v.items ≡ numbers_of terms.now.spec name.now) }
+{
+    terms.facts();
+    let mut numbers = Vec::new(alloc);
+    for (k, x) in terms.spec().transforms.as_slice().iter().enumerate() {
+        if x.name.as_slice() == name {
+            numbers.push(PatternId { number: k as u32 })?;
+        }
+    }
+    Ok(numbers)
+}
+
 /// The first transformation of a name, in source order, that stands on a node's phylum and whose pattern matches the
-/// term under the node. It takes no memory. Its cost is that of the patterns of the name.
-pub fn found(terms: &Terms, name: &[u8], at: NodeId) -> Option<PatternId>
-    requires { IsLive (nodes terms.now) at }
-    ensures first { (p : ℕ) (t : IsTerm) → Holds terms.now at t → Fits terms.now.spec t p
-        → result ≡ position_from (applies terms.now.spec p name.now (value_of t)) 0 terms.now.spec.transforms }
+/// term under the node, by the numbers of those of the name. It takes no memory. Its cost is that of their patterns.
+pub fn found_by(terms: &Terms, numbers: &[PatternId], at: NodeId) -> Option<PatternId>
+    requires live { IsLive (nodes terms.now) at }
+    requires named { (name : Bytes) × (numbers.now ≡ numbers_of terms.now.spec name) }
+    ensures first { (name : Bytes) (p : ℕ) (t : IsTerm) → numbers.now ≡ numbers_of terms.now.spec name
+        → Holds terms.now at t → Fits terms.now.spec t p
+        → result ≡ position_from (applies terms.now.spec p name (value_of t)) 0 terms.now.spec.transforms }
     ensures within { IfSome result (λ k. k < length terms.now.spec.transforms) }
 {
     terms.facts();
     let p = terms.phylum(at);
-    for (k, x) in terms.spec().transforms.as_slice().iter().enumerate() {
-        if has_name(x, p, name) && is_match(terms, &x.pattern.tree, at) {
-            return Some(PatternId { number: k as u32 });
+    for &k in numbers {
+        if suits(terms, k, p, at) {
+            return Some(k);
         }
     }
     None
+}
+
+// whether a transformation stands on a phylum and its pattern matches the term under a node
+fn suits(terms: &Terms, k: PatternId, p: PhylumId, at: NodeId) -> bool
+    requires within { k < length terms.now.spec.transforms }
+    requires live { IsLive (nodes terms.now) at }
+    ensures { result ≡ suits_at terms.now.spec p (value_under terms.now at) k }
+{
+    terms.facts();
+    let transform = item(terms.spec().transforms.as_slice(), k.number as usize);
+    if !stands_on(transform, p) {
+        return false;
+    }
+    is_match(terms, &transform.pattern.tree, at)
+}
+
+// whether a transformation stands on a phylum
+fn stands_on(x: &Transform, p: PhylumId) -> bool
+    ensures { result ≡ nat_eq x.now.phylum p }
+{
+    x.phylum == p
 }
 
 /// What the transformations of a name give at a node: the outcome of the first, in source order, that stands on the
@@ -102,7 +140,8 @@ pub fn transform(
         → IfOk result (IsOfType terms.now.spec p) }
     ensures no_fault { IfOk result (λ v. (kind : IsFault) → v ≢ Fault kind) }
 {
-    let Some(first) = found(terms, name, at) else {
+    let numbers = numbers_of(alloc, terms, name)?;
+    let Some(first) = found_by(terms, &numbers, at) else {
         return Err(missing(terms.spec(), terms.phylum(at), name));
     };
     terms.facts();

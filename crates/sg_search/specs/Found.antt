@@ -2,6 +2,7 @@
 use Rattle.std.specs.Prelude.{ℕ, Bool, false, not, bytes_eq, List, filter, Option, unwrap_or}
 use Rattle.std.specs.List.{find, list_any}
 use Rattle.std.specs.Option.{option_map_or}
+use Rattle.sg_kinds.specs.InView.{in_view}
 use Rattle.sg_kinds.specs.Places.{Place, places_in, sub}
 use Rattle.sg_kinds.specs.Specification.{phylum_of}
 use Rattle.sg_kinds.specs.Terms.{Term, Leaf, Node}
@@ -35,6 +36,7 @@ module _ (spec : Spec) (name : Bytes) where
   abbrev pub outer : Term → List Place
   outer t = filter (λ u. not (list_any (applies_at t) (above u))) (found t)
 
-  -- the first of them behind a place that rests
-  abbrev pub found_behind : Term → Place → Option Place
-  found_behind t u = find (rests spec t) (filter (applies_at t) (behind u (places_in t)))
+-- the first of them behind a place that rests in a view
+abbrev pub found_behind : Spec → ℕ → Bytes → Term → Place → Option Place
+found_behind spec v name t u =
+    find (rests (in_view spec v) t) (filter (applies_at spec name t) (behind u (places_in t)))

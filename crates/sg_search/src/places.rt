@@ -3,17 +3,20 @@ ghost use Rattle.std.specs.Prelude.{◌≡◌, ◌<◌, ◌∷◌, ◌++◌, [],
 ghost use Rattle.sg_kinds.specs.Places.{Place, places_from, sub};
 ghost use Rattle.sg_kinds.specs.Specification.{args_of};
 ghost use Rattle.sg_kinds.specs.Terms.{Term};
+ghost use Rattle.sg_kinds.specs.Values.{Bytes};
 ghost use Rattle.sg_forest.specs.Trees.{Climbs, IsLive};
 ghost use Rattle.sg_groves.specs.Grove.{nodes};
 ghost use Rattle.sg_groves.specs.Holds.{Holds};
+ghost use Rattle.sg_matching.specs.Transformation.{numbers_of};
 ghost use Rattle.sg_search.specs.Found.{applies_at, applies_to, found, is_known};
 ghost use Rattle.sg_search.specs.Gathered.{AreAt, Gained};
 
 use sg_forest::NodeId;
-use sg_kinds::ids::OpId;
+use sg_kinds::ids::{OpId, PatternId};
 use sg_kinds::memory::NoMemory;
 use sg_kinds::row::item;
 use sg_kinds::spec::{Spec, Transform};
+use sg_matching::{found_by, numbers_of};
 use sg_terms::Terms;
 use std::alloc::Global;
 
@@ -31,13 +34,15 @@ fn has_name(x: &Transform, name: &[u8]) -> bool
     x.name.as_slice() == name
 }
 
-/// Whether a transformation of a name applies at a node. It takes no memory.
-pub fn applies(terms: &Terms, name: &[u8], n: NodeId) -> bool
-    requires { IsLive (nodes terms.now) n }
-    ensures { (t : Term) → Holds terms.now n t → result ≡ applies_to terms.now.spec name.now t }
+/// Whether a transformation of a name applies at a node, by the numbers of those of the name. It takes no memory.
+pub fn applies(terms: &Terms, numbers: &[PatternId], n: NodeId) -> bool
+    requires live { IsLive (nodes terms.now) n }
+    requires named { (name : Bytes) × (numbers.now ≡ numbers_of terms.now.spec name) }
+    ensures { (name : Bytes) (t : Term) → numbers.now ≡ numbers_of terms.now.spec name → Holds terms.now n t
+        → result ≡ applies_to terms.now.spec name t }
 {
     terms.facts();
-    sg_matching::found(terms, name, n).is_some()
+    found_by(terms, numbers, n).is_some()
 }
 
 /// How many children a node of an operator has.
@@ -61,8 +66,9 @@ pub fn found(
     ensures places { IfOk result (λ v. (x : Term) → Holds terms.now root x
         → AreAt terms.now root v.items (found terms.now.spec name.now x)) }
 {
+    let numbers = numbers_of(alloc, terms, name)?;
     let mut places = Vec::new(alloc);
-    gather(terms, root, name, &mut places)?;
+    gather(terms, root, &numbers, &mut places)?;
     Ok(places)
 }
 
@@ -77,20 +83,27 @@ fn push_if(places: &mut Vec<NodeId>, n: NodeId, on: bool) -> Result<(), NoMemory
 }
 
 // puts those at and below a node behind `places`
-fn gather(terms: &Terms, n: NodeId, name: &[u8], places: &mut Vec<NodeId>) -> Result<(), NoMemory>
-    requires { IsLive (nodes terms.now) n }
-    ensures { (root : _) (t x : Term) (u : Place) → Holds terms.now root t → Climbs (nodes terms.now) u n root
-        → sub t u ≡ Some x → OnOk result (Gained terms.now root places.old.items places.new.items
-        (filter (applies_at terms.now.spec name.now t) (places_from u x))) }
+fn gather(
+    terms: &Terms,
+    n: NodeId,
+    numbers: &[PatternId],
+    places: &mut Vec<NodeId>,
+) -> Result<(), NoMemory>
+    requires live { IsLive (nodes terms.now) n }
+    requires named { (name : Bytes) × (numbers.now ≡ numbers_of terms.now.spec name) }
+    ensures { (name : Bytes) (root : _) (t x : Term) (u : Place) → numbers.now ≡ numbers_of terms.now.spec name
+        → Holds terms.now root t → Climbs (nodes terms.now) u n root → sub t u ≡ Some x
+        → OnOk result (Gained terms.now root places.old.items places.new.items
+        (filter (applies_at terms.now.spec name t) (places_from u x))) }
 {
     terms.facts();
-    push_if(places, n, applies(terms, name, n))?;
+    push_if(places, n, applies(terms, numbers, n))?;
     let Some(op) = terms.op(n) else {
         return Ok(());
     };
     let count = kid_count(terms, op);
     for k in 0..count {
-        gather(terms, terms.kid(n, k), name, places)?;
+        gather(terms, terms.kid(n, k), numbers, places)?;
     }
     Ok(())
 }

@@ -8,6 +8,7 @@ ghost use Rattle.sg_forest.specs.Trees.{IsLive};
 ghost use Rattle.sg_groves.specs.Grove.{nodes};
 ghost use Rattle.sg_groves.specs.Holds.{Holds};
 ghost use Rattle.sg_terms.specs.Found.{op_at};
+ghost use Rattle.sg_matching.specs.Transformation.{numbers_of};
 ghost use Rattle.sg_select.specs.Around.{kids};
 ghost use Rattle.sg_search.specs.Found.{applies_to};
 ghost use Rattle.sg_search.specs.Made.{AreMade, IsCounted, IsMade, IsStop};
@@ -15,16 +16,16 @@ ghost use Rattle.sg_search.specs.ReplacedAll.{Makes, replaced_all};
 ghost use Rattle.sg_search.specs.Why.{IsWhy};
 ghost use Rattle.sg_search.specs.declared.replaced.SearchFault.TheVariants.{NoMemory as SearchNoMemory, Size};
 
-use crate::places::{is_known, kid_count};
+use crate::places::{applies, is_known, kid_count};
 use sg_build::{copy_out, counts};
 use sg_eval::Evaluator;
 use sg_forest::NodeId;
-use sg_kinds::ids::OpId;
+use sg_kinds::ids::{OpId, PatternId};
 use sg_kinds::limits::{DEPTH, NODES};
 use sg_kinds::marks::FaultKind;
 use sg_kinds::memory::NoMemory;
 use sg_kinds::term::{Term, TermNode};
-use sg_matching::{TransformFault, transformed};
+use sg_matching::{TransformFault, numbers_of, transformed};
 use sg_terms::Terms;
 use std::alloc::Global;
 
@@ -90,8 +91,9 @@ pub fn all(
     if !is_known(terms.spec(), name) {
         return Err(SearchFault::Unknown);
     }
+    let numbers = numbers_of(alloc, terms, name)?;
     let mut left = NODES;
-    match made(alloc, terms, ev, name, at, &mut left)? {
+    match made(alloc, terms, ev, name, &numbers, at, &mut left)? {
         Walked::Same => Err(SearchFault::NoMatch),
         Walked::New(term) => within(term),
         Walked::Over => Err(SearchFault::Size),
@@ -131,10 +133,12 @@ fn made(
     terms: &Terms,
     ev: &Evaluator,
     name: &[u8],
+    numbers: &[PatternId],
     n: NodeId,
     left: &mut usize,
 ) -> Result<Walked, SearchFault>
     requires same { ev.now ≡ terms.now.spec }
+    requires named { numbers.now ≡ numbers_of terms.now.spec name.now }
     requires live { IsLive (nodes terms.now) n }
     requires left { left.old < usize.MAX }
     ensures made { (x : IsTerm) → Holds terms.now n x → MatchResult result
@@ -142,12 +146,16 @@ fn made(
     ensures fewer { left.new ≤ left.old }
 {
     terms.facts();
+    if !applies(terms, numbers, n) {
+        return below(alloc, terms, ev, name, numbers, n, left);
+    }
     match transformed(alloc, terms, ev, name, n) {
         Ok(term) => Ok(counted(term, left)),
         Err(TransformFault::Outcome(why)) => Err(SearchFault::Outcome(why)),
         Err(TransformFault::NoMemory) => Err(SearchFault::NoMemory),
-        Err(TransformFault::Unknown) => below(alloc, terms, ev, name, n, left),
-        Err(TransformFault::NoMatch) => below(alloc, terms, ev, name, n, left),
+        // none applies
+        Err(TransformFault::Unknown) => Ok(Walked::Same),
+        Err(TransformFault::NoMatch) => Ok(Walked::Same),
     }
 }
 
@@ -158,10 +166,12 @@ fn below(
     terms: &Terms,
     ev: &Evaluator,
     name: &[u8],
+    numbers: &[PatternId],
     n: NodeId,
     left: &mut usize,
 ) -> Result<Walked, SearchFault>
     requires same { ev.now ≡ terms.now.spec }
+    requires named { numbers.now ≡ numbers_of terms.now.spec name.now }
     requires live { IsLive (nodes terms.now) n }
     requires left { left.old < usize.MAX }
     ensures made { (x : IsTerm) → Holds terms.now n x → applies_to terms.now.spec name.now x ≡ false → MatchResult result
@@ -176,7 +186,7 @@ fn below(
     let mut row = WalkedRow::Same;
     for k in 0..count {
         let kid = terms.kid(n, k);
-        let new = made(alloc, terms, ev, name, kid, left)?;
+        let new = made(alloc, terms, ev, name, numbers, kid, left)?;
         row = joined(alloc, terms, n, k, row, new)?;
     }
     Ok(over(terms, n, op, row))

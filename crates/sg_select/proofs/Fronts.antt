@@ -10,7 +10,7 @@ use Rattle.sg_kinds.specs.declared.spec.Spec.{Spec}
 use Rattle.sg_forest.specs.declared.node_id.NodeId.{NodeId}
 use Rattle.sg_forest.specs.Trees.{Climbs, IsChild, IsLive, IsRoot}
 use Rattle.sg_forest.proofs.Paths.{child_is_live, root_is_live}
-use Rattle.sg_groves.specs.Grove.{Grove, nodes, IsGrove}
+use Rattle.sg_groves.specs.Grove.{Grove, nodes, IsGrove, spec_shown}
 use Rattle.sg_groves.specs.Holds.{IsPlaced}
 use Rattle.sg_select.proofs.Leading.{above_placed, top_placed}
 use Rattle.sg_select.proofs.Within.{and_off}
@@ -98,9 +98,9 @@ module _ (spec : Spec) (t : Term) where
   pub settled_front : (u front : Place) → EndsAt t u front → settled spec t u ≡ settled spec t front
   settled_front u front e = ap (settled spec t) e.is ∙ ap (λ o. unwrap_or o []) (none_nearest e.rest e.next front e.none)
 
-pub settled_deepest : (g : Grove) (root n : NodeId) (t : Term) (u : Place) (whole : Bool) → (went : GoesTo g root t u n whole) → settled g.spec t u ≡ settled g.spec t went.front
-settled_deepest g root n t u true went = ap (settled g.spec t) (went.all refl)
-settled_deepest g root n t u false went = settled_front g.spec t u went.front (went.ends refl)
+pub settled_deepest : (g : Grove) (root n : NodeId) (t : Term) (u : Place) (whole : Bool) → (went : GoesTo g root t u n whole) → settled (spec_shown g) t u ≡ settled (spec_shown g) t went.front
+settled_deepest g root n t u true went = ap (settled (spec_shown g) t) (went.all refl)
+settled_deepest g root n t u false went = settled_front (spec_shown g) t u went.front (went.ends refl)
 
 pub there_is : (t s : Term) (u : Place) → sub t u ≡ Some s → there t u ≡ Some u
 there_is t s u at = ap (option_map (λ _. u)) at

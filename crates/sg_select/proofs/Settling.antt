@@ -10,7 +10,7 @@ use Rattle.sg_kinds.specs.declared.spec.Spec.{Spec}
 use Rattle.sg_select.specs.RestingPlaces.{above, is_open, leads_on, rests, rests_under, settled}
 use Rattle.sg_forest.specs.declared.node_id.NodeId.{NodeId}
 use Rattle.sg_forest.specs.Trees.{Climbs}
-use Rattle.sg_groves.specs.Grove.{Grove, nodes, IsGrove}
+use Rattle.sg_groves.specs.Grove.{Grove, nodes, IsGrove, spec_shown}
 use Rattle.sg_groves.specs.Holds.{IsPlaced}
 use Rattle.sg_groves.proofs.Ways.{one_node, one_way}
 use Rattle.sg_select.specs.Leads.{IsOpenAt, LeadsTo}
@@ -113,7 +113,7 @@ module _ (spec : Spec) (t : Term) where
 pub record IsKeeping (g : Grove) (root : NodeId) (t : Term) (u w : Place) (kept : Option NodeId) : Type 0 where
   pub place : Option Place
   pub leads : LeadsTo g root place kept
-  pub known : IsKept g.spec t u w place
+  pub known : IsKept (spec_shown g) t u w place
 
 abbrev pub Keeps : Grove → Option NodeId → Knows
 Keeps g kept root t u w = IsKeeping g root t u w kept
@@ -130,51 +130,51 @@ leads_is_none g root (Some v) None none h = absurd h
 leads_is_none g root (Some v) (Some m) none h = absurd (false≢true (sym none))
 
 pub settled_at : (g : Grove) (root at : NodeId) (t : Term) (u : Place) (kept : Option NodeId) → IsKeeping g root t u [] kept → at ≡ root
-    → Climbs (nodes g) (settled g.spec t u) (unwrap_or kept at) root
+    → Climbs (nodes g) (settled (spec_shown g) t u) (unwrap_or kept at) root
 settled_at g root at t u kept h top = by kept h.place h.leads h.known
   where
-    by : (r : Option NodeId) (o : Option Place) → LeadsTo g root o r → IsKept g.spec t u [] o → Climbs (nodes g) (settled g.spec t u) (unwrap_or r at) root
-    by None None leads known = subst (λ v. Climbs (nodes g) v at root) (sym (settled_root g.spec t u known)) top
+    by : (r : Option NodeId) (o : Option Place) → LeadsTo g root o r → IsKept (spec_shown g) t u [] o → Climbs (nodes g) (settled (spec_shown g) t u) (unwrap_or r at) root
+    by None None leads known = subst (λ v. Climbs (nodes g) v at root) (sym (settled_root (spec_shown g) t u known)) top
     by None (Some v) leads known = absurd leads
     by (Some m) None leads known = absurd leads
-    by (Some m) (Some v) leads known = subst (λ z. Climbs (nodes g) z m root) (sym (settled_kept g.spec t u v known)) leads
+    by (Some m) (Some v) leads known = subst (λ z. Climbs (nodes g) z m root) (sym (settled_kept (spec_shown g) t u v known)) leads
 
 -- where the place of a walk can be reached, what is kept is settled
-pub settled_met : (g : Grove) (root m : NodeId) (t : Term) (u w : Place) (kept : Option NodeId) → IsKeeping g root t u w kept → kept ≡ Some m → is_open g.spec t w ≡ true
-    → Climbs (nodes g) (settled g.spec t u) m root
+pub settled_met : (g : Grove) (root m : NodeId) (t : Term) (u w : Place) (kept : Option NodeId) → IsKeeping g root t u w kept → kept ≡ Some m → is_open (spec_shown g) t w ≡ true
+    → Climbs (nodes g) (settled (spec_shown g) t u) m root
 settled_met g root m t u w kept h is way = by h.place (subst (LeadsTo g root h.place) is h.leads) h.known
   where
-    by : (o : Option Place) → LeadsTo g root o (Some m) → IsKept g.spec t u w o → Climbs (nodes g) (settled g.spec t u) m root
+    by : (o : Option Place) → LeadsTo g root o (Some m) → IsKept (spec_shown g) t u w o → Climbs (nodes g) (settled (spec_shown g) t u) m root
     by None leads known = absurd leads
     by (Some v) leads known = subst (λ z. Climbs (nodes g) z m root) (sym (ap (λ o. unwrap_or o []) (known.reached way))) leads
 
 -- a walk that met a node which can be reached is at a place that can be
 pub record HasMet (g : Grove) (kept : Option NodeId) (met : Bool) (n root : NodeId) (t : Term) (u w : Place) : Type 0 where
   pub keeps : IsKeeping g root t u w kept
-  pub way : IsOpenAt g root t n → met ≡ true → is_open g.spec t w ≡ true
+  pub way : IsOpenAt g root t n → met ≡ true → is_open (spec_shown g) t w ≡ true
 
 abbrev pub Meets : Grove → Option NodeId → Bool → NodeId → Knows
 Meets g kept met n root t u w = HasMet g kept met n root t u w
 
 pub met_here : (g : Grove) (root n at : NodeId) (t : Term) (u w : Place) (kept : Option NodeId) (met now : Bool) → Climbs (nodes g) w at root → HasMet g kept met n root t u w
-    → (IsTrue now → IsTrue met ⊎ (at ≡ n)) → IsOpenAt g root t n → now ≡ true → is_open g.spec t w ≡ true
+    → (IsTrue now → IsTrue met ⊎ (at ≡ n)) → IsOpenAt g root t n → now ≡ true → is_open (spec_shown g) t w ≡ true
 met_here g root n at t u w kept met now here h either reached on = elim (either on) [
   | inl was ↦ h.way reached was
   | inr same ↦ reached w (subst (λ z. Climbs (nodes g) w z root) same here)
 ]
 
 pub met_up : (g : Grove) (root n at p : NodeId) (t : Term) (u w : Place) (k : ℕ) (x y : Term) (kept : Option NodeId) (met now : Bool) → IsStep g root t k w p at x y → HasMet g kept met n root t u (k ∷ w)
-    → (IsTrue now → IsTrue met ⊎ (at ≡ n)) → IsOpenAt g root t n → now ≡ true → is_open g.spec t w ≡ true
+    → (IsTrue now → IsTrue met ⊎ (at ≡ n)) → IsOpenAt g root t n → now ≡ true → is_open (spec_shown g) t w ≡ true
 met_up g root n at p t u w k x y kept met now s h either reached on =
-    (reached_from g.spec t k w x s.there (met_here g root n at t u (k ∷ w) kept met now s.below.way h either reached on)).way
+    (reached_from (spec_shown g) t k w x s.there (met_here g root n at t u (k ∷ w) kept met now s.below.way h either reached on)).way
 
 -- a node is where its walk settles exactly where it rests
-pub itself_rests : (g : Grove) → IsGrove g → (root n m : NodeId) (t : Term) (u : Place) → IsPlaced g root t u n → Climbs (nodes g) (settled g.spec t u) m root
-    → (m ≡ n) ↔ (rests g.spec t u ≡ true)
+pub itself_rests : (g : Grove) → IsGrove g → (root n m : NodeId) (t : Term) (u : Place) → IsPlaced g root t u n → Climbs (nodes g) (settled (spec_shown g) t u) m root
+    → (m ≡ n) ↔ (rests (spec_shown g) t u ≡ true)
 itself_rests g is root n m t u placed way = (
-  (λ same. subst (λ v. rests g.spec t v ≡ true) (one_way g is (settled g.spec t u) u n root root placed.top placed.top (subst (λ z. Climbs (nodes g) (settled g.spec t u) z root) same way) placed.way).0
-      (settled_rests g.spec t u)),
-  (λ rest. one_node g is u m n root (subst (λ v. Climbs (nodes g) v m root) (settled_itself g.spec t u rest) way) placed.way),
+  (λ same. subst (λ v. rests (spec_shown g) t v ≡ true) (one_way g is (settled (spec_shown g) t u) u n root root placed.top placed.top (subst (λ z. Climbs (nodes g) (settled (spec_shown g) t u) z root) same way) placed.way).0
+      (settled_rests (spec_shown g) t u)),
+  (λ rest. one_node g is u m n root (subst (λ v. Climbs (nodes g) v m root) (settled_itself (spec_shown g) t u rest) way) placed.way),
 )
 
 pub same_tests : (a b : Bool) → (a ≡ true) ↔ (b ≡ true) → a ≡ b

@@ -4,7 +4,7 @@ use Rattle.sg_kinds.specs.Terms.{Term}
 use Rattle.sg_kinds.specs.Places.{Place}
 use Rattle.sg_forest.specs.declared.node_id.NodeId.{NodeId}
 use Rattle.sg_forest.specs.Trees.{Climbs}
-use Rattle.sg_groves.specs.Grove.{Grove, nodes}
+use Rattle.sg_groves.specs.Grove.{Grove, nodes, spec_shown}
 use Rattle.sg_select.specs.RestingPlaces.{is_open}
 
 -- the node at the place, where there is one, in the tree of a root
@@ -15,4 +15,4 @@ LeadsTo g root v m = ⊥
 
 -- a node can be reached wherever it stands in the tree of a root
 abbrev pub IsOpenAt : Grove → NodeId → Term → NodeId → Type 0
-IsOpenAt g root t n = (p : Place) → Climbs (nodes g) p n root → is_open g.spec t p ≡ true
+IsOpenAt g root t n = (p : Place) → Climbs (nodes g) p n root → is_open (spec_shown g) t p ≡ true

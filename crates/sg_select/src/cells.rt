@@ -3,7 +3,7 @@ ghost use Rattle.std.specs.Prelude.{◌≡◌, IfSome, None, Some};
 ghost use Rattle.sg_kinds.specs.Places.{Place};
 ghost use Rattle.sg_kinds.specs.Terms.{Term};
 ghost use Rattle.sg_forest.specs.Trees.{IsLive};
-ghost use Rattle.sg_groves.specs.Grove.{nodes};
+ghost use Rattle.sg_groves.specs.Grove.{nodes, spec_shown};
 ghost use Rattle.sg_groves.specs.Holds.{IsPlaced};
 ghost use Rattle.sg_unparse.specs.Page.{owner_at};
 ghost use Rattle.sg_select.specs.Leads.{LeadsTo};
@@ -21,7 +21,7 @@ pub fn at_cell(terms: &Terms, page: &Page, line: usize, col: usize) -> Option<No
     ensures live { IfSome result (IsLive (nodes terms.now)) }
     ensures none { owner_at page.now.cells line col ≡ None → result ≡ None }
     ensures settled { (n root : _) (t : Term) (u : Place) → owner_at page.now.cells line col ≡ Some n
-        → IsPlaced terms.now root t u n → LeadsTo terms.now root (Some (settled terms.now.spec t u)) result }
+        → IsPlaced terms.now root t u n → LeadsTo terms.now root (Some (settled (spec_shown terms.now) t u)) result }
 {
     match page.owner(line, col) {
         Some(n) => Some(settle(terms, n)),

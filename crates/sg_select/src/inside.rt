@@ -5,12 +5,12 @@ ghost use Rattle.sg_kinds.specs.Places.{Place};
 ghost use Rattle.sg_kinds.specs.Specification.{args_of};
 ghost use Rattle.sg_kinds.specs.Terms.{Term};
 ghost use Rattle.sg_forest.specs.Trees.{IsLive};
-ghost use Rattle.sg_groves.specs.Grove.{nodes};
+ghost use Rattle.sg_groves.specs.Grove.{nodes, spec_shown};
 ghost use Rattle.sg_groves.specs.Holds.{Holds, IsPlaced};
 ghost use Rattle.sg_select.specs.Around.{inside, kids, part, parts};
 ghost use Rattle.sg_select.specs.Leads.{LeadsTo};
 
-use crate::schemes::{is_shown, rests_under};
+use crate::schemes::{child_place, is_shown, rests_at};
 use sg_forest::NodeId;
 use sg_kinds::ids::OpId;
 use sg_kinds::row::item;
@@ -47,14 +47,15 @@ fn first_at(terms: &Terms, n: NodeId, k: usize) -> Option<NodeId>
     ensures live { IfSome result (IsLive (nodes terms.now)) }
     ensures leads { (root : _) (t x y : Term) (u : Place) → IsPlaced terms.now root t u n
         → Holds terms.now n x → slice_get (kids x) k ≡ Some y
-        → LeadsTo terms.now root (slice_get (part terms.now.spec u x k y) 0) result }
+        → LeadsTo terms.now root (slice_get (part (spec_shown terms.now) u x k y) 0) result }
 {
     terms.facts();
-    if !is_shown(terms, n, k) {
+    let place = child_place(terms, n, k);
+    if !is_shown(place) {
         return None;
     }
     let kid = terms.kid(n, k);
-    if rests_under(terms, n, k, kid) {
+    if rests_at(terms, n, k, kid, place) {
         return Some(kid);
     }
     first_inside(terms, kid)
@@ -66,7 +67,7 @@ pub fn first_from(terms: &Terms, n: NodeId, from: usize) -> Option<NodeId>
     requires { IsLive (nodes terms.now) n }
     ensures live { IfSome result (IsLive (nodes terms.now)) }
     ensures leads { (root : _) (t x : Term) (u : Place) → IsPlaced terms.now root t u n → Holds terms.now n x
-        → LeadsTo terms.now root (slice_get (parts terms.now.spec u x from (drop from (kids x))) 0) result }
+        → LeadsTo terms.now root (slice_get (parts (spec_shown terms.now) u x from (drop from (kids x))) 0) result }
 {
     for k in from..kid_count(terms, n) {
         if let Some(found) = first_at(terms, n, k) {
@@ -82,7 +83,7 @@ pub fn first_inside(terms: &Terms, n: NodeId) -> Option<NodeId>
     requires { IsLive (nodes terms.now) n }
     ensures live { IfSome result (IsLive (nodes terms.now)) }
     ensures leads { (root : _) (t x : Term) (u : Place) → IsPlaced terms.now root t u n → Holds terms.now n x
-        → LeadsTo terms.now root (slice_get (inside terms.now.spec u x) 0) result }
+        → LeadsTo terms.now root (slice_get (inside (spec_shown terms.now) u x) 0) result }
 {
     terms.facts();
     if terms.elided(n) {
@@ -99,17 +100,18 @@ fn last_at(terms: &Terms, n: NodeId, k: usize) -> Option<NodeId>
     ensures live { IfSome result (IsLive (nodes terms.now)) }
     ensures leads { (root : _) (t x y : Term) (u : Place) → IsPlaced terms.now root t u n
         → Holds terms.now n x → slice_get (kids x) k ≡ Some y
-        → LeadsTo terms.now root (last_or None (part terms.now.spec u x k y)) result }
+        → LeadsTo terms.now root (last_or None (part (spec_shown terms.now) u x k y)) result }
 {
     terms.facts();
-    if !is_shown(terms, n, k) {
+    let place = child_place(terms, n, k);
+    if !is_shown(place) {
         return None;
     }
     let kid = terms.kid(n, k);
     if let Some(found) = last_inside(terms, kid) {
         return Some(found);
     }
-    if rests_under(terms, n, k, kid) {
+    if rests_at(terms, n, k, kid, place) {
         return Some(kid);
     }
     None
@@ -122,7 +124,7 @@ pub fn last_before(terms: &Terms, n: NodeId, to: usize) -> Option<NodeId>
     requires few { (x : _) → nodes terms.now n ≡ Some x → to ≤ x.label.arity }
     ensures live { IfSome result (IsLive (nodes terms.now)) }
     ensures leads { (root : _) (t x : Term) (u : Place) → IsPlaced terms.now root t u n → Holds terms.now n x
-        → LeadsTo terms.now root (last_or None (parts terms.now.spec u x 0 (take to (kids x)))) result }
+        → LeadsTo terms.now root (last_or None (parts (spec_shown terms.now) u x 0 (take to (kids x)))) result }
 {
     terms.facts();
     let mut left = to;
@@ -141,7 +143,7 @@ fn last_inside(terms: &Terms, n: NodeId) -> Option<NodeId>
     requires { IsLive (nodes terms.now) n }
     ensures live { IfSome result (IsLive (nodes terms.now)) }
     ensures leads { (root : _) (t x : Term) (u : Place) → IsPlaced terms.now root t u n → Holds terms.now n x
-        → LeadsTo terms.now root (last_or None (inside terms.now.spec u x)) result }
+        → LeadsTo terms.now root (last_or None (inside (spec_shown terms.now) u x)) result }
 {
     terms.facts();
     if terms.elided(n) {

@@ -3,7 +3,7 @@ ghost use Rattle.std.specs.Prelude.{◌≡◌, ◌∷◌, ◌⊎◌, IfSome, IsT
 ghost use Rattle.sg_kinds.specs.Places.{Place};
 ghost use Rattle.sg_kinds.specs.Terms.{Term};
 ghost use Rattle.sg_forest.specs.Trees.{Climbs, IsChild, IsLive};
-ghost use Rattle.sg_groves.specs.Grove.{nodes};
+ghost use Rattle.sg_groves.specs.Grove.{nodes, spec_shown};
 ghost use Rattle.sg_groves.specs.Holds.{IsPlaced};
 ghost use Rattle.sg_select.specs.Around.{after};
 ghost use Rattle.sg_select.specs.Kept.{IsKept};
@@ -19,7 +19,7 @@ use sg_terms::Terms;
 fn stands(terms: &Terms, n: NodeId) -> bool
     requires { IsLive (nodes terms.now) n }
     ensures { (root : _) (t : Term) (u : Place) → IsPlaced terms.now root t u n
-        → reaches terms.now.spec t u ≡ true → result ≡ rests_there terms.now.spec t u }
+        → reaches (spec_shown terms.now) t u ≡ true → result ≡ rests_there (spec_shown terms.now) t u }
 {
     terms.facts();
     match terms.parent(n) {
@@ -32,7 +32,7 @@ fn stands(terms: &Terms, n: NodeId) -> bool
 fn is_open(terms: &Terms, n: NodeId) -> bool
     requires { IsLive (nodes terms.now) n }
     ensures { (root : _) (t : Term) (u : Place) → IsPlaced terms.now root t u n
-        → result ≡ reaches terms.now.spec t u }
+        → result ≡ reaches (spec_shown terms.now) t u }
 {
     terms.facts();
     let mut at = n;
@@ -60,8 +60,8 @@ fn kept_over(
     requires kept { IfSome kept (IsLive (nodes terms.now)) }
     ensures live { IfSome result (IsLive (nodes terms.now)) }
     ensures kept { (root : _) (t : Term) (u w : Place) (v : Option Place) → IsPlaced terms.now root t w above
-        → LeadsTo terms.now root v kept → IsKept terms.now.spec t u (k ∷ w) v
-        → (z : Option Place) × LeadsTo terms.now root z result × IsKept terms.now.spec t u w z }
+        → LeadsTo terms.now root v kept → IsKept (spec_shown terms.now) t u (k ∷ w) v
+        → (z : Option Place) × LeadsTo terms.now root z result × IsKept (spec_shown terms.now) t u w z }
 {
     terms.facts();
     if !leads_on(terms, above, k) {
@@ -81,7 +81,7 @@ pub fn settle(terms: &Terms, n: NodeId) -> NodeId
     requires { IsLive (nodes terms.now) n }
     ensures live { IsLive (nodes terms.now) result }
     ensures settled { (root : _) (t : Term) (u : Place) → IsPlaced terms.now root t u n
-        → Climbs (nodes terms.now) (settled terms.now.spec t u) result root }
+        → Climbs (nodes terms.now) (settled (spec_shown terms.now) t u) result root }
 {
     terms.facts();
     let mut kept: Option<NodeId> = None;
@@ -113,7 +113,8 @@ pub fn settle_below(terms: &Terms, n: NodeId, reached: NodeId) -> NodeId
     requires { IsLive (nodes terms.now) n }
     ensures live { IsLive (nodes terms.now) result }
     ensures settled { (root : _) (t : Term) (u : Place) → IsPlaced terms.now root t u n
-        → IsOpenAt terms.now root t reached → Climbs (nodes terms.now) (settled terms.now.spec t u) result root }
+        → IsOpenAt terms.now root t reached
+        → Climbs (nodes terms.now) (settled (spec_shown terms.now) t u) result root }
 {
     terms.facts();
     let mut nearest: Option<NodeId> = None;
@@ -134,7 +135,7 @@ pub fn settle_below(terms: &Terms, n: NodeId, reached: NodeId) -> NodeId
 pub fn rests(terms: &Terms, n: NodeId) -> bool
     requires { IsLive (nodes terms.now) n }
     ensures { (root : _) (t : Term) (u : Place) → IsPlaced terms.now root t u n
-        → result ≡ rests_there terms.now.spec t u }
+        → result ≡ rests_there (spec_shown terms.now) t u }
 {
     terms.facts();
     settle(terms, n) == n
@@ -145,7 +146,7 @@ pub fn up(terms: &Terms, n: NodeId) -> Option<NodeId>
     requires { IsLive (nodes terms.now) n }
     ensures live { IfSome result (IsLive (nodes terms.now)) }
     ensures leads { (root : _) (t : Term) (u : Place) → IsPlaced terms.now root t u n
-        → LeadsTo terms.now root (up_from terms.now.spec t u) result }
+        → LeadsTo terms.now root (up_from (spec_shown terms.now) t u) result }
 {
     terms.facts();
     match terms.parent(n) {
@@ -159,7 +160,7 @@ pub fn first(terms: &Terms, n: NodeId) -> Option<NodeId>
     requires { IsLive (nodes terms.now) n }
     ensures live { IfSome result (IsLive (nodes terms.now)) }
     ensures leads { (root : _) (t : Term) (u : Place) → IsPlaced terms.now root t u n
-        → LeadsTo terms.now root (first_below terms.now.spec t u) result }
+        → LeadsTo terms.now root (first_below (spec_shown terms.now) t u) result }
 {
     terms.facts();
     if !is_open(terms, n) {
@@ -173,7 +174,7 @@ fn first_after(terms: &Terms, n: NodeId) -> Option<NodeId>
     requires { IsLive (nodes terms.now) n }
     ensures live { IfSome result (IsLive (nodes terms.now)) }
     ensures leads { (root : _) (t : Term) (u : Place) → IsPlaced terms.now root t u n
-        → LeadsTo terms.now root (slice_get (after terms.now.spec t u) 0) result }
+        → LeadsTo terms.now root (slice_get (after (spec_shown terms.now) t u) 0) result }
 {
     terms.facts();
     let mut at = n;
@@ -191,7 +192,8 @@ pub fn next(terms: &Terms, n: NodeId) -> Option<NodeId>
     requires { IsLive (nodes terms.now) n }
     ensures live { IfSome result (IsLive (nodes terms.now)) }
     ensures leads { (root : _) (t : Term) (u : Place) → IsPlaced terms.now root t u n
-        → rests_there terms.now.spec t u ≡ true → LeadsTo terms.now root (next_from terms.now.spec t u) result }
+        → rests_there (spec_shown terms.now) t u ≡ true
+        → LeadsTo terms.now root (next_from (spec_shown terms.now) t u) result }
 {
     terms.facts();
     match first_inside(terms, n) {
@@ -205,7 +207,8 @@ pub fn prev(terms: &Terms, n: NodeId) -> Option<NodeId>
     requires { IsLive (nodes terms.now) n }
     ensures live { IfSome result (IsLive (nodes terms.now)) }
     ensures leads { (root : _) (t : Term) (u : Place) → IsPlaced terms.now root t u n
-        → rests_there terms.now.spec t u ≡ true → LeadsTo terms.now root (prev_from terms.now.spec t u) result }
+        → rests_there (spec_shown terms.now) t u ≡ true
+        → LeadsTo terms.now root (prev_from (spec_shown terms.now) t u) result }
 {
     terms.facts();
     let mut at = n;
@@ -227,7 +230,8 @@ pub fn sibling(terms: &Terms, n: NodeId) -> Option<NodeId>
     requires { IsLive (nodes terms.now) n }
     ensures live { IfSome result (IsLive (nodes terms.now)) }
     ensures leads { (root : _) (t : Term) (u : Place) → IsPlaced terms.now root t u n
-        → rests_there terms.now.spec t u ≡ true → LeadsTo terms.now root (sibling_from terms.now.spec t u) result }
+        → rests_there (spec_shown terms.now) t u ≡ true
+        → LeadsTo terms.now root (sibling_from (spec_shown terms.now) t u) result }
 {
     terms.facts();
     let mut at = n;

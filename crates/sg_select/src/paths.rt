@@ -3,7 +3,7 @@ ghost use Rattle.std.specs.Prelude.{◌≡◌, ◌≤◌, ◌++◌, length, take
 ghost use Rattle.sg_kinds.specs.Places.{Place, place_of};
 ghost use Rattle.sg_kinds.specs.Terms.{Term};
 ghost use Rattle.sg_forest.specs.Trees.{Climbs, IsLive, IsRoot};
-ghost use Rattle.sg_groves.specs.Grove.{nodes};
+ghost use Rattle.sg_groves.specs.Grove.{nodes, spec_shown};
 ghost use Rattle.sg_groves.specs.Holds.{Holds, IsPlaced};
 ghost use Rattle.sg_select.specs.Leads.{IsOpenAt, LeadsTo};
 ghost use Rattle.sg_select.specs.Paths.{GoesTo, there};
@@ -119,7 +119,7 @@ fn settle_from(terms: &Terms, n: NodeId, reached: Option<NodeId>) -> NodeId
     ensures live { IsLive (nodes terms.now) result }
     ensures settled { (root : _) (t : Term) (u : Place) → IsPlaced terms.now root t u n
         → IfSome reached (IsOpenAt terms.now root t)
-        → Climbs (nodes terms.now) (settled terms.now.spec t u) result root }
+        → Climbs (nodes terms.now) (settled (spec_shown terms.now) t u) result root }
 {
     match reached {
         Some(reached) => settle_below(terms, n, reached),
@@ -149,7 +149,7 @@ pub fn settle_path_below(
     requires near { Climbs (nodes terms.now) (place_of way.now) near root }
     ensures live { IsLive (nodes terms.now) result.0 }
     ensures settled { (t : Term) → Holds terms.now root t → IfSome reached (IsOpenAt terms.now root t)
-        → Climbs (nodes terms.now) (settled terms.now.spec t (place_of path.now)) result.0 root }
+        → Climbs (nodes terms.now) (settled (spec_shown terms.now) t (place_of path.now)) result.0 root }
     ensures there { (t : Term) → Holds terms.now root t → IsTrue result.1
         → Climbs (nodes terms.now) (place_of path.now) result.0 root }
 {

@@ -3,7 +3,7 @@ ghost use Rattle.std.specs.Prelude.{◌≡◌, ◌<◌, length, slice_get, unwra
 ghost use Rattle.sg_kinds.specs.Sound.{is_pair};
 ghost use Rattle.sg_kinds.specs.Terms.{Term};
 ghost use Rattle.sg_forest.specs.Trees.{IsLive};
-ghost use Rattle.sg_groves.specs.Grove.{nodes};
+ghost use Rattle.sg_groves.specs.Grove.{nodes, spec_shown};
 ghost use Rattle.sg_groves.specs.Holds.{Holds};
 ghost use Rattle.sg_unparse.specs.Unparsed.{child_places};
 ghost use Rattle.sg_select.specs.RestingPlaces.{begins_resting as begins, child_place as place_of_child, is_shown as shows, leads_on as leads_to_kid, is_rest as is_rest_of, rests_under as rests_there};
@@ -32,10 +32,10 @@ fn place_in(items: &[Item], k: usize) -> ChildPlace
     ChildPlace::Hidden
 }
 
-// the place of a child in the current scheme of a node; `..` where it has none there.
-fn child_place(terms: &Terms, n: NodeId, k: usize) -> ChildPlace
+/// The place of a child in the current scheme of a node; `..` where it has none there.
+pub fn child_place(terms: &Terms, n: NodeId, k: usize) -> ChildPlace
     requires { IsLive (nodes terms.now) n }
-    ensures { (t : Term) → Holds terms.now n t → result ≡ place_of_child terms.now.spec t k }
+    ensures { (t : Term) → Holds terms.now n t → result ≡ place_of_child (spec_shown terms.now) t k }
 {
     terms.facts();
     match current(terms, n) {
@@ -44,26 +44,25 @@ fn child_place(terms: &Terms, n: NodeId, k: usize) -> ChildPlace
     }
 }
 
-/// Whether a node shows a child: the child has a place in its current scheme, and that is not `..`.
-pub fn is_shown(terms: &Terms, n: NodeId, k: usize) -> bool
-    requires { IsLive (nodes terms.now) n }
-    ensures { (t : Term) → Holds terms.now n t → result ≡ shows (place_of_child terms.now.spec t k) }
+/// Whether a node shows a child that has this place in its current scheme: the place is not `..`.
+pub fn is_shown(place: ChildPlace) -> bool
+    ensures { result ≡ shows place }
 {
-    !matches!(child_place(terms, n, k), ChildPlace::Hidden)
+    !matches!(place, ChildPlace::Hidden)
 }
 
 /// Whether a selection may go on from a node that can be reached to a child: the node is not elided and shows it.
 pub fn leads_on(terms: &Terms, n: NodeId, k: usize) -> bool
     requires { IsLive (nodes terms.now) n }
-    ensures { (t : Term) → Holds terms.now n t → result ≡ leads_to_kid terms.now.spec t k }
+    ensures { (t : Term) → Holds terms.now n t → result ≡ leads_to_kid (spec_shown terms.now) t k }
 {
-    !terms.elided(n) && is_shown(terms, n, k)
+    !terms.elided(n) && is_shown(child_place(terms, n, k))
 }
 
 // whether the current scheme of a node begins with `@`; a leaf counts so
 fn begins_resting(terms: &Terms, n: NodeId) -> bool
     requires { IsLive (nodes terms.now) n }
-    ensures { (t : Term) → Holds terms.now n t → result ≡ begins terms.now.spec t }
+    ensures { (t : Term) → Holds terms.now n t → result ≡ begins (spec_shown terms.now) t }
 {
     terms.facts();
     match current(terms, n) {
@@ -88,7 +87,7 @@ pub fn is_pair_of_list(spec: &Spec, op: OpId) -> bool
 // whether child `k` of a node is the rest of a list
 fn is_rest(terms: &Terms, n: NodeId, k: usize) -> bool
     requires { IsLive (nodes terms.now) n }
-    ensures { (t : Term) → Holds terms.now n t → result ≡ is_rest_of terms.now.spec t k }
+    ensures { (t : Term) → Holds terms.now n t → result ≡ is_rest_of (spec_shown terms.now) t k }
 {
     terms.facts();
     match terms.op(n) {
@@ -102,8 +101,18 @@ pub fn rests_under(terms: &Terms, n: NodeId, k: usize, kid: NodeId) -> bool
     requires node { IsLive (nodes terms.now) n }
     requires kid { IsLive (nodes terms.now) kid }
     ensures { (t y : Term) → Holds terms.now n t → Holds terms.now kid y
-        → result ≡ rests_there terms.now.spec t k y }
+        → result ≡ rests_there (spec_shown terms.now) t k y }
 {
-    let rests = matches!(child_place(terms, n, k), ChildPlace::Resting);
+    rests_at(terms, n, k, kid, child_place(terms, n, k))
+}
+
+/// The same by the place of the child in the node's current scheme.
+pub fn rests_at(terms: &Terms, n: NodeId, k: usize, kid: NodeId, place: ChildPlace) -> bool
+    requires node { IsLive (nodes terms.now) n }
+    requires kid { IsLive (nodes terms.now) kid }
+    ensures { (t y : Term) → Holds terms.now n t → Holds terms.now kid y
+        → place ≡ place_of_child (spec_shown terms.now) t k → result ≡ rests_there (spec_shown terms.now) t k y }
+{
+    let rests = matches!(place, ChildPlace::Resting);
     rests && !is_rest(terms, n, k) && begins_resting(terms, kid)
 }

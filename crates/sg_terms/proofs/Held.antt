@@ -18,12 +18,12 @@ use Rattle.sg_groves.specs.Grove.{Grove, AreTyped, IsOperation, IsLeaf, IsNode, 
 use Rattle.sg_terms.proofs.Same.{Stands-grown, AreTyped-grown}
 use Rattle.sg_terms.specs.Occurrences.{AreTrees}
 
-module _ (spec : Spec) (old new : Trees Kind Part) (was now : List Value) where
+module _ (spec : Spec) (view : ℕ) (old new : Trees Kind Part) (was now : List Value) where
   abbrev before : Grove
-  before = record { spec = spec; trees = old; pool = was }
+  before = record { spec = spec; trees = old; pool = was; view = view }
 
   abbrev after : Grove
-  after = record { spec = spec; trees = new; pool = now }
+  after = record { spec = spec; trees = new; pool = now; view = view }
 
   -- nodes keep what they are
   abbrev pub KeepsKinds : Type 0

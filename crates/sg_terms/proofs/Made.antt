@@ -67,26 +67,26 @@ leaf_kind p = record { phylum = p; op = None; arity = 0 }
 abbrev pub leaf_part : ℕ → Part
 leaf_part id = record { scheme = 0; elided = false; values = id ∷ [] }
 
-module _ (spec : Spec) (old new : Trees Kind Part) (was now : List Value) (grown : IsGrown was now) (held : IsGrove (grove spec old was)) (keeps : KeepsKids (node_at old) (node_at new)) (trees : AreTrees new) where
+module _ (spec : Spec) (view : ℕ) (old new : Trees Kind Part) (was now : List Value) (grown : IsGrown was now) (held : IsGrove (grove spec view old was)) (keeps : KeepsKids (node_at old) (node_at new)) (trees : AreTrees new) where
   -- a leaf
-  pub IsGrove-leaf : {E : Type 0} (p id : ℕ) (v : Value) (r : Result NodeId E) → Fits spec (Leaf p v) p → StandsFor now id v → IfOk r (IsRootMade (node_at old) (node_at new) (leaf_kind p) (leaf_part id) []) → OnErr r (new.nodes ≡ old.nodes) → IsGrove (grove spec new now)
-  IsGrove-leaf p id v (Err e) fits stands made same = IsGrove-same spec old new was now grown held same
+  pub IsGrove-leaf : {E : Type 0} (p id : ℕ) (v : Value) (r : Result NodeId E) → Fits spec (Leaf p v) p → StandsFor now id v → IfOk r (IsRootMade (node_at old) (node_at new) (leaf_kind p) (leaf_part id) []) → OnErr r (new.nodes ≡ old.nodes) → IsGrove (grove spec view new now)
+  IsGrove-leaf p id v (Err e) fits stands made same = IsGrove-same spec view old new was now grown held same
   IsGrove-leaf p id v (Ok n) fits stands made same =
-      IsGrove-made spec old new was now grown held n (leaf_kind p) (leaf_part id) [] made (λ k c lists. let none : None ≡ Some c = lists in cc none) keeps trees
+      IsGrove-made spec view old new was now grown held n (leaf_kind p) (leaf_part id) [] made (λ k c lists. let none : None ≡ Some c = lists in cc none) keeps trees
       (record { arity = refl; scheme = refl; elided = refl; id = id; value = v; values = refl; stands = stands; held = fits.1 })
 
   -- a node of an operator, with number 0 in each slot
   pub IsGrove-node : {E : Type 0} (op : ℕ) (kind : Kind) (part : Part) (kids : List NodeId) (r : Result NodeId E) → kind.op ≡ Some op → phylum_of spec.ops op ≡ Some kind.phylum → kind.arity ≡ length (args_of spec.ops op)
-      → part.scheme < 16 → length part.values ≡ length (slots_there spec op 0) → All (λ k. k ≡ 0) part.values → AreRootsOf (grove spec old was) (args_of spec.ops op) kids
-      → IfOk r (IsRootMade (node_at old) (node_at new) kind part kids) → OnErr r (new.nodes ≡ old.nodes) → IsGrove (grove spec new now)
-  IsGrove-node op kind part kids (Err e) is phylum arity scheme count zero roots made same = IsGrove-same spec old new was now grown held same
+      → part.scheme < 16 → length part.values ≡ length (slots_there spec op 0) → All (λ k. k ≡ 0) part.values → AreRootsOf (grove spec view old was) (args_of spec.ops op) kids
+      → IfOk r (IsRootMade (node_at old) (node_at new) kind part kids) → OnErr r (new.nodes ≡ old.nodes) → IsGrove (grove spec view new now)
+  IsGrove-node op kind part kids (Err e) is phylum arity scheme count zero roots made same = IsGrove-same spec view old new was now grown held same
   IsGrove-node op kind part kids (Ok n) is phylum arity scheme count zero roots made same =
-      IsGrove-made spec old new was now grown held n kind part kids made live keeps trees
+      IsGrove-made spec view old new was now grown held n kind part kids made live keeps trees
       (subst (λ (w : Option ℕ). MatchOption w (IsLeaf after it) (IsOperation after it)) (sym is)
       (record { phylum = phylum; arity = arity; kids = below; scheme = scheme; values = record { count = count; each = known } }))
     where
       after : Grove
-      after = grove spec new now
+      after = grove spec view new now
 
       it : ForestNode Kind Part
       it = record { label = kind; part = part; up = None; kids = kids }
@@ -97,23 +97,23 @@ module _ (spec : Spec) (old new : Trees Kind Part) (was now : List Value) (grown
       below : (k : ℕ) (c : NodeId) (y : ForestNode Kind Part) → slice_get kids k ≡ Some c → node_at new c ≡ Some y → slice_get (args_of spec.ops op) k ≡ Some y.label.phylum
       below k c y lists then =
           let root = roots k c lists in
-          root.1 ∙ ap (λ (l : Kind). Some l.phylum) (sym (made_kinds spec old new was now grown held n kind part kids made live keeps c root.0.node y root.0.found then))
+          root.1 ∙ ap (λ (l : Kind). Some l.phylum) (sym (made_kinds spec view old new was now grown held n kind part kids made live keeps c root.0.node y root.0.found then))
 
       known : (slot type id : ℕ) → slice_get (slots_there spec op 0) slot ≡ Some type → slice_get part.values slot ≡ Some id → IsTyped spec now type id
       known slot type id has there =
           let none : id ≡ 0 = slice_get-All (λ k. k ≡ 0) part.values slot id zero there in
           record { value = Fault Fuel; stands = subst (λ k. StandsFor now k (Fault Fuel)) (sym none) (Stands-grown was now 0 (Fault Fuel) grown held.unknown); typed = inl (Fuel, refl) }
 
-  pub Holds-leaf : (p id : ℕ) (v : Value) (n : NodeId) → StandsFor now id v → GrowsTree (node_at old) (node_at new) (leaf_kind p) (leaf_part id) [] n → Holds (grove spec new now) n (Leaf p v)
+  pub Holds-leaf : (p id : ℕ) (v : Value) (n : NodeId) → StandsFor now id v → GrowsTree (node_at old) (node_at new) (leaf_kind p) (leaf_part id) [] n → Holds (grove spec view new now) n (Leaf p v)
   Holds-leaf p id v n stands grows = record {
     tree = node (leaf_kind p) (leaf_part id) end;
     stands = grows end refl;
     term = ap (λ w. Leaf p (unwrap_or w untyped)) stands;
   }
 
-  pub Holds-node : (op : ℕ) (kind : Kind) (part : Part) (kids : List NodeId) (n : NodeId) → kind.op ≡ Some op → was ≡ now → GrowsTree (node_at old) (node_at new) kind part kids n → (ts : Terms) → AllHold (grove spec old was) kids ts → Holds (grove spec new now) n (Node op part.scheme part.elided ts)
+  pub Holds-node : (op : ℕ) (kind : Kind) (part : Part) (kids : List NodeId) (n : NodeId) → kind.op ≡ Some op → was ≡ now → GrowsTree (node_at old) (node_at new) kind part kids n → (ts : Terms) → AllHold (grove spec view old was) kids ts → Holds (grove spec view new now) n (Node op part.scheme part.elided ts)
   Holds-node op kind part kids n is pool grows ts all =
-      let row = AllHold-row (grove spec old was) kids ts all in
+      let row = AllHold-row (grove spec view old was) kids ts all in
       record {
         tree = node kind part row.0;
         stands = grows row.0 row.1;
@@ -121,7 +121,7 @@ module _ (spec : Spec) (old new : Trees Kind Part) (was now : List Value) (grown
       }
 
   unknown_there : (op : ℕ) (kind : Kind) (part : Part) (kids : List NodeId) (n : NodeId) → length part.values ≡ length (slots_there spec op 0) → All (λ k. k ≡ 0) part.values → IsRootMade (node_at old) (node_at new) kind part kids n
-      → (slot type : ℕ) → slot_type spec op 0 slot ≡ Some type → number_at (grove spec new now) n slot ≡ Some 0
+      → (slot type : ℕ) → slot_type spec op 0 slot ≡ Some type → number_at (grove spec view new now) n slot ≡ Some 0
   unknown_there op kind part kids n count zero made slot type has =
       let l = slice_get_within (slots_there spec op 0) slot type has in
       let at = slice_get-there part.values slot (omega (arith, l, count)) in
@@ -129,11 +129,11 @@ module _ (spec : Spec) (old new : Trees Kind Part) (was now : List Value) (grown
       ap (option_and_then (λ (y : ForestNode Kind Part). slice_get y.part.values slot)) made.root ∙ at.1 ∙ ap Some none
 
   -- where a call may have been refused
-  pub held_leaf : {E : Type 0} (p id : ℕ) (v : Value) (r : Result NodeId E) → StandsFor now id v → IfOk r (GrowsTree (node_at old) (node_at new) (leaf_kind p) (leaf_part id) []) → IfOk r (λ n. Holds (grove spec new now) n (Leaf p v))
+  pub held_leaf : {E : Type 0} (p id : ℕ) (v : Value) (r : Result NodeId E) → StandsFor now id v → IfOk r (GrowsTree (node_at old) (node_at new) (leaf_kind p) (leaf_part id) []) → IfOk r (λ n. Holds (grove spec view new now) n (Leaf p v))
   held_leaf p id v (Ok n) stands grows = Holds-leaf p id v n stands grows
   held_leaf p id v (Err e) stands grows = tt
 
-  pub held_node : {E : Type 0} (op : ℕ) (kind : Kind) (part : Part) (kids : List NodeId) (r : Result NodeId E) → kind.op ≡ Some op → was ≡ now → IfOk r (GrowsTree (node_at old) (node_at new) kind part kids) → IfOk r (λ n. (ts : Terms) → AllHold (grove spec old was) kids ts → Holds (grove spec new now) n (Node op part.scheme part.elided ts))
+  pub held_node : {E : Type 0} (op : ℕ) (kind : Kind) (part : Part) (kids : List NodeId) (r : Result NodeId E) → kind.op ≡ Some op → was ≡ now → IfOk r (GrowsTree (node_at old) (node_at new) kind part kids) → IfOk r (λ n. (ts : Terms) → AllHold (grove spec view old was) kids ts → Holds (grove spec view new now) n (Node op part.scheme part.elided ts))
   held_node op kind part kids (Ok n) is pool grows = λ ts all. Holds-node op kind part kids n is pool grows ts all
   held_node op kind part kids (Err e) is pool grows = tt
 
@@ -142,6 +142,6 @@ module _ (spec : Spec) (old new : Trees Kind Part) (was now : List Value) (grown
   was_free kind part kids (Err e) made = tt
 
   pub unknown_node : {E : Type 0} (op : ℕ) (kind : Kind) (part : Part) (kids : List NodeId) (r : Result NodeId E) → length part.values ≡ length (slots_there spec op 0) → All (λ k. k ≡ 0) part.values → IfOk r (IsRootMade (node_at old) (node_at new) kind part kids)
-      → IfOk r (λ n. (slot type : ℕ) → slot_type spec op 0 slot ≡ Some type → number_at (grove spec new now) n slot ≡ Some 0)
+      → IfOk r (λ n. (slot type : ℕ) → slot_type spec op 0 slot ≡ Some type → number_at (grove spec view new now) n slot ≡ Some 0)
   unknown_node op kind part kids (Ok n) count zero made = λ slot type has. unknown_there op kind part kids n count zero made slot type has
   unknown_node op kind part kids (Err e) count zero made = tt

@@ -37,9 +37,10 @@ module _ (old new : Trees Kind Part) (same : new.nodes ≡ old.nodes) where
   pub KeepsShape-nodes : KeepsShape (node_at old) (node_at new)
   KeepsShape-nodes = subst (λ ns. KeepsShape (node_at old) (λ n. finmap.get ns n.key)) (sym same) (KeepsShape-same (node_at old))
 
-  pub OnlyStored-none : (spec : Spec) (was now : List Value) → IsGrown was now → OnlyStored (record { spec = spec; trees = old; pool = was }) (record { spec = spec; trees = new; pool = now }) IsNoSlot
-  OnlyStored-none spec was now grown = record {
+  pub OnlyStored-none : (spec : Spec) (view : ℕ) (was now : List Value) → IsGrown was now → OnlyStored (record { spec = spec; trees = old; pool = was; view = view }) (record { spec = spec; trees = new; pool = now; view = view }) IsNoSlot
+  OnlyStored-none spec view was now grown = record {
     spec = refl;
+    view = refl;
     pool = grown;
     shape = KeepsShape-nodes;
     room = room_below-same;

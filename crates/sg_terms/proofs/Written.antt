@@ -46,7 +46,7 @@ pub slot_within : (g : Grove) (held : IsGrove g) (n : NodeId) (slot id : ℕ) (s
 slot_within g held n slot id s x found =
     let y = op_node g n s.op s.is in
     let same : y.0 ≡ x = cc (y.1, found) in
-    let o = operation_at g.spec g.trees g.trees g.pool g.pool (grown_itself g.pool) held n x s.op found (ap (λ (z : ForestNode Kind Part). z.label.op) (sym same) ∙ y.2) in
+    let o = operation_at g.spec g.view g.trees g.trees g.pool g.pool (grown_itself g.pool) held n x s.op found (ap (λ (z : ForestNode Kind Part). z.label.op) (sym same) ∙ y.2) in
     let l = slice_get_within (slots_there g.spec s.op 0) slot s.type s.has_type in
     let c = o.values.count in
     omega arith
@@ -64,7 +64,7 @@ storable_again g held n slot id op number is =
     let x = number_node g n slot id number in
     let y = op_node g n op is in
     let same : y.0 ≡ x.0 = cc (y.1, x.1) in
-    let o = operation_at g.spec g.trees g.trees g.pool g.pool (grown_itself g.pool) held n x.0 op x.1 (ap (λ (z : ForestNode Kind Part). z.label.op) (sym same) ∙ y.2) in
+    let o = operation_at g.spec g.view g.trees g.trees g.pool g.pool (grown_itself g.pool) held n x.0 op x.1 (ap (λ (z : ForestNode Kind Part). z.label.op) (sym same) ∙ y.2) in
     let l = slice_get_within x.0.part.values slot id x.2 in
     let c = o.values.count in
     let at = slice_get-there (slots_there g.spec op 0) slot (omega arith) in
@@ -78,18 +78,18 @@ op_there g n live inner = by live.node.label.op refl
     by None e = absurd (inner live.node live.found e)
     by (Some op) e = (live.node, live.found, op, e)
 
-module _ (spec : Spec) (old new : Trees Kind Part) (pool : List Value) (held : IsGrove (grove spec old pool)) (n : NodeId) (x : ForestNode Kind Part) (found : node_at old n ≡ Some x) where
+module _ (spec : Spec) (view : ℕ) (old new : Trees Kind Part) (pool : List Value) (held : IsGrove (grove spec view old pool)) (n : NodeId) (x : ForestNode Kind Part) (found : node_at old n ≡ Some x) where
   -- another number in a slot
-  module _ (slot id : ℕ) (s : IsStorable (grove spec old pool) n slot id) (set_to : IsPartSet (node_at old) (node_at new) n (record x.part { values = set x.part.values slot id })) where
+  module _ (slot id : ℕ) (s : IsStorable (grove spec view old pool) n slot id) (set_to : IsPartSet (node_at old) (node_at new) n (record x.part { values = set x.part.values slot id })) where
     is_op : x.label.op ≡ Some s.op
-    is_op = let y = op_node (grove spec old pool) n s.op s.is in let same : y.0 ≡ x = cc (y.1, found) in ap (λ (z : ForestNode Kind Part). z.label.op) (sym same) ∙ y.2
+    is_op = let y = op_node (grove spec view old pool) n s.op s.is in let same : y.0 ≡ x = cc (y.1, found) in ap (λ (z : ForestNode Kind Part). z.label.op) (sym same) ∙ y.2
 
     within : slot < length x.part.values
-    within = slot_within (grove spec old pool) held n slot id s x found
+    within = slot_within (grove spec view old pool) held n slot id s x found
 
-    fits : PartFits spec old new pool pool s.op (record x.part { values = set x.part.values slot id })
+    fits : PartFits spec view old new pool pool s.op (record x.part { values = set x.part.values slot id })
     fits =
-        let had = part_after spec old new pool pool (grown_itself pool) held n x s.op found is_op in
+        let had = part_after spec view old new pool pool (grown_itself pool) held n x s.op found is_op in
         record {
           scheme = had.scheme;
           values = record {
@@ -108,15 +108,16 @@ module _ (spec : Spec) (old new : Trees Kind Part) (pool : List Value) (held : I
             subst (λ p. IsTyped spec pool p number) same_type (subst (IsTyped spec pool s.type) same_id s.typed)
         by had other type number has there (inr differs) = had.each other type number has (sym (slice_get-set_other x.part.values slot other id differs) ∙ there)
 
-    pub IsGrove-stored : IsGrove (grove spec new pool)
-    IsGrove-stored = IsGrove-part spec old new pool pool (grown_itself pool) held n x s.op (record x.part { values = set x.part.values slot id }) found is_op fits set_to
+    pub IsGrove-stored : IsGrove (grove spec view new pool)
+    IsGrove-stored = IsGrove-part spec view old new pool pool (grown_itself pool) held n x s.op (record x.part { values = set x.part.values slot id }) found is_op fits set_to
 
-    pub stored_there : number_at (grove spec new pool) n slot ≡ Some id
+    pub stored_there : number_at (grove spec view new pool) n slot ≡ Some id
     stored_there = ap (option_and_then (λ (y : ForestNode Kind Part). slice_get y.part.values slot)) (set_to.changed x found) ∙ slice_get-set_same x.part.values slot id within
 
-    pub OnlyStored-slot : ((m : NodeId) → room_below new m ≡ room_below old m) → OnlyStored (grove spec old pool) (grove spec new pool) (IsSlot n slot)
+    pub OnlyStored-slot : ((m : NodeId) → room_below new m ≡ room_below old m) → OnlyStored (grove spec view old pool) (grove spec view new pool) (IsSlot n slot)
     OnlyStored-slot room = record {
       spec = refl;
+      view = refl;
       pool = grown_itself pool;
       shape = KeepsShape-part_set (node_at old) (node_at new) n (record x.part { values = set x.part.values slot id }) (record { node = x; found = found }) set_to;
       room = room;
@@ -146,28 +147,28 @@ module _ (spec : Spec) (old new : Trees Kind Part) (pool : List Value) (held : I
 
   -- other marks
   module _ (op : ℕ) (is : x.label.op ≡ Some op) (part : Part) (values : part.values ≡ x.part.values) (set_to : IsPartSet (node_at old) (node_at new) n part) where
-    pub IsGrove-marked : part.scheme < 16 → IsGrove (grove spec new pool)
+    pub IsGrove-marked : part.scheme < 16 → IsGrove (grove spec view new pool)
     IsGrove-marked small =
-        let had = part_after spec old new pool pool (grown_itself pool) held n x op found is in
-        IsGrove-part spec old new pool pool (grown_itself pool) held n x op part found is
+        let had = part_after spec view old new pool pool (grown_itself pool) held n x op found is in
+        IsGrove-part spec view old new pool pool (grown_itself pool) held n x op part found is
         (record { scheme = small; values = subst (AreTyped spec pool (slots_there spec op 0)) (sym values) had.values }) set_to
 
-    pub numbers_marked : (m : NodeId) (slot : ℕ) → number_at (grove spec new pool) m slot ≡ number_at (grove spec old pool) m slot
+    pub numbers_marked : (m : NodeId) (slot : ℕ) → number_at (grove spec view new pool) m slot ≡ number_at (grove spec view old pool) m slot
     numbers_marked m slot =
         elim (cases_id m n) [
           | inl e ↦
-              ap (λ k. number_at (grove spec new pool) k slot) e ∙ ap (option_and_then (λ (y : ForestNode Kind Part). slice_get y.part.values slot)) (set_to.changed x found) ∙ ap (λ vs. slice_get vs slot) values
-              ∙ ap (option_and_then (λ (y : ForestNode Kind Part). slice_get y.part.values slot)) (sym found) ∙ ap (λ k. number_at (grove spec old pool) k slot) (sym e)
+              ap (λ k. number_at (grove spec view new pool) k slot) e ∙ ap (option_and_then (λ (y : ForestNode Kind Part). slice_get y.part.values slot)) (set_to.changed x found) ∙ ap (λ vs. slice_get vs slot) values
+              ∙ ap (option_and_then (λ (y : ForestNode Kind Part). slice_get y.part.values slot)) (sym found) ∙ ap (λ k. number_at (grove spec view old pool) k slot) (sym e)
           | inr other ↦ ap (option_and_then (λ (y : ForestNode Kind Part). slice_get y.part.values slot)) (set_to.others m other)
         ]
 
     -- each term over the node has the node with these marks in its place
-    pub Holds-marked : (u : Place) (m : NodeId) (t s : Term) → Climbs (node_at old) u n m → Holds (grove spec old pool) m t → sub t u ≡ Some s → (ts : Terms) × (s ≡ Node op x.part.scheme x.part.elided ts) × Holds (grove spec new pool) m (put t u (Node op part.scheme part.elided ts))
+    pub Holds-marked : (u : Place) (m : NodeId) (t s : Term) → Climbs (node_at old) u n m → Holds (grove spec view old pool) m t → sub t u ≡ Some s → (ts : Terms) × (s ≡ Node op x.part.scheme x.part.elided ts) × Holds (grove spec view new pool) m (put t u (Node op part.scheme part.elided ts))
     Holds-marked u m t s climbs h at =
-        let below = place_held (grove spec old pool) held u n m h.tree climbs h.stands in
+        let below = place_held (grove spec view old pool) held u n m h.tree climbs h.stands in
         let here : sub (term_of pool h.tree) u ≡ Some s = ap (λ z. sub z u) h.term ∙ at in
         let same : term_of pool below.0 ≡ s = let two = below.2 in cc (two, here) in
-        let over = Holds-over (grove spec old pool) n s x (record { tree = below.0; stands = below.1; term = same }) found in
+        let over = Holds-over (grove spec view old pool) n s x (record { tree = below.0; stands = below.1; term = same }) found in
         let whole : s ≡ Node op x.part.scheme x.part.elided over.0 = over.1 ∙ over_op pool x.label x.part over.0 op is in (
           over.0,
           whole,

@@ -25,6 +25,7 @@ module _ (old new : Grove) where
   -- nodes were added over roots at most: each node is and keeps what it did, and has the same below it
   pub record IsAdded : Type 0 where
     pub spec : new.spec ≡ old.spec
+    pub view : new.view ≡ old.view
     pub pool : IsGrown old.pool new.pool
     pub kids : KeepsKids (nodes old) (nodes new)
     pub ways : KeepsWays (nodes old) (nodes new)

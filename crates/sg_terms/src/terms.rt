@@ -63,11 +63,13 @@ pub struct Terms {
     made: MadeTerms,
     // the numbers of an equation's arguments, while it is evaluated
     args: Vec<ValueId>,
+    // the view in which the terms are shown, 0 for the ordinary one
+    view: u32,
 }
 
 impl Model for Terms {
-    ghost use Rattle.std.specs.Prelude.{List, refl};
-    ghost use Rattle.std.specs.Coded.{code_by, coded×, coded_list};
+    ghost use Rattle.std.specs.Prelude.{ℕ, List, refl};
+    ghost use Rattle.std.specs.Coded.{code_by, coded×, coded_list, coded_ℕ};
     ghost use Rattle.sg_kinds.specs.Values.{Value as IsValue};
     ghost use Rattle.sg_kinds.specs.ValueCode.{value_code};
     ghost use Rattle.sg_kinds.specs.declared.spec.Spec.{Spec};
@@ -83,16 +85,16 @@ impl Model for Terms {
     ghost Value = { Grove };
 
     ghost coded = { code_by
-        (Spec × (Trees Kind Part × List IsValue))
+        (Spec × (Trees Kind Part × (List IsValue × ℕ)))
         (coded× the_spec.the_row.coded (coded× (trees_code the_kind.the_row.coded the_part.the_row.coded)
-        (coded_list value_code)))
-        (λ g. (g.spec, (g.trees, g.pool)))
-        (λ p. record { spec = p.0; trees = p.1.0; pool = p.1.1 })
+        (coded× (coded_list value_code) coded_ℕ)))
+        (λ g. (g.spec, (g.trees, (g.pool, g.view))))
+        (λ p. record { spec = p.0; trees = p.1.0; pool = p.1.1.0; view = p.1.1.1 })
         (λ _. refl) };
 
-    ghost view = { λ t. record { spec = t.spec; trees = t.trees; pool = t.pool } };
+    ghost view = { λ t. record { spec = t.spec; trees = t.trees; pool = t.pool; view = t.view } };
 
-    ghost invariant = { λ t. IsGrove (record { spec = t.spec; trees = t.trees; pool = t.pool })
+    ghost invariant = { λ t. IsGrove (record { spec = t.spec; trees = t.trees; pool = t.pool; view = t.view })
         × AreMade t.spec t.made t.pool };
 }
 
@@ -103,6 +105,7 @@ impl Terms {
         ensures spec { IfOk result (λ t. t.spec ≡ spec.now) }
         ensures empty { IfOk result (λ t. (n : _) → nodes t n ≡ None) }
         ensures pool { IfOk result (λ t. t.pool ≡ Fault Fuel ∷ []) }
+        ensures view { IfOk result (λ t. t.view ≡ 0) }
     {
         let mut pool = Pool::new(alloc)?;
         let _unknown = pool.put_fault(FaultKind::Fuel)?;
@@ -113,6 +116,7 @@ impl Terms {
             pool,
             made: MadeTerms::new(alloc, spec)?,
             args: Vec::with_capacity(alloc, widest(spec))?,
+            view: 0,
         })
     }
 
@@ -128,6 +132,20 @@ impl Terms {
         ensures { result.now ≡ self.now.spec }
     {
         &self.spec
+    }
+
+    /// The view in which the terms are shown, counted from 1; 0 is the ordinary one.
+    pub fn view(&self) -> u32
+        ensures { result ≡ self.now.view }
+    {
+        self.view
+    }
+
+    /// Shows the terms in another view; a number without a view shows the ordinary one. Nothing else changes.
+    pub fn set_view(&mut self, v: u32)
+        ensures { self.new ≡ record self.old { view = v } }
+    {
+        self.view = v;
     }
 
     /// The pool of the stored values.
@@ -286,6 +304,7 @@ impl Terms {
         ensures numbers { (m : _) (slot : ℕ) → number_at self.new m slot ≡ number_at self.old m slot }
         ensures room { (m : _) → room_below self.new.trees m ≡ room_below self.old.trees m }
         ensures spec { self.new.spec ≡ self.old.spec }
+        ensures view { self.new.view ≡ self.old.view }
         ensures pool { self.new.pool ≡ self.old.pool }
     {
         put_scheme(self.alloc, &mut self.trees, n, k);
@@ -302,6 +321,7 @@ impl Terms {
         ensures numbers { (m : _) (slot : ℕ) → number_at self.new m slot ≡ number_at self.old m slot }
         ensures room { (m : _) → room_below self.new.trees m ≡ room_below self.old.trees m }
         ensures spec { self.new.spec ≡ self.old.spec }
+        ensures view { self.new.view ≡ self.old.view }
         ensures pool { self.new.pool ≡ self.old.pool }
     {
         put_elided(self.alloc, &mut self.trees, n, on);
@@ -318,6 +338,7 @@ impl Terms {
             → IsSwapped (nodes self.old) (nodes self.new) at detached p k }
         ensures unchanged { IsRoot (nodes self.old) at → self.new ≡ self.old }
         ensures spec { self.new.spec ≡ self.old.spec }
+        ensures view { self.new.view ≡ self.old.view }
         ensures pool { self.new.pool ≡ self.old.pool }
 
         // Each node keeps what it is and its values, and each term over `at` has the other term in its place.
@@ -347,6 +368,7 @@ impl Terms {
         ensures roots { (n : _) → IsRoot (nodes self.new) n ↔ IsRoot (nodes self.old) n × (n ≢ root) }
         ensures ways { KeepsWaysOutside (nodes self.old) (nodes self.new) root }
         ensures spec { self.new.spec ≡ self.old.spec }
+        ensures view { self.new.view ≡ self.old.view }
         ensures pool { self.new.pool ≡ self.old.pool }
     {
         self.trees.drop_tree(root);

@@ -59,6 +59,7 @@ IsAnySlot n slot = ⊤
 -- the tree under a node and that of a root change places, where the node is no root itself
 pub record IsExchanged (before after : Grove) (at detached : NodeId) : Type 0 where
   pub spec : after.spec ≡ before.spec
+  pub view : after.view ≡ before.view
   pub pool : after.pool ≡ before.pool
   pub live : IsLive (nodes before) at
   pub root : IsRoot (nodes before) detached

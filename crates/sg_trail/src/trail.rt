@@ -75,6 +75,7 @@ impl Trail {
         ensures nodes { (before : Grove) → LeadsBack before terms.old self
             → (n : _) → nodes terms.new n ≡ nodes before n }
         ensures spec { terms.new.spec ≡ terms.old.spec }
+        ensures view { terms.new.view ≡ terms.old.view }
         ensures pool { terms.new.pool ≡ terms.old.pool }
         ensures grown { (before : Grove) → LeadsBack before terms.old self → IsGrown before.pool terms.new.pool }
     {

@@ -16,7 +16,7 @@ use Rattle.sg_kinds.specs.declared.spec.Occurrence.{Occurrence}
 use Rattle.sg_kinds.specs.declared.marks.ChildPlace.{ChildPlace}
 use Rattle.sg_kinds.specs.declared.marks.ChildPlace.TheVariants.{Resting, Passed, Hidden}
 use Rattle.sg_forest.specs.declared.node_id.NodeId.{NodeId}
-use Rattle.sg_groves.specs.Grove.{Grove}
+use Rattle.sg_groves.specs.Grove.{Grove, spec_shown}
 use Rattle.sg_terms.specs.Told.{elided_of}
 use Rattle.sg_unparse.specs.Shown.{scheme_of}
 use Rattle.sg_unparse.specs.Along.{node_along, stored, is_captured, typed_in, items_in, shows_in, kids_in, own_in, content_in, unparsed_in}
@@ -41,10 +41,10 @@ module _ (g : Grove) (root : NodeId) (captured : Option NodeId) (text : Bytes) w
   typed_is : (u : Place) (n : NodeId) (b : Bool) → node_along g root u ≡ n → is_captured captured n ≡ b → typed_in g root captured text u ≡ (if b then Some text else None)
   typed_is u n b along is = ap (λ m. if is_captured captured m then Some text else None) along ∙ ap (λ t. if t then Some text else None) is
 
-  content_is : (u : Place) (t : Term) (o : Option Bytes) (elided : Bool) → typed_in g root captured text u ≡ o → elided_of t ≡ elided → (m : ℕ) → content g.spec (stored g root) (typed_in g root captured text) u o elided (own_in g root captured text u t) m ≡ content_in g root captured text u t m
+  content_is : (u : Place) (t : Term) (o : Option Bytes) (elided : Bool) → typed_in g root captured text u ≡ o → elided_of t ≡ elided → (m : ℕ) → content (spec_shown g) (stored g root) (typed_in g root captured text) u o elided (own_in g root captured text u t) m ≡ content_in g root captured text u t m
   content_is u t o elided e f m =
-      ap (λ x. content g.spec (stored g root) (typed_in g root captured text) u x elided (own_in g root captured text u t) m) (sym e)
-      ∙ ap (λ x. content g.spec (stored g root) (typed_in g root captured text) u (typed_in g root captured text u) x (own_in g root captured text u t) m) (sym f)
+      ap (λ x. content (spec_shown g) (stored g root) (typed_in g root captured text) u x elided (own_in g root captured text u t) m) (sym e)
+      ∙ ap (λ x. content (spec_shown g) (stored g root) (typed_in g root captured text) u (typed_in g root captured text u) x (own_in g root captured text u t) m) (sym f)
 
   pub content_typed : (old new : Writer) (u : Place) (n : NodeId) (t : Term) → node_along g root u ≡ n → is_captured captured n ≡ true → Wrote (node_along g root) old new (plain u text) → Wrote (node_along g root) old new (content_in g root captured text u t)
   content_typed old new u n t along is w = wrote_as (node_along g root) old new (plain u text) (content_in g root captured text u t) (content_is u t (Some text) (elided_of t) (typed_is u n true along is) refl) w
@@ -56,24 +56,24 @@ module _ (g : Grove) (root : NodeId) (captured : Option NodeId) (text : Bytes) w
   content_own old new u n t along is e w = wrote_as (node_along g root) old new (own_in g root captured text u t) (content_in g root captured text u t) (content_is u t None false (typed_is u n false along is) e) w
 
   -- the children that are still to come
-  among_drop : (u : Place) (j k : ℕ) (ts : Terms) (s : Term) → slice_get (terms_of ts) k ≡ Some s → drop k (unparsed_among g.spec (stored g root) (typed_in g root captured text) u j ts) ≡ unparsed_in g root captured text ((j + k) ∷ u) s ∷ drop (k + 1) (unparsed_among g.spec (stored g root) (typed_in g root captured text) u j ts)
+  among_drop : (u : Place) (j k : ℕ) (ts : Terms) (s : Term) → slice_get (terms_of ts) k ≡ Some s → drop k (unparsed_among (spec_shown g) (stored g root) (typed_in g root captured text) u j ts) ≡ unparsed_in g root captured text ((j + k) ∷ u) s ∷ drop (k + 1) (unparsed_among (spec_shown g) (stored g root) (typed_in g root captured text) u j ts)
   among_drop u j k NoTerm s e = absurd (let IsNone : Option Term → Type 0 = λ o. elim o [ None ↦ Unit {0} | Some y ↦ ⊥ ] in subst IsNone e tt)
   among_drop u j zero (AndTerm t ts) s e =
       let same : t ≡ s = ap (λ o. unwrap_or o s) e in
       let here : j ≡ j + 0 = omega arith in
-      ap (λ x. unparsed_in g root captured text (j ∷ u) x ∷ unparsed_among g.spec (stored g root) (typed_in g root captured text) u (suc j) ts) same
-      ∙ ap (λ i. unparsed_in g root captured text (i ∷ u) s ∷ unparsed_among g.spec (stored g root) (typed_in g root captured text) u (suc j) ts) here
+      ap (λ x. unparsed_in g root captured text (j ∷ u) x ∷ unparsed_among (spec_shown g) (stored g root) (typed_in g root captured text) u (suc j) ts) same
+      ∙ ap (λ i. unparsed_in g root captured text (i ∷ u) s ∷ unparsed_among (spec_shown g) (stored g root) (typed_in g root captured text) u (suc j) ts) here
   among_drop u j (suc k) (AndTerm t ts) s e =
       let here : suc j + k ≡ j + suc k = omega arith in
       let next : suc (k + 1) ≡ suc k + 1 = omega arith in
       among_drop u (suc j) k ts s e
-      ∙ ap (λ i. unparsed_in g root captured text (i ∷ u) s ∷ drop (k + 1) (unparsed_among g.spec (stored g root) (typed_in g root captured text) u (suc j) ts)) here
-      ∙ ap (λ i. unparsed_in g root captured text ((j + suc k) ∷ u) s ∷ drop i (unparsed_among g.spec (stored g root) (typed_in g root captured text) u j (AndTerm t ts))) next
+      ∙ ap (λ i. unparsed_in g root captured text (i ∷ u) s ∷ drop (k + 1) (unparsed_among (spec_shown g) (stored g root) (typed_in g root captured text) u (suc j) ts)) here
+      ∙ ap (λ i. unparsed_in g root captured text ((j + suc k) ∷ u) s ∷ drop i (unparsed_among (spec_shown g) (stored g root) (typed_in g root captured text) u j (AndTerm t ts))) next
 
   kids_drop : (u : Place) (k : ℕ) (ts : Terms) (s : Term) → slice_get (terms_of ts) k ≡ Some s → drop k (kids_in g root captured text u ts) ≡ unparsed_in g root captured text (k ∷ u) s ∷ drop (k + 1) (kids_in g root captured text u ts)
   kids_drop u k ts s e = (let here : 0 + k ≡ k = omega arith in among_drop u 0 k ts s e ∙ ap (λ i. unparsed_in g root captured text (i ∷ u) s ∷ drop (k + 1) (kids_in g root captured text u ts)) here)
 
-  among_past : (u : Place) (j k : ℕ) (ts : Terms) → length (terms_of ts) ≤ k → drop k (unparsed_among g.spec (stored g root) (typed_in g root captured text) u j ts) ≡ []
+  among_past : (u : Place) (j k : ℕ) (ts : Terms) → length (terms_of ts) ≤ k → drop k (unparsed_among (spec_shown g) (stored g root) (typed_in g root captured text) u j ts) ≡ []
   among_past u j zero NoTerm h = refl
   among_past u j (suc k) NoTerm h = refl
   among_past u j zero (AndTerm t ts) h = absurd (omega (arith, h))
@@ -163,16 +163,16 @@ module _ (g : Grove) (root : NodeId) (captured : Option NodeId) (text : Bytes) (
 
 module _ (g : Grove) (root : NodeId) (captured : Option NodeId) (text : Bytes) where
   -- the items of a node's scheme, and what they write
-  pub found_items : (op k : ℕ) (s : Scheme) → scheme_of g.spec op k ≡ Some s → s.items ≡ items_of g.spec op k
+  pub found_items : (op k : ℕ) (s : Scheme) → scheme_of (spec_shown g) op k ≡ Some s → s.items ≡ items_of (spec_shown g) op k
   found_items op k s e = sym (ap (λ (o : Option Scheme). unwrap_or (option_map (λ (x : Scheme). x.items) o) []) e)
 
-  pub none_items : (op k : ℕ) → scheme_of g.spec op k ≡ None → [] ≡ items_of g.spec op k
+  pub none_items : (op k : ℕ) → scheme_of (spec_shown g) op k ≡ None → [] ≡ items_of (spec_shown g) op k
   none_items op k e = sym (ap (λ (o : Option Scheme). unwrap_or (option_map (λ (x : Scheme). x.items) o) []) e)
 
-  pub scheme_written : (old new : Writer) (u : Place) (t : Term) (op k : ℕ) (elided : Bool) (ts : Terms) (is : List Item) → t ≡ Node op k elided ts → is ≡ items_of g.spec op k → Wrote (node_along g root) old new (items_in g root captured text u op (goes_on ts) is (kids_in g root captured text u ts)) → Wrote (node_along g root) old new (own_in g root captured text u t)
+  pub scheme_written : (old new : Writer) (u : Place) (t : Term) (op k : ℕ) (elided : Bool) (ts : Terms) (is : List Item) → t ≡ Node op k elided ts → is ≡ items_of (spec_shown g) op k → Wrote (node_along g root) old new (items_in g root captured text u op (goes_on ts) is (kids_in g root captured text u ts)) → Wrote (node_along g root) old new (own_in g root captured text u t)
   scheme_written old new u t op k elided ts is e i w =
       subst (λ x. Wrote (node_along g root) old new (own_in g root captured text u x)) (sym e)
       (subst (λ l. Wrote (node_along g root) old new (items_in g root captured text u op (goes_on ts) l (kids_in g root captured text u ts))) i w)
 
-  pub nothing_written : (w : Writer) (u : Place) (t : Term) (op k : ℕ) (elided : Bool) (ts : Terms) → t ≡ Node op k elided ts → scheme_of g.spec op k ≡ None → Wrote (node_along g root) w w (own_in g root captured text u t)
+  pub nothing_written : (w : Writer) (u : Place) (t : Term) (op k : ℕ) (elided : Bool) (ts : Terms) → t ≡ Node op k elided ts → scheme_of (spec_shown g) op k ≡ None → Wrote (node_along g root) w w (own_in g root captured text u t)
   nothing_written w u t op k elided ts e none = scheme_written w w u t op k elided ts [] e (none_items op k none) (wrote_nothing (node_along g root) w)

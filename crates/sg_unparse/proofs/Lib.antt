@@ -17,6 +17,7 @@ pub mod Spans
 pub mod Streams
 pub mod Told
 pub mod TypedText
+pub mod Viewed
 pub mod Widths
 pub mod Worked
 pub mod Writing

@@ -16,12 +16,13 @@ use Rattle.sg_kinds.specs.declared.spec.Operator.{Operator}
 use Rattle.sg_kinds.specs.declared.spec.Scheme.{Scheme}
 use Rattle.sg_kinds.proofs.Elementary.{slice_get-All}
 use Rattle.sg_pool.specs.Pools.{value_at}
+use Rattle.sg_kinds.proofs.InView.{item_of_view, schemes_in_views}
 use Rattle.sg_forest.specs.declared.node_id.NodeId.{NodeId}
 use Rattle.sg_forest.specs.Node.{Node as ForestNode}
 use Rattle.sg_forest.specs.Trees.{IsLive, IsChild, Climbs}
 use Rattle.sg_groves.specs.declared.kind.Kind.{Kind}
 use Rattle.sg_groves.specs.declared.part.Part.{Part}
-use Rattle.sg_groves.specs.Grove.{Grove, nodes, IsGrove, IsLeaf, IsOperation}
+use Rattle.sg_groves.specs.Grove.{Grove, nodes, IsGrove, IsLeaf, IsOperation, spec_shown}
 use Rattle.sg_groves.specs.Holds.{Holds}
 use Rattle.sg_groves.specs.Stored.{number_at, value_there}
 use Rattle.sg_groves.proofs.Held.{held_fits}
@@ -155,12 +156,12 @@ module _ (g : Grove) where
       ap is_some (ap (λ (s : Option (ForestNode Kind Part)). option_and_then (λ y. slice_get y.part.values 0) s) live.found ∙ ap (λ vs. slice_get vs 0) l.values)
 
   -- the items of a scheme of an operator are sound
-  pub items_sound : IsGrove g → (op n : ℕ) (s : Scheme) → scheme_of g.spec op n ≡ Some s → All (IsItem g.spec op) s.items
-  items_sound held op n s is = by (slice_get g.spec.ops op) refl is
+  pub items_sound : IsGrove g → (op n : ℕ) (s : Scheme) → scheme_of (spec_shown g) op n ≡ Some s → All (IsItem g.spec op) s.items
+  items_sound held op n s is = λ k d low. item_of_view g.spec g.view op _ (by (slice_get (spec_shown g).ops op) refl is k d low)
     where
-      by : (w : Option Operator) → slice_get g.spec.ops op ≡ w → option_and_then (λ (o : Operator). slice_get o.schemes (n % length o.schemes)) w ≡ Some s → All (IsItem g.spec op) s.items
+      by : (w : Option Operator) → slice_get (spec_shown g).ops op ≡ w → option_and_then (λ (o : Operator). slice_get o.schemes (n % length o.schemes)) w ≡ Some s → All (IsItem (spec_shown g) op) s.items
       by None e is = absurd (let IsNone : Option Scheme → Type 0 = λ o. elim o [ None ↦ Unit {0} | Some y ↦ ⊥ ] in subst IsNone is tt)
-      by (Some o) e is = (slice_get-All (IsScheme g.spec op) o.schemes (n % length o.schemes) s (held.sound.schemes.schemes op o e) is).shown
+      by (Some o) e is = (slice_get-All (IsScheme (spec_shown g) op) o.schemes (n % length o.schemes) s ((schemes_in_views g.spec g.view held.sound.schemes).schemes op o e) is).shown
 
   -- the operator of a node is there
   pub op_within : IsGrove g → (n : NodeId) (op : ℕ) → op_at g n ≡ Some op → op < length g.spec.ops

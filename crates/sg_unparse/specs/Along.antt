@@ -7,7 +7,7 @@ use Rattle.sg_kinds.specs.Nets.{Reference}
 use Rattle.sg_kinds.specs.declared.spec.Item.{Item}
 use Rattle.sg_kinds.specs.declared.spec.Occurrence.{Occurrence}
 use Rattle.sg_forest.specs.declared.node_id.NodeId.{NodeId}
-use Rattle.sg_groves.specs.Grove.{Grove, nodes}
+use Rattle.sg_groves.specs.Grove.{Grove, nodes, spec_shown}
 use Rattle.sg_groves.specs.Holds.{Holds}
 use Rattle.sg_groves.specs.Stored.{value_there}
 use Rattle.sg_terms.specs.Told.{elided_of}
@@ -45,21 +45,21 @@ module _ (g : Grove) (root : NodeId) where
   module _ (captured : Option NodeId) (text : Bytes) where
     -- what is written for a node, without its end and with it
     abbrev pub items_in : Place → ℕ → Bool → List Item → List Writing → Writing
-    items_in u op more is kids = items g.spec stored (typed_in captured text) u op more is kids
+    items_in u op more is kids = items (spec_shown g) stored (typed_in captured text) u op more is kids
 
     abbrev pub shows_in : Place → ℕ → Occurrence → Writing
-    shows_in u op o = shows g.spec stored (typed_in captured text) u op o
+    shows_in u op o = shows (spec_shown g) stored (typed_in captured text) u op o
 
     abbrev pub kids_in : Place → Terms → List Writing
-    kids_in u ts = unparsed_among g.spec stored (typed_in captured text) u 0 ts
+    kids_in u ts = unparsed_among (spec_shown g) stored (typed_in captured text) u 0 ts
 
     abbrev pub own_in : Place → Term → Writing
-    own_in u (Leaf p v) = plain u (value_text g.spec p v)
-    own_in u (Node op n elided ts) = items_in u op (goes_on ts) (items_of g.spec op n) (kids_in u ts)
+    own_in u (Leaf p v) = plain u (value_text (spec_shown g) p v)
+    own_in u (Node op n elided ts) = items_in u op (goes_on ts) (items_of (spec_shown g) op n) (kids_in u ts)
 
     abbrev pub content_in : Place → Term → Writing
     content_in u t =
-        content g.spec stored (typed_in captured text) u (typed_in captured text u) (elided_of t) (own_in u t)
+        content (spec_shown g) stored (typed_in captured text) u (typed_in captured text u) (elided_of t) (own_in u t)
 
     abbrev pub unparsed_in : Place → Term → Writing
-    unparsed_in u t = unparsed g.spec stored (typed_in captured text) u t
+    unparsed_in u t = unparsed (spec_shown g) stored (typed_in captured text) u t

@@ -1,5 +1,5 @@
 -- Values as they are shown, and the scheme in which a node is shown.
-use Rattle.std.specs.Prelude.{ℕ, ◌%◌, true, false, if◌then◌else◌, [], ◌∷◌, ◌++◌, length, codes, slice_get, Option, None, option_map, option_and_then, unwrap_or}
+use Rattle.std.specs.Prelude.{ℕ, ◌%◌, List, true, false, if◌then◌else◌, [], ◌∷◌, ◌++◌, length, codes, slice_get, Option, None, option_map, option_and_then, unwrap_or}
 use Rattle.std.specs.Fmt.{signed_decimal}
 use Rattle.sg_kinds.specs.Values.{Bytes, Value, Truth, Number, Chars, Tree, Fault}
 use Rattle.sg_kinds.specs.Terms.{Term, Leaf, Node}
@@ -34,6 +34,10 @@ value_text spec p (Number z) = signed_decimal z
 value_text spec p (Chars s) = text_shown spec p s
 value_text spec p (Tree op vs) = []
 value_text spec p (Fault kind) = fault_text kind
+
+-- the schemes of an operator
+abbrev pub schemes_of : Spec → ℕ → List Scheme
+schemes_of spec op = unwrap_or (option_map (λ (o : Operator). o.schemes) (slice_get spec.ops op)) []
 
 -- the scheme of a number, which stands for its remainder by how many the operator has
 abbrev pub scheme_of : Spec → ℕ → ℕ → Option Scheme

@@ -1,45 +1,57 @@
 // Values as they are shown, and the schemes in which nodes are shown.
 ghost use Rattle.std.specs.Prelude.{◌≡◌, ◌%◌, ◌<◌, ◌++◌, length, slice_get, None, Some, MatchOption, OnOk};
+ghost use Rattle.sg_kinds.specs.InView.{in_view};
 ghost use Rattle.sg_kinds.specs.Specification.{has_shape, is_lexical_shape, phylum_name};
 ghost use Rattle.sg_pool.specs.Pools.{value_at};
-ghost use Rattle.sg_unparse.specs.Shown.{fault_text, text_shown, value_text, scheme_of};
+ghost use Rattle.sg_unparse.specs.Shown.{fault_text, text_shown, value_text, scheme_of, schemes_of};
 
 use itoa::Buffer;
 use sg_kinds::ids::{OpId, PhylumId, ValueId};
 use sg_kinds::marks::{FaultKind, Shape};
 use sg_kinds::memory::NoMemory;
-use sg_kinds::row::{Row, item};
+use sg_kinds::row::item;
 use sg_kinds::spec::{Scheme, Spec};
 use sg_pool::entry::PoolEntry;
 use sg_pool::pool::Pool;
 
 // the scheme of a number among those of an operator
 #[tactic(auto, using(crate::proofs::Schemed::below_stays))]
-fn scheme_in(schemes: &Row<Scheme>, number: u32) -> Option<&Scheme>
+fn scheme_in(schemes: &[Scheme], number: u32) -> Option<&Scheme>
     ensures { MatchOption result (slice_get schemes.now (number % length schemes.now) ≡ None)
         (λ s. slice_get schemes.now (number % length schemes.now) ≡ Some s.now) }
 {
     let at = number as usize;
     let count = schemes.len();
     if at < count {
-        return Some(item(schemes.as_slice(), at));
+        return Some(item(schemes, at));
     }
     if count == 0 {
         return None;
     }
-    Some(item(schemes.as_slice(), at % count))
+    Some(item(schemes, at % count))
 }
 
-/// The scheme of a number of an operator, where numbers are counted round; None exactly where there is no such operator
-/// or it has no scheme.
-pub fn scheme_of(spec: &Spec, op: OpId, number: u32) -> Option<&Scheme>
-    ensures { MatchOption result (scheme_of spec.now op number ≡ None)
-        (λ s. scheme_of spec.now op number ≡ Some s.now) }
+/// The schemes of an operator in a view: its own there, or else its ordinary ones; none where there is no such
+/// operator.
+pub fn schemes_in(spec: &Spec, view: u32, op: OpId) -> &[Scheme]
+    ensures { result.now ≡ schemes_of (in_view spec.now view) op }
 {
     match spec.ops.place(op.number) {
-        Some(operator) => scheme_in(&operator.schemes, number),
-        None => None,
+        Some(operator) => match spec.views.schemes(view, op) {
+            Some(schemes) => schemes,
+            None => operator.schemes.as_slice(),
+        },
+        None => &[],
     }
+}
+
+/// The scheme of a number of an operator in a view, where numbers are counted round; None exactly where there is no
+/// such operator or it has no scheme.
+pub fn scheme_of(spec: &Spec, view: u32, op: OpId, number: u32) -> Option<&Scheme>
+    ensures { MatchOption result (scheme_of (in_view spec.now view) op number ≡ None)
+        (λ s. scheme_of (in_view spec.now view) op number ≡ Some s.now) }
+{
+    scheme_in(schemes_in(spec, view, op), number)
 }
 
 /// A fault as it is shown.

@@ -10,7 +10,7 @@ ghost use Rattle.sg_kinds.specs.declared.spec.Item.TheVariants.{Child};
 ghost use Rattle.sg_pool.specs.Pools.{value_at};
 ghost use Rattle.sg_forest.specs.declared.node_id.NodeId.{NodeId as Id};
 ghost use Rattle.sg_forest.specs.Trees.{IsLive};
-ghost use Rattle.sg_groves.specs.Grove.{nodes};
+ghost use Rattle.sg_groves.specs.Grove.{nodes, spec_shown};
 ghost use Rattle.sg_groves.specs.Holds.{Holds};
 ghost use Rattle.sg_terms.specs.Found.{op_at};
 ghost use Rattle.sg_terms.specs.Occurrences.{node_there};
@@ -347,7 +347,12 @@ fn write_scheme(
         (own_in shown.now.terms.now root shown.now.captured shown.now.text.now u t)) }
 {
     shown.terms.facts();
-    match scheme_of(shown.terms.spec(), op, shown.terms.scheme(n)) {
+    match scheme_of(
+        shown.terms.spec(),
+        shown.terms.view(),
+        op,
+        shown.terms.scheme(n),
+    ) {
         Some(scheme) => {
             let site = Site { node: n, op };
             write_items(shown, &site, w, room, scheme.items.as_slice())?;
@@ -413,7 +418,8 @@ fn page(alloc: Global, shown: &Shown, n: NodeId) -> Result<Page, NoMemory>
     Page::of(alloc, w)
 }
 
-/// The page of the term that a node holds, with the values that are stored and in the schemes that are current; a
+/// The page of the term that a node holds, with the values that are stored and in the schemes that are current in the
+/// view; a
 /// captured node shows the text. The margin begins at 0. A margin of 2^64 blanks is answered as want of memory.
 pub fn cells(
     alloc: Global,
@@ -424,7 +430,7 @@ pub fn cells(
 ) -> Result<Page, NoMemory>
     requires { IsLive (nodes terms.now) root }
     ensures { (t : Term) → Holds terms.now root t → IfOk result (λ p. p ≡ sheet_of (node_along terms.now root)
-        (marks_of terms.now.spec (stored terms.now root) (typed_in terms.now root captured text.now) t)) }
+        (marks_of (spec_shown terms.now) (stored terms.now root) (typed_in terms.now root captured text.now) t)) }
 {
     let shown = Shown {
         terms,

@@ -17,7 +17,7 @@ loop-n-preserved c =
     let e = drop_more roots c.loop-n.n-index (record { key = 0 }) c.loop-n-test.true in
     let d = c.drop_tree.ensures in
     undone_one c.args.terms.now c.loop-n.terms c.drop_tree.new.self roots (get_or roots c.loop-n.n-index (record { key = 0 })) (drop (c.loop-n.n-index + 1) roots) c.facts.ensures
-    (subst (IsUndone c.args.terms.now c.loop-n.terms roots) e c.loop-n.invariant) (record { dropped = d.dropped; roots = d.roots; ways = d.ways; spec = d.spec; pool = d.pool })
+    (subst (IsUndone c.args.terms.now c.loop-n.terms roots) e c.loop-n.invariant) (record { dropped = d.dropped; roots = d.roots; ways = d.ways; spec = d.spec; view = d.view; pool = d.pool })
 
 pub returns : goal.returns
 returns c = λ g held grew.

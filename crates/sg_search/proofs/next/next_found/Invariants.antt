@@ -1,4 +1,5 @@
 use Rattle.std.proofs.Common.{◌≡◌, length}
+use Rattle.sg_groves.specs.Grove.{spec_shown}
 use Rattle.sg_groves.specs.TermAt.{way_at}
 use Rattle.sg_build.proofs.Told.{the_term}
 use Rattle.sg_select.specs.RestingPlaces.{behind, resting}
@@ -13,4 +14,4 @@ invariant-loop-resting l = record {
 }
 
 abbrev pub decreases-loop-resting : goal.decreases-loop-resting
-decreases-loop-resting l = length (behind (way_at l.terms l.at) (resting l.terms.spec (the_term l.terms l.fn.root)))
+decreases-loop-resting l = length (behind (way_at l.terms l.at) (resting (spec_shown l.terms) (the_term l.terms l.fn.root)))

@@ -1,5 +1,6 @@
 use Rattle.std.proofs.Common.{refl, sym, ◌∙◌, subst, arith, take}
 use Rattle.std.specs.Prelude.{false, ◌≡◌}
+use Rattle.std.proofs.lemmas.Bool.{false≢true}
 use Rattle.std.proofs.lemmas.Result.{err_from_is_err_and}
 use Rattle.sg_kinds.specs.Terms.{Term}
 use Rattle.sg_terms.specs.Told.{elided_of, scheme_of}
@@ -35,6 +36,11 @@ made-returns-in-Err-Outcome-clause-made t c = λ x holds.
     let why = refused_at g.spec name x p c.in-Err-Outcome.field-0 fits (c.in-Err-Outcome.ensures.given p x holds fits) in
     fault_stops g.spec name x c.in-Err-Outcome.why (subst (λ e. IsRefused e (given_to g.spec name x)) c.in-Err-Outcome.field-0-is why)
 
+-- none applies
+pub made-returns-then-not-applies-clause-made : goal.made-returns-then-not-applies-clause-made
+made-returns-then-not-applies-clause-made t c = λ x holds.
+    c.below.ensures.made x holds (sym (c.applies.ensures c.args.name.now x c.requires.named holds) ∙ c.if-not-applies.true)
+
 pub made-returns-in-Err-Unknown-clause-made : goal.made-returns-in-Err-Unknown-clause-made
 made-returns-in-Err-Unknown-clause-made t c = λ x holds.
     let g = c.args.terms.now in
@@ -42,8 +48,9 @@ made-returns-in-Err-Unknown-clause-made t c = λ x holds.
     let live = c.requires.live in
     let p = live.node.label.phylum in
     let fits = held_fits g c.facts.ensures c.args.n live.node x live.found holds in
+    let on = sym (c.applies.ensures name x c.requires.named holds) ∙ c.if-not-applies.false in
     let why = refused_at g.spec name x p c.in-Err-Unknown.field-0 fits (c.in-Err-Unknown.ensures.given p x holds fits) in
-    c.below.ensures.made x holds (not_known g.spec name x (subst (λ e. IsRefused e (given_to g.spec name x)) c.in-Err-Unknown.field-0-is why))
+    absurd (false≢true (sym (not_known g.spec name x (subst (λ e. IsRefused e (given_to g.spec name x)) c.in-Err-Unknown.field-0-is why)) ∙ on))
 
 pub made-returns-in-Err-NoMatch-clause-made : goal.made-returns-in-Err-NoMatch-clause-made
 made-returns-in-Err-NoMatch-clause-made t c = λ x holds.
@@ -52,8 +59,9 @@ made-returns-in-Err-NoMatch-clause-made t c = λ x holds.
     let live = c.requires.live in
     let p = live.node.label.phylum in
     let fits = held_fits g c.facts.ensures c.args.n live.node x live.found holds in
+    let on = sym (c.applies.ensures name x c.requires.named holds) ∙ c.if-not-applies.false in
     let why = refused_at g.spec name x p c.in-Err-NoMatch.field-0 fits (c.in-Err-NoMatch.ensures.given p x holds fits) in
-    c.below-in-Err-NoMatch.ensures.made x holds (not_matched g.spec name x (subst (λ e. IsRefused e (given_to g.spec name x)) c.in-Err-NoMatch.field-0-is why))
+    absurd (false≢true (sym (not_matched g.spec name x (subst (λ e. IsRefused e (given_to g.spec name x)) c.in-Err-NoMatch.field-0-is why)) ∙ on))
 
 -- a leaf
 pub below-returns-in_default-clause-made : goal.below-returns-in_default-clause-made

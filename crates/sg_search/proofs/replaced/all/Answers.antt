@@ -14,7 +14,7 @@ returns-in_err-made-clause-given c = λ x holds.
     let g = c.args.terms.now in
     let name = c.args.name.now in
     let known = sym (c.is_known.ensures ∙ ap (λ (s : Spec). is_known s name) c.spec.ensures) ∙ c.if-not-is_known.false in
-    let p = err_from_is_err_and c.from_residual.result c.from_residual.ensures.1 in
+    let p = err_from_is_err_and c.from_residual-in_err-made.result c.from_residual-in_err-made.ensures.1 in
     rw (p.1, p.2) (stop_why g.spec name x c.in_err-made.field-0.0 known (c.in_err-made.ensures.made x holds))
 
 pub returns-in-Same-clause-given : goal.returns-in-Same-clause-given
@@ -40,8 +40,8 @@ returns-in-New-clause-fits c = λ p x holds fits.
     let m = subst (IsMade g.spec name x 65536 c.made.new.left) c.in-New.is (c.in_ok-made.ensures.made x holds) in
     within_fits g.spec p c.within.result c.in-New.term c.within.ensures (subst (λ s. Fits g.spec s p) (sym m.1) (whole_fits g.spec name x c.facts.ensures.sound p fits m.0.whole))
 
-pub returns-in-Over-clause-given : goal.returns-in-Over-clause-given
-returns-in-Over-clause-given c = λ x holds.
+pub returns-clause-given : goal.returns-clause-given
+returns-clause-given c = λ x holds.
     let g = c.args.terms.now in
     let name = c.args.name.now in
     let known = sym (c.is_known.ensures ∙ ap (λ (s : Spec). is_known s name) c.spec.ensures) ∙ c.if-not-is_known.false in

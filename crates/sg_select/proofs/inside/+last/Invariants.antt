@@ -6,6 +6,7 @@ use Rattle.sg_kinds.specs.Terms.{Term}
 use Rattle.sg_forest.specs.declared.node_id.NodeId.{NodeId}
 use Rattle.sg_forest.specs.Trees.{room_below}
 use Rattle.sg_groves.specs.Holds.{Holds, IsPlaced}
+use Rattle.sg_groves.specs.Grove.{spec_shown}
 use Rattle.sg_select.specs.Around.{kids, parts}
 use Rattle.sg_select.proofs.inside.+last.Given as goal
 
@@ -23,7 +24,7 @@ abbrev pub invariant-last_before-loop-left : goal.invariant-last_before-loop-lef
 invariant-last_before-loop-left l = record {
   low : l.left ≤ l.to;
   leads : (root : NodeId) (t x : Term) (u : Place) → IsPlaced l.terms root t u l.n → Holds l.terms l.n x
-      → last_or None (parts l.terms.spec u x 0 (take l.to (kids x))) ≡ last_or None (parts l.terms.spec u x 0 (take l.left (kids x)));
+      → last_or None (parts (spec_shown l.terms) u x 0 (take l.to (kids x))) ≡ last_or None (parts (spec_shown l.terms) u x 0 (take l.left (kids x)));
 }
 
 abbrev pub decreases-last_before-loop-left : goal.decreases-last_before-loop-left

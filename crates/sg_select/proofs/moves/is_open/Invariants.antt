@@ -1,14 +1,14 @@
 use Rattle.std.proofs.Common.{◌-◌}
 use Rattle.std.specs.FinMap as finmap
 use Rattle.sg_forest.specs.Trees.{IsLive, room_below}
-use Rattle.sg_groves.specs.Grove.{nodes}
+use Rattle.sg_groves.specs.Grove.{nodes, spec_shown}
 use Rattle.sg_select.proofs.Climbing.{IsReachedAlike, Walks}
 use Rattle.sg_select.proofs.moves.is_open.Given as goal
 
 abbrev pub invariant-loop-above : goal.invariant-loop-above
 invariant-loop-above l = record {
   live : IsLive (nodes l.terms) l.at;
-  walks : Walks l.terms l.fn.n l.at (IsReachedAlike l.terms.spec);
+  walks : Walks l.terms l.fn.n l.at (IsReachedAlike (spec_shown l.terms));
 }
 
 abbrev pub decreases-loop-above : goal.decreases-loop-above

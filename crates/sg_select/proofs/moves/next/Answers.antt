@@ -1,4 +1,5 @@
 use Rattle.std.proofs.Common.{sym, ◌∙◌, subst}
+use Rattle.sg_groves.specs.Grove.{spec_shown}
 use Rattle.sg_build.proofs.Told.{the_term}
 use Rattle.sg_select.specs.Around.{after, inside}
 use Rattle.sg_select.specs.Leads.{LeadsTo}
@@ -14,7 +15,7 @@ returns-in-Some-clause-leads c = λ root t u placed rest.
     let holds = held g c.facts.ensures c.args.n c.requires in
     let lead = leads_some g root c.in-Some.found _ (c.in-Some.ensures.leads root t x u placed holds) in
     a_lead g root c.in-Some.found _ lead.0
-    (next_is g.spec t u x (sub_there g c.facts.ensures root t x u c.args.n placed holds) rest ∙ first_left (inside g.spec u x) (after g.spec t u) lead.0 lead.1)
+    (next_is (spec_shown g) t u x (sub_there g c.facts.ensures root t x u c.args.n placed holds) rest ∙ first_left (inside (spec_shown g) u x) (after (spec_shown g) t u) lead.0 lead.1)
     lead.2
 
 pub returns-in-None-clause-leads : goal.returns-in-None-clause-leads
@@ -24,5 +25,5 @@ returns-in-None-clause-leads c = λ root t u placed rest.
     let holds = held g c.facts.ensures c.args.n c.requires in
     let none = leads_none g root _ (c.in-None.ensures.leads root t x u placed holds) in
     subst (λ o. LeadsTo g root o c.first_after.result)
-    (sym (next_is g.spec t u x (sub_there g c.facts.ensures root t x u c.args.n placed holds) rest ∙ first_right (inside g.spec u x) (after g.spec t u) none))
+    (sym (next_is (spec_shown g) t u x (sub_there g c.facts.ensures root t x u c.args.n placed holds) rest ∙ first_right (inside (spec_shown g) u x) (after (spec_shown g) t u) none))
     (c.first_after.ensures.leads root t u placed)

@@ -1,6 +1,6 @@
 use Rattle.std.proofs.Common.{sym, ◌∙◌, refl, arith}
 use Rattle.sg_forest.proofs.Paths.{parent_is_live}
-use Rattle.sg_groves.specs.Grove.{nodes}
+use Rattle.sg_groves.specs.Grove.{nodes, spec_shown}
 use Rattle.sg_build.proofs.Told.{the_term}
 use Rattle.sg_select.proofs.Leading.{a_lead, held, leads_none, leads_some, no_lead, sub_there}
 use Rattle.sg_select.proofs.Neighbours.{prev_is, resting_open}
@@ -11,8 +11,8 @@ use Rattle.sg_select.proofs.moves.prev.Goals as goal
 pub loop-above-init : goal.loop-above-init
 loop-above-init c = record {
   live = c.requires;
-  walks = walk_first c.args.terms.now c.args.n (KnowsBefore c.args.terms.now.spec)
-      (λ root t u placed rest. record { way = resting_open c.args.terms.now.spec t u rest; last = refl });
+  walks = walk_first c.args.terms.now c.args.n (KnowsBefore (spec_shown c.args.terms.now))
+      (λ root t u placed rest. record { way = resting_open (spec_shown c.args.terms.now) t u rest; last = refl });
 }
 
 pub last_before-requires-clause-live : goal.last_before-requires-clause-live
@@ -27,12 +27,12 @@ returns-in-Some-last_before-clause-leads c = λ root t u placed rest.
     let g = c.args.terms.now in
     let x = the_term g c.in-Some.above in
     let k = c.in-Some.k in
-    let up = walk_step g c.facts.ensures c.args.n c.loop-above.at c.in-Some.above k (KnowsBefore g.spec) (parent_is_live (nodes g) c.facts.ensures.forest.linked c.loop-above.at c.in-Some.above c.in-Some.k c.in-Some.ensures.child) c.loop-above.invariant.live c.in-Some.ensures.child c.loop-above.invariant.walks root t u placed in
+    let up = walk_step g c.facts.ensures c.args.n c.loop-above.at c.in-Some.above k (KnowsBefore (spec_shown g)) (parent_is_live (nodes g) c.facts.ensures.forest.linked c.loop-above.at c.in-Some.above c.in-Some.k c.in-Some.ensures.child) c.loop-above.invariant.live c.in-Some.ensures.child c.loop-above.invariant.walks root t u placed in
     let holds = held g c.facts.ensures c.args.n c.requires in
     let lead = leads_some g root c.in-Some-last_before.found _ (c.in-Some-last_before.ensures.leads root t x up.place up.step.placed up.step.holds) in
     a_lead g root c.in-Some-last_before.found _ lead.0
-    (prev_is g.spec t u (the_term g c.args.n) (sub_there g c.facts.ensures root t (the_term g c.args.n) u c.args.n placed holds) rest
-    ∙ before_found g.spec t u k up.place x lead.0 up.step.there lead.1 (up.known rest))
+    (prev_is (spec_shown g) t u (the_term g c.args.n) (sub_there g c.facts.ensures root t (the_term g c.args.n) u c.args.n placed holds) rest
+    ∙ before_found (spec_shown g) t u k up.place x lead.0 up.step.there lead.1 (up.known rest))
     lead.2
 
 pub returns-then-stands-clause-live : goal.returns-then-stands-clause-live
@@ -43,13 +43,13 @@ returns-then-stands-clause-leads c = λ root t u placed rest.
     let g = c.args.terms.now in
     let x = the_term g c.in-Some.above in
     let k = c.in-Some.k in
-    let up = walk_step g c.facts.ensures c.args.n c.loop-above.at c.in-Some.above k (KnowsBefore g.spec) (parent_is_live (nodes g) c.facts.ensures.forest.linked c.loop-above.at c.in-Some.above c.in-Some.k c.in-Some.ensures.child) c.loop-above.invariant.live c.in-Some.ensures.child c.loop-above.invariant.walks root t u placed in
+    let up = walk_step g c.facts.ensures c.args.n c.loop-above.at c.in-Some.above k (KnowsBefore (spec_shown g)) (parent_is_live (nodes g) c.facts.ensures.forest.linked c.loop-above.at c.in-Some.above c.in-Some.k c.in-Some.ensures.child) c.loop-above.invariant.live c.in-Some.ensures.child c.loop-above.invariant.walks root t u placed in
     let holds = held g c.facts.ensures c.args.n c.requires in
     let none = leads_none g root _ (c.in_default-last_before.ensures.leads root t x up.place up.step.placed up.step.holds) in
-    let way = (reached_from g.spec t k up.place x up.step.there (up.known rest).way).way in
+    let way = (reached_from (spec_shown g) t k up.place x up.step.there (up.known rest).way).way in
     a_lead g root c.in-Some.above _ up.place
-    (prev_is g.spec t u (the_term g c.args.n) (sub_there g c.facts.ensures root t (the_term g c.args.n) u c.args.n placed holds) rest
-    ∙ before_here g.spec t u k up.place x up.step.there none (sym (c.stands.ensures root t up.place up.step.placed way) ∙ c.if-stands.true) (up.known rest))
+    (prev_is (spec_shown g) t u (the_term g c.args.n) (sub_there g c.facts.ensures root t (the_term g c.args.n) u c.args.n placed holds) rest
+    ∙ before_here (spec_shown g) t u k up.place x up.step.there none (sym (c.stands.ensures root t up.place up.step.placed way) ∙ c.if-stands.true) (up.known rest))
     up.step.placed.way
 
 pub loop-above-preserved : goal.loop-above-preserved
@@ -60,12 +60,12 @@ loop-above-preserved c =
     let live = parent_is_live (nodes g) c.facts.ensures.forest.linked c.loop-above.at c.in-Some.above c.in-Some.k c.in-Some.ensures.child in
     record {
       live = live;
-      walks = walk_up g c.facts.ensures c.args.n c.loop-above.at c.in-Some.above k (KnowsBefore g.spec) (KnowsBefore g.spec) live c.loop-above.invariant.live c.in-Some.ensures.child
+      walks = walk_up g c.facts.ensures c.args.n c.loop-above.at c.in-Some.above k (KnowsBefore (spec_shown g)) (KnowsBefore (spec_shown g)) live c.loop-above.invariant.live c.in-Some.ensures.child
           (λ root t u w s known rest.
           let h = known rest in
           let none = leads_none g root _ (c.in_default-last_before.ensures.leads root t x w s.placed s.holds) in
-          let way = (reached_from g.spec t k w x s.there h.way).way in
-          before_up g.spec t u k w x s.there none (sym (c.stands.ensures root t w s.placed way) ∙ c.if-stands.false) h)
+          let way = (reached_from (spec_shown g) t k w x s.there h.way).way in
+          before_up (spec_shown g) t u k w x s.there none (sym (c.stands.ensures root t w s.placed way) ∙ c.if-stands.false) h)
           c.loop-above.invariant.walks;
     }
 
@@ -74,5 +74,5 @@ returns-clause-leads c = λ root t u placed rest.
     let g = c.args.terms.now in
     let holds = held g c.facts.ensures c.args.n c.requires in
     no_lead g root _
-    (prev_is g.spec t u (the_term g c.args.n) (sub_there g c.facts.ensures root t (the_term g c.args.n) u c.args.n placed holds) rest
-    ∙ ((walk_last g c.facts.ensures c.args.n c.loop-above.at (KnowsBefore g.spec) (c.parent.ensures.root.0 c.in_default.is) c.loop-above.invariant.walks root t u placed).1 rest).last)
+    (prev_is (spec_shown g) t u (the_term g c.args.n) (sub_there g c.facts.ensures root t (the_term g c.args.n) u c.args.n placed holds) rest
+    ∙ ((walk_last g c.facts.ensures c.args.n c.loop-above.at (KnowsBefore (spec_shown g)) (c.parent.ensures.root.0 c.in_default.is) c.loop-above.invariant.walks root t u placed).1 rest).last)

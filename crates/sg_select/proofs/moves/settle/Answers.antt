@@ -1,6 +1,6 @@
 use Rattle.std.proofs.Common.{None, sym, subst}
 use Rattle.sg_forest.proofs.Paths.{parent_is_live}
-use Rattle.sg_groves.specs.Grove.{nodes}
+use Rattle.sg_groves.specs.Grove.{nodes, spec_shown}
 use Rattle.sg_forest.specs.Trees.{Climbs}
 use Rattle.sg_select.specs.RestingPlaces.{settled}
 use Rattle.sg_select.proofs.Climbing.{walk_first, walk_last, walk_up}
@@ -11,7 +11,7 @@ pub loop-above-init : goal.loop-above-init
 loop-above-init c = record {
   live = c.requires;
   kept = tt;
-  walks = walk_first c.args.terms.now c.args.n (Keeps c.args.terms.now None) (λ root t u placed. record { place = None; leads = tt; known = kept_first c.args.terms.now.spec t u });
+  walks = walk_first c.args.terms.now c.args.n (Keeps c.args.terms.now None) (λ root t u placed. record { place = None; leads = tt; known = kept_first (spec_shown c.args.terms.now) t u });
 }
 
 pub loop-above-preserved : goal.loop-above-preserved
@@ -30,4 +30,4 @@ pub returns-clause-settled : goal.returns-clause-settled
 returns-clause-settled c = λ root t u placed.
     let g = c.args.terms.now in
     let last = walk_last g c.facts.ensures c.args.n c.loop-above.at (Keeps g c.loop-above.kept) (c.parent.ensures.root.0 c.in_default.is) c.loop-above.invariant.walks root t u placed in
-    subst (λ m. Climbs (nodes g) (settled g.spec t u) m root) (sym c.unwrap_or.ensures) (settled_at g root c.loop-above.at t u c.loop-above.kept last.1 last.0)
+    subst (λ m. Climbs (nodes g) (settled (spec_shown g) t u) m root) (sym c.unwrap_or.ensures) (settled_at g root c.loop-above.at t u c.loop-above.kept last.1 last.0)

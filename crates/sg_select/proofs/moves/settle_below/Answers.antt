@@ -2,7 +2,7 @@ use Rattle.std.specs.Prelude.{IfSome}
 use Rattle.std.proofs.Common.{None, false, sym, subst}
 use Rattle.std.proofs.lemmas.Bool.{false≢true}
 use Rattle.sg_forest.proofs.Paths.{parent_is_live}
-use Rattle.sg_groves.specs.Grove.{nodes}
+use Rattle.sg_groves.specs.Grove.{nodes, spec_shown}
 use Rattle.sg_forest.specs.Trees.{Climbs, IsLive}
 use Rattle.sg_build.proofs.Told.{the_term}
 use Rattle.sg_select.specs.RestingPlaces.{settled}
@@ -15,7 +15,7 @@ loop-above-init c = record {
   live = c.requires;
   kept = tt;
   walks = walk_first c.args.terms.now c.args.n (Meets c.args.terms.now None false c.args.reached)
-      (λ root t u placed. record { keeps = record { place = None; leads = tt; known = kept_first c.args.terms.now.spec t u }; way = λ reached no. absurd (false≢true no) });
+      (λ root t u placed. record { keeps = record { place = None; leads = tt; known = kept_first (spec_shown c.args.terms.now) t u }; way = λ reached no. absurd (false≢true no) });
 }
 
 pub returns-in-Some-kept_if-clause-live : goal.returns-in-Some-kept_if-clause-live
@@ -51,4 +51,4 @@ pub returns-clause-settled : goal.returns-clause-settled
 returns-clause-settled c = λ root t u placed reached.
     let g = c.args.terms.now in
     let last = walk_last g c.facts.ensures c.args.n c.loop-above.at (Meets g c.loop-above.nearest c.loop-above.met c.args.reached) (c.parent.ensures.root.0 c.in_default.is) c.loop-above.invariant.walks root t u placed in
-    subst (λ m. Climbs (nodes g) (settled g.spec t u) m root) (sym c.unwrap_or.ensures) (settled_at g root c.loop-above.at t u c.loop-above.nearest last.1.keeps last.0)
+    subst (λ m. Climbs (nodes g) (settled (spec_shown g) t u) m root) (sym c.unwrap_or.ensures) (settled_at g root c.loop-above.at t u c.loop-above.nearest last.1.keeps last.0)

@@ -1,6 +1,6 @@
 use Rattle.std.proofs.Common.{sym, ◌∙◌, arith}
 use Rattle.sg_forest.proofs.Paths.{parent_is_live}
-use Rattle.sg_groves.specs.Grove.{nodes}
+use Rattle.sg_groves.specs.Grove.{nodes, spec_shown}
 use Rattle.sg_build.proofs.Told.{the_term}
 use Rattle.sg_select.proofs.Leading.{a_lead, held, leads_none, leads_some, no_lead, sub_there}
 use Rattle.sg_select.proofs.Around.{reached_from}
@@ -9,7 +9,7 @@ use Rattle.sg_select.proofs.Siblings.{KnowsSibling, sibling_first, sibling_found
 use Rattle.sg_select.proofs.moves.sibling.Goals as goal
 
 pub loop-above-init : goal.loop-above-init
-loop-above-init c = record { live = c.requires; walks = walk_first c.args.terms.now c.args.n (KnowsSibling c.args.terms.now.spec) (λ root t u placed rest. sibling_first c.args.terms.now.spec t u rest) }
+loop-above-init c = record { live = c.requires; walks = walk_first c.args.terms.now c.args.n (KnowsSibling (spec_shown c.args.terms.now)) (λ root t u placed rest. sibling_first (spec_shown c.args.terms.now) t u rest) }
 
 pub overflow_add-k : goal.overflow_add-k
 overflow_add-k c = let few = child_few c.args.terms.now c.facts.ensures c.loop-above.at c.in-Some.above c.in-Some.k c.in-Some.ensures.child in omega (arith, few)
@@ -22,12 +22,12 @@ returns-in-Some-first_from-clause-leads c = λ root t u placed rest.
     let g = c.args.terms.now in
     let x = the_term g c.in-Some.above in
     let k = c.in-Some.k in
-    let up = walk_step g c.facts.ensures c.args.n c.loop-above.at c.in-Some.above k (KnowsSibling g.spec) (parent_is_live (nodes g) c.facts.ensures.forest.linked c.loop-above.at c.in-Some.above c.in-Some.k c.in-Some.ensures.child) c.loop-above.invariant.live c.in-Some.ensures.child c.loop-above.invariant.walks root t u placed in
+    let up = walk_step g c.facts.ensures c.args.n c.loop-above.at c.in-Some.above k (KnowsSibling (spec_shown g)) (parent_is_live (nodes g) c.facts.ensures.forest.linked c.loop-above.at c.in-Some.above c.in-Some.k c.in-Some.ensures.child) c.loop-above.invariant.live c.in-Some.ensures.child c.loop-above.invariant.walks root t u placed in
     let holds = held g c.facts.ensures c.args.n c.requires in
     let lead = leads_some g root c.in-Some-first_from.found _ (c.in-Some-first_from.ensures.leads root t x up.place up.step.placed up.step.holds) in
     a_lead g root c.in-Some-first_from.found _ lead.0
-    (sibling_is g.spec t u (the_term g c.args.n) (sub_there g c.facts.ensures root t (the_term g c.args.n) u c.args.n placed holds) rest
-    ∙ sibling_found g.spec t u k up.place x up.step.there (up.known rest) lead.0 lead.1)
+    (sibling_is (spec_shown g) t u (the_term g c.args.n) (sub_there g c.facts.ensures root t (the_term g c.args.n) u c.args.n placed holds) rest
+    ∙ sibling_found (spec_shown g) t u k up.place x up.step.there (up.known rest) lead.0 lead.1)
     lead.2
 
 pub returns-then-stands-clause-leads : goal.returns-then-stands-clause-leads
@@ -35,13 +35,13 @@ returns-then-stands-clause-leads c = λ root t u placed rest.
     let g = c.args.terms.now in
     let x = the_term g c.in-Some.above in
     let k = c.in-Some.k in
-    let up = walk_step g c.facts.ensures c.args.n c.loop-above.at c.in-Some.above k (KnowsSibling g.spec) (parent_is_live (nodes g) c.facts.ensures.forest.linked c.loop-above.at c.in-Some.above c.in-Some.k c.in-Some.ensures.child) c.loop-above.invariant.live c.in-Some.ensures.child c.loop-above.invariant.walks root t u placed in
+    let up = walk_step g c.facts.ensures c.args.n c.loop-above.at c.in-Some.above k (KnowsSibling (spec_shown g)) (parent_is_live (nodes g) c.facts.ensures.forest.linked c.loop-above.at c.in-Some.above c.in-Some.k c.in-Some.ensures.child) c.loop-above.invariant.live c.in-Some.ensures.child c.loop-above.invariant.walks root t u placed in
     let holds = held g c.facts.ensures c.args.n c.requires in
     let none = leads_none g root _ (c.in_default-first_from.ensures.leads root t x up.place up.step.placed up.step.holds) in
-    let way = (reached_from g.spec t k up.place x up.step.there (up.known rest).way).way in
+    let way = (reached_from (spec_shown g) t k up.place x up.step.there (up.known rest).way).way in
     no_lead g root _
-    (sibling_is g.spec t u (the_term g c.args.n) (sub_there g c.facts.ensures root t (the_term g c.args.n) u c.args.n placed holds) rest
-    ∙ sibling_none g.spec t u k up.place x up.step.there (up.known rest) none (sym (c.stands.ensures root t up.place up.step.placed way) ∙ c.if-stands.true))
+    (sibling_is (spec_shown g) t u (the_term g c.args.n) (sub_there g c.facts.ensures root t (the_term g c.args.n) u c.args.n placed holds) rest
+    ∙ sibling_none (spec_shown g) t u k up.place x up.step.there (up.known rest) none (sym (c.stands.ensures root t up.place up.step.placed way) ∙ c.if-stands.true))
 
 pub loop-above-preserved : goal.loop-above-preserved
 loop-above-preserved c =
@@ -51,12 +51,12 @@ loop-above-preserved c =
     let live = parent_is_live (nodes g) c.facts.ensures.forest.linked c.loop-above.at c.in-Some.above c.in-Some.k c.in-Some.ensures.child in
     record {
       live = live;
-      walks = walk_up g c.facts.ensures c.args.n c.loop-above.at c.in-Some.above k (KnowsSibling g.spec) (KnowsSibling g.spec) live c.loop-above.invariant.live c.in-Some.ensures.child
+      walks = walk_up g c.facts.ensures c.args.n c.loop-above.at c.in-Some.above k (KnowsSibling (spec_shown g)) (KnowsSibling (spec_shown g)) live c.loop-above.invariant.live c.in-Some.ensures.child
           (λ root t u w s known rest.
           let h = known rest in
           let none = leads_none g root _ (c.in_default-first_from.ensures.leads root t x w s.placed s.holds) in
-          let way = (reached_from g.spec t k w x s.there h.way).way in
-          sibling_up g.spec t u k w x s.there h none (sym (c.stands.ensures root t w s.placed way) ∙ c.if-stands.false))
+          let way = (reached_from (spec_shown g) t k w x s.there h.way).way in
+          sibling_up (spec_shown g) t u k w x s.there h none (sym (c.stands.ensures root t w s.placed way) ∙ c.if-stands.false))
           c.loop-above.invariant.walks;
     }
 
@@ -65,5 +65,5 @@ returns-clause-leads c = λ root t u placed rest.
     let g = c.args.terms.now in
     let holds = held g c.facts.ensures c.args.n c.requires in
     no_lead g root _
-    (sibling_is g.spec t u (the_term g c.args.n) (sub_there g c.facts.ensures root t (the_term g c.args.n) u c.args.n placed holds) rest
-    ∙ ((walk_last g c.facts.ensures c.args.n c.loop-above.at (KnowsSibling g.spec) (c.parent.ensures.root.0 c.in_default.is) c.loop-above.invariant.walks root t u placed).1 rest).rest)
+    (sibling_is (spec_shown g) t u (the_term g c.args.n) (sub_there g c.facts.ensures root t (the_term g c.args.n) u c.args.n placed holds) rest
+    ∙ ((walk_last g c.facts.ensures c.args.n c.loop-above.at (KnowsSibling (spec_shown g)) (c.parent.ensures.root.0 c.in_default.is) c.loop-above.invariant.walks root t u placed).1 rest).rest)

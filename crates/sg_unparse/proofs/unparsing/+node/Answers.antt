@@ -12,11 +12,13 @@ use Rattle.sg_unparse.specs.Along.{node_along, items_in, kids_in, content_in}
 use Rattle.sg_unparse.specs.Cells.{goes_on, pieces}
 use Rattle.sg_unparse.specs.Shown.{scheme_of}
 use Rattle.sg_unparse.specs.Written.{Wrote}
+use Rattle.sg_groves.specs.Grove.{spec_shown}
 use Rattle.sg_groves.specs.Holds.{Holds}
 use Rattle.sg_kinds.specs.Sound.{IsItem}
 use Rattle.std.specs.List.{All}
 use Rattle.sg_unparse.proofs.Items.{left_item, left_none, found_items, scheme_written, nothing_written, child_past, child_hidden, child_shown, writes_item, shows_item, separates_shown, separates_hidden, content_elided, node_written}
 use Rattle.sg_unparse.proofs.Placed.{arity_is, kids_counted, along_kid, node_of, term_op, items_sound}
+use Rattle.sg_unparse.proofs.Viewed.{as_shown}
 use Rattle.sg_unparse.proofs.unparsing.+node.Goals as goal
 
 -- a child
@@ -125,7 +127,7 @@ write_items-returns t c = λ root u k elided ts a.
 pub write_scheme-write_items-requires : goal.write_scheme-write_items-requires
 write_scheme-write_items-requires t c =
     let g = c.args.shown.now.terms.now in
-    let found = ap (λ s. scheme_of s c.args.op c.scheme.result) (sym c.spec.ensures) ∙ c.in-Some.ensures in
+    let found = ap (λ s. scheme_of s c.args.op c.scheme.result) (sym (as_shown g c.spec.result.now c.view.result c.spec.ensures c.view.ensures)) ∙ c.in-Some.ensures in
     let sound = items_sound g c.facts.ensures c.args.op c.scheme.result c.in-Some.scheme.now found in
     (omega arith, (c.requires.live, (c.requires.op, subst (All (IsItem g.spec c.args.op)) (sym c.as_slice.ensures) sound)))
 
@@ -136,8 +138,8 @@ write_scheme-returns-in_ok-write_items-in-Some t c = λ root u s a.
     let text = c.args.shown.now.text.now in
     let x = node_of s c.args.op (sym (term_op g c.facts.ensures c.args.n c.requires.live s a.holds) ∙ c.requires.op) in
     let holds = subst (Holds g c.args.n) x.3 a.holds in
-    let found = ap (λ s. scheme_of s c.args.op c.scheme.result) (sym c.spec.ensures) ∙ c.in-Some.ensures in
-    let number = ap (scheme_of g.spec c.args.op) (sym (c.scheme.ensures.term (Node c.args.op x.0 x.1 x.2) holds)) in
+    let found = ap (λ s. scheme_of s c.args.op c.scheme.result) (sym (as_shown g c.spec.result.now c.view.result c.spec.ensures c.view.ensures)) ∙ c.in-Some.ensures in
+    let number = ap (scheme_of (spec_shown g) c.args.op) (sym (c.scheme.ensures.term (Node c.args.op x.0 x.1 x.2) holds)) in
     scheme_written g root captured text c.args.w.now c.write_items.new.w u s c.args.op x.0 x.1 x.2 c.as_slice.result.now x.3
     (c.as_slice.ensures ∙ found_items g root captured text c.args.op x.0 c.in-Some.scheme.now (number ∙ found))
     (c.in_ok-write_items-in-Some.ensures root u x.0 x.1 x.2 (record { along = a.along; holds = holds }))
@@ -147,8 +149,8 @@ write_scheme-returns-in-None t c = λ root u s a.
     let g = c.args.shown.now.terms.now in
     let x = node_of s c.args.op (sym (term_op g c.facts.ensures c.args.n c.requires.live s a.holds) ∙ c.requires.op) in
     let holds = subst (Holds g c.args.n) x.3 a.holds in
-    let found = ap (λ s. scheme_of s c.args.op c.scheme.result) (sym c.spec.ensures) ∙ c.in-None.ensures in
-    let number = ap (scheme_of g.spec c.args.op) (sym (c.scheme.ensures.term (Node c.args.op x.0 x.1 x.2) holds)) in
+    let found = ap (λ s. scheme_of s c.args.op c.scheme.result) (sym (as_shown g c.spec.result.now c.view.result c.spec.ensures c.view.ensures)) ∙ c.in-None.ensures in
+    let number = ap (scheme_of (spec_shown g) c.args.op) (sym (c.scheme.ensures.term (Node c.args.op x.0 x.1 x.2) holds)) in
     nothing_written g root c.args.shown.now.captured c.args.shown.now.text.now c.args.w.now u s c.args.op x.0 x.1 x.2 x.3 (number ∙ found)
 
 -- a node

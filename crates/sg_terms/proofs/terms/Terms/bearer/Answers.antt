@@ -11,7 +11,7 @@ pub there-requires-clause-there : goal.there-requires-clause-there
 there-requires-clause-there c =
     let operator = rw (← c.self.view_is) at c.requires.operator in
     let r = c.item.result.now in
-    let g = grove c.self.inside.spec c.self.inside.trees c.self.inside.pool in
+    let g = grove c.self.inside.spec c.self.inside.view c.self.inside.trees c.self.inside.pool in
     let at : slice_get c.self.inside.spec.rules c.args.rule ≡ Some r = ap (λ l. slice_get l c.args.rule) (sym c.as_slice.ensures) ∙ ap (slice_get c.as_slice.result.now) (sym c.rule.view_is) ∙ c.item.ensures in
     let x = op_node g c.args.n r.op (operator r at) in
     bearer_there g c.self.invariant.0 c.args.n x.0 x.1 c.args.rule r at x.2
@@ -24,5 +24,5 @@ returns c =
     let is_at : slice_get c.self.inside.spec.rules c.args.rule ≡ Some c.item.result.now = ap (λ l. slice_get l c.args.rule) (sym c.as_slice.ensures) ∙ ap (slice_get c.as_slice.result.now) (sym c.rule.view_is) ∙ c.item.ensures in
     rw (← c.self.view_is)
     (λ r at. let same : c.item.result.now ≡ r = cc (is_at, at) in
-    subst (λ (q : Rule). IsBearer (grove c.self.inside.spec c.self.inside.trees c.self.inside.pool) c.args.n q c.there.result c.item.result.now.target.slot) same
+    subst (λ (q : Rule). IsBearer (grove c.self.inside.spec c.self.inside.view c.self.inside.trees c.self.inside.pool) c.args.n q c.there.result c.item.result.now.target.slot) same
     (record { there = c.there.ensures; slot_is = refl }))

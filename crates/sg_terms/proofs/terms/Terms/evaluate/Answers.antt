@@ -27,7 +27,7 @@ run-requires-clause-made c =
 pub invariant_of-self : goal.invariant_of-self
 invariant_of-self c =
     let same = rw (← c.self.view_is) at c.requires.same in (
-      IsGrove-same c.self.inside.spec c.self.inside.trees c.self.inside.trees c.self.inside.pool c.run.new.pool c.run.ensures.grown c.self.invariant.0 refl,
+      IsGrove-same c.self.inside.spec c.self.inside.view c.self.inside.trees c.self.inside.trees c.self.inside.pool c.run.new.pool c.run.ensures.grown c.self.invariant.0 refl,
       subst (λ (s : Spec). AreMade s c.run.new.made c.run.new.pool) same c.run.ensures.made,
     )
 
@@ -39,4 +39,4 @@ returns-clause-outcome c =
 
 pub returns-clause-kept : goal.returns-clause-kept
 returns-clause-kept c =
-    rw (← c.self.view_is) (OnlyStored-none c.self.inside.trees c.self.inside.trees refl c.self.inside.spec c.self.inside.pool c.run.new.pool c.run.ensures.grown)
+    rw (← c.self.view_is) (OnlyStored-none c.self.inside.trees c.self.inside.trees refl c.self.inside.spec c.self.inside.view c.self.inside.pool c.run.new.pool c.run.ensures.grown)

@@ -14,43 +14,43 @@ grow_leaf-requires c = c.self.invariant.0.forest
 
 pub invariant_of-self : goal.invariant_of-self
 invariant_of-self c = (
-  IsGrove-same c.self.inside.spec c.self.inside.trees c.self.inside.trees c.self.inside.pool c.put.new.self c.put.ensures.grown c.self.invariant.0 refl,
+  IsGrove-same c.self.inside.spec c.self.inside.view c.self.inside.trees c.self.inside.trees c.self.inside.pool c.put.new.self c.put.ensures.grown c.self.invariant.0 refl,
   made_later c.self.inside.spec c.self.inside.made c.self.inside.pool c.put.new.self c.self.invariant.1 c.put.ensures.grown,
 )
 
 pub invariant_of-self-2 : goal.invariant_of-self-2
 invariant_of-self-2 c =
     let fits = rw (← c.self.view_is) at c.requires in (
-      IsGrove-leaf c.self.inside.spec c.self.inside.trees c.grow_leaf.new.trees c.self.inside.pool c.put.new.self c.put.ensures.grown c.self.invariant.0 c.grow_leaf.ensures.kids c.grow_leaf.ensures.forest
+      IsGrove-leaf c.self.inside.spec c.self.inside.view c.self.inside.trees c.grow_leaf.new.trees c.self.inside.pool c.put.new.self c.put.ensures.grown c.self.invariant.0 c.grow_leaf.ensures.kids c.grow_leaf.ensures.forest
           c.args.p c.in_ok-id.id c.args.v.now c.grow_leaf.result fits c.in_ok-id.ensures.stands c.grow_leaf.ensures.grown c.grow_leaf.ensures.err,
       made_later c.self.inside.spec c.self.inside.made c.self.inside.pool c.put.new.self c.self.invariant.1 c.put.ensures.grown,
     )
 
 pub returns-clause-held : goal.returns-clause-held
 returns-clause-held c =
-    held_leaf c.self.inside.spec c.self.inside.trees c.grow_leaf.new.trees c.self.inside.pool c.put.new.self c.put.ensures.grown c.self.invariant.0 c.grow_leaf.ensures.kids c.grow_leaf.ensures.forest
+    held_leaf c.self.inside.spec c.self.inside.view c.self.inside.trees c.grow_leaf.new.trees c.self.inside.pool c.put.new.self c.put.ensures.grown c.self.invariant.0 c.grow_leaf.ensures.kids c.grow_leaf.ensures.forest
     c.args.p c.in_ok-id.id c.args.v.now c.grow_leaf.result c.in_ok-id.ensures.stands c.grow_leaf.ensures.tree
 
 pub returns-clause-fresh : goal.returns-clause-fresh
 returns-clause-fresh c =
     rw (← c.self.view_is)
-    (was_free c.self.inside.spec c.self.inside.trees c.grow_leaf.new.trees c.self.inside.pool c.put.new.self c.put.ensures.grown c.self.invariant.0 c.grow_leaf.ensures.kids c.grow_leaf.ensures.forest
+    (was_free c.self.inside.spec c.self.inside.view c.self.inside.trees c.grow_leaf.new.trees c.self.inside.pool c.put.new.self c.put.ensures.grown c.self.invariant.0 c.grow_leaf.ensures.kids c.grow_leaf.ensures.forest
     (leaf_kind c.args.p) (leaf_part c.in_ok-id.id) [] c.grow_leaf.result c.grow_leaf.ensures.grown)
 
 pub returns-clause-roots : goal.returns-clause-roots
 returns-clause-roots c = rw (← c.self.view_is) c.grow_leaf.ensures.roots
 
 pub returns-clause-kept : goal.returns-clause-kept
-returns-clause-kept c = rw (← c.self.view_is) (record { spec = refl; pool = c.put.ensures.grown; kids = c.grow_leaf.ensures.kids; ways = c.grow_leaf.ensures.ways })
+returns-clause-kept c = rw (← c.self.view_is) (record { spec = refl; view = refl; pool = c.put.ensures.grown; kids = c.grow_leaf.ensures.kids; ways = c.grow_leaf.ensures.ways })
 
 pub returns-clause-terms : goal.returns-clause-terms
 returns-clause-terms c =
     rw (← c.self.view_is)
-    (λ m t h. Holds-stays c.self.inside.spec c.self.inside.trees c.grow_leaf.new.trees c.self.inside.pool c.put.new.self c.put.ensures.grown c.self.invariant.0 m t (KeepsTrees-kids _ _ c.grow_leaf.ensures.kids m) h)
+    (λ m t h. Holds-stays c.self.inside.spec c.self.inside.view c.self.inside.trees c.grow_leaf.new.trees c.self.inside.pool c.put.new.self c.put.ensures.grown c.self.invariant.0 m t (KeepsTrees-kids _ _ c.grow_leaf.ensures.kids m) h)
 
 pub returns-in_err-id-clause-kept : goal.returns-in_err-id-clause-kept
-returns-in_err-id-clause-kept c = rw (← c.self.view_is) (record { spec = refl; pool = c.put.ensures.grown; kids = KeepsKids-same _; ways = λ path n m way. way })
+returns-in_err-id-clause-kept c = rw (← c.self.view_is) (record { spec = refl; view = refl; pool = c.put.ensures.grown; kids = KeepsKids-same _; ways = λ path n m way. way })
 
 pub returns-in_err-id-clause-terms : goal.returns-in_err-id-clause-terms
 returns-in_err-id-clause-terms c =
-    rw (← c.self.view_is) (λ m t h. Holds-stays c.self.inside.spec c.self.inside.trees c.self.inside.trees c.self.inside.pool c.put.new.self c.put.ensures.grown c.self.invariant.0 m t (λ tree s. s) h)
+    rw (← c.self.view_is) (λ m t h. Holds-stays c.self.inside.spec c.self.inside.view c.self.inside.trees c.self.inside.trees c.self.inside.pool c.put.new.self c.put.ensures.grown c.self.invariant.0 m t (λ tree s. s) h)

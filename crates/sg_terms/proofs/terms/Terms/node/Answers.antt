@@ -30,7 +30,7 @@ grow-requires-clause-roots c = let roots = rw (← c.self.view_is) at c.requires
 pub invariant_of-self : goal.invariant_of-self
 invariant_of-self c =
     let roots = rw (← c.self.view_is) at c.requires.roots in (
-      IsGrove-node c.self.inside.spec c.self.inside.trees c.grow.new.trees c.self.inside.pool c.self.inside.pool (grown_itself c.self.inside.pool) c.self.invariant.0 c.grow.ensures.kids c.grow.ensures.forest
+      IsGrove-node c.self.inside.spec c.self.inside.view c.self.inside.trees c.grow.new.trees c.self.inside.pool c.self.inside.pool (grown_itself c.self.inside.pool) c.self.invariant.0 c.grow.ensures.kids c.grow.ensures.forest
           c.args.op c.kind_of-kind.result (record { scheme = c.args.scheme; elided = c.args.elided; values = c.new.result }) c.args.kids.items c.grow.result c.kind_of-kind.ensures.op c.kind_of-kind.ensures.phylum c.kind_of-kind.ensures.arity c.requires.scheme
           (ap length c.new.ensures ∙ c.in-Ok.ensures.count) (subst (All (λ k. k ≡ 0)) (sym c.new.ensures) c.in-Ok.ensures.zero) roots c.grow.ensures.grown c.grow.ensures.err,
       c.self.invariant.1,
@@ -39,19 +39,19 @@ invariant_of-self c =
 pub returns-clause-held : goal.returns-clause-held
 returns-clause-held c =
     rw (← c.self.view_is)
-    (held_node c.self.inside.spec c.self.inside.trees c.grow.new.trees c.self.inside.pool c.self.inside.pool (grown_itself c.self.inside.pool) c.self.invariant.0 c.grow.ensures.kids c.grow.ensures.forest
+    (held_node c.self.inside.spec c.self.inside.view c.self.inside.trees c.grow.new.trees c.self.inside.pool c.self.inside.pool (grown_itself c.self.inside.pool) c.self.invariant.0 c.grow.ensures.kids c.grow.ensures.forest
     c.args.op c.kind_of-kind.result (record { scheme = c.args.scheme; elided = c.args.elided; values = c.new.result }) c.args.kids.items c.grow.result c.kind_of-kind.ensures.op refl c.grow.ensures.tree)
 
 pub returns-clause-unknown : goal.returns-clause-unknown
 returns-clause-unknown c =
     rw (← c.self.view_is)
-    (unknown_node c.self.inside.spec c.self.inside.trees c.grow.new.trees c.self.inside.pool c.self.inside.pool (grown_itself c.self.inside.pool) c.self.invariant.0 c.grow.ensures.kids c.grow.ensures.forest
+    (unknown_node c.self.inside.spec c.self.inside.view c.self.inside.trees c.grow.new.trees c.self.inside.pool c.self.inside.pool (grown_itself c.self.inside.pool) c.self.invariant.0 c.grow.ensures.kids c.grow.ensures.forest
     c.args.op c.kind_of-kind.result (record { scheme = c.args.scheme; elided = c.args.elided; values = c.new.result }) c.args.kids.items c.grow.result (ap length c.new.ensures ∙ c.in-Ok.ensures.count) (subst (All (λ k. k ≡ 0)) (sym c.new.ensures) c.in-Ok.ensures.zero) c.grow.ensures.grown)
 
 pub returns-clause-kept : goal.returns-clause-kept
-returns-clause-kept c = rw (← c.self.view_is) (record { spec = refl; pool = grown_itself c.self.inside.pool; kids = c.grow.ensures.kids; ways = c.grow.ensures.ways })
+returns-clause-kept c = rw (← c.self.view_is) (record { spec = refl; view = refl; pool = grown_itself c.self.inside.pool; kids = c.grow.ensures.kids; ways = c.grow.ensures.ways })
 
 pub returns-clause-terms : goal.returns-clause-terms
 returns-clause-terms c =
     rw (← c.self.view_is)
-    (λ m t h. Holds-stays c.self.inside.spec c.self.inside.trees c.grow.new.trees c.self.inside.pool c.self.inside.pool (grown_itself c.self.inside.pool) c.self.invariant.0 m t (KeepsTrees-kids _ _ c.grow.ensures.kids m) h)
+    (λ m t h. Holds-stays c.self.inside.spec c.self.inside.view c.self.inside.trees c.grow.new.trees c.self.inside.pool c.self.inside.pool (grown_itself c.self.inside.pool) c.self.invariant.0 m t (KeepsTrees-kids _ _ c.grow.ensures.kids m) h)

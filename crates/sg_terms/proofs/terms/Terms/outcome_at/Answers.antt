@@ -17,7 +17,7 @@ pub gather-requires-clause-there : goal.gather-requires-clause-there
 gather-requires-clause-there c =
     let operator = rw (← c.self.view_is) at c.requires.operator in
     let r = c.item-equation.result.now in
-    let g = grove c.self.inside.spec c.self.inside.trees c.self.inside.pool in
+    let g = grove c.self.inside.spec c.self.inside.view c.self.inside.trees c.self.inside.pool in
     let at : slice_get c.self.inside.spec.rules c.args.rule ≡ Some r = ap (λ l. slice_get l c.args.rule) (sym c.as_slice.ensures) ∙ ap (slice_get c.as_slice.result.now) (sym c.rule.view_is) ∙ c.item-equation.ensures in
     let is = ready g c.self.invariant.0 c.args.n c.args.rule r at (operator r at) in
     subst (All (λ o. IsSome (number_for c.self.inside.trees c.args.n o))) (sym c.as_slice-2.ensures) is.there
@@ -27,7 +27,7 @@ gather-requires-clause-forest c = c.self.invariant.0.forest
 
 pub returns-in_err-gather-clause-kept : goal.returns-in_err-gather-clause-kept
 returns-in_err-gather-clause-kept c =
-    rw (← c.self.view_is) (OnlyStored-none c.self.inside.trees c.self.inside.trees refl c.self.inside.spec c.self.inside.pool c.self.inside.pool (grown_itself c.self.inside.pool))
+    rw (← c.self.view_is) (OnlyStored-none c.self.inside.trees c.self.inside.trees refl c.self.inside.spec c.self.inside.view c.self.inside.pool c.self.inside.pool (grown_itself c.self.inside.pool))
 
 pub run-requires-clause-rule : goal.run-requires-clause-rule
 run-requires-clause-rule c =
@@ -39,7 +39,7 @@ pub run-requires-clause-args : goal.run-requires-clause-args
 run-requires-clause-args c =
     let operator = rw (← c.self.view_is) at c.requires.operator in
     let r = c.item-equation.result.now in
-    let g = grove c.self.inside.spec c.self.inside.trees c.self.inside.pool in
+    let g = grove c.self.inside.spec c.self.inside.view c.self.inside.trees c.self.inside.pool in
     let at : slice_get c.self.inside.spec.rules c.args.rule ≡ Some r = ap (λ l. slice_get l c.args.rule) (sym c.as_slice.ensures) ∙ ap (slice_get c.as_slice.result.now) (sym c.rule.view_is) ∙ c.item-equation.ensures in
     let is = ready g c.self.invariant.0 c.args.n c.args.rule r at (operator r at) in
     let known = is.known c.gather.new.numbers.items (c.in_ok-gather.ensures ∙ ap (map (number_for c.self.inside.trees c.args.n)) c.as_slice-2.ensures) in
@@ -53,7 +53,7 @@ run-requires-clause-made c =
 pub invariant_of-self-2 : goal.invariant_of-self-2
 invariant_of-self-2 c =
     let same = rw (← c.self.view_is) at c.requires.same in (
-      IsGrove-same c.self.inside.spec c.self.inside.trees c.self.inside.trees c.self.inside.pool c.run.new.pool c.run.ensures.grown c.self.invariant.0 refl,
+      IsGrove-same c.self.inside.spec c.self.inside.view c.self.inside.trees c.self.inside.trees c.self.inside.pool c.run.new.pool c.run.ensures.grown c.self.invariant.0 refl,
       subst (λ (s : Spec). AreMade s c.run.new.made c.run.new.pool) same c.run.ensures.made,
     )
 
@@ -62,7 +62,7 @@ returns-clause-outcome c =
     let same = rw (← c.self.view_is) at c.requires.same in
     let operator = rw (← c.self.view_is) at c.requires.operator in
     let r = c.item-equation.result.now in
-    let g = grove c.self.inside.spec c.self.inside.trees c.self.inside.pool in
+    let g = grove c.self.inside.spec c.self.inside.view c.self.inside.trees c.self.inside.pool in
     let at : slice_get c.self.inside.spec.rules c.args.rule ≡ Some r = ap (λ l. slice_get l c.args.rule) (sym c.as_slice.ensures) ∙ ap (slice_get c.as_slice.result.now) (sym c.rule.view_is) ∙ c.item-equation.ensures in
     let is = ready g c.self.invariant.0 c.args.n c.args.rule r at (operator r at) in
     let known = is.known c.gather.new.numbers.items (c.in_ok-gather.ensures ∙ ap (map (number_for c.self.inside.trees c.args.n)) c.as_slice-2.ensures) in
@@ -78,17 +78,17 @@ returns-clause-storable c =
     let operator = rw (← c.self.view_is) at c.requires.operator in
     let bearer = rw (← c.self.view_is) at c.requires.bearer in
     let r = c.item-equation.result.now in
-    let g = grove c.self.inside.spec c.self.inside.trees c.self.inside.pool in
-    let later = grove c.self.inside.spec c.self.inside.trees c.run.new.pool in
+    let g = grove c.self.inside.spec c.self.inside.view c.self.inside.trees c.self.inside.pool in
+    let later = grove c.self.inside.spec c.self.inside.view c.self.inside.trees c.run.new.pool in
     let at : slice_get c.self.inside.spec.rules c.args.rule ≡ Some r = ap (λ l. slice_get l c.args.rule) (sym c.as_slice.ensures) ∙ ap (slice_get c.as_slice.result.now) (sym c.rule.view_is) ∙ c.item-equation.ensures in
     let is = ready g c.self.invariant.0 c.args.n c.args.rule r at (operator r at) in
     let known = is.known c.gather.new.numbers.items (c.in_ok-gather.ensures ∙ ap (map (number_for c.self.inside.trees c.args.n)) c.as_slice-2.ensures) in
     let run = subst (λ (s : Spec). (q : Rule) → slice_get s.rules c.args.rule ≡ Some q → IfOk c.run.result (λ id. StandsFor c.run.new.pool id (outcome s q (map (value_at c.self.inside.pool) c.deref.result.now)))) same c.run.ensures.outcome in
     let here = subst (λ vs. IfOk c.run.result (λ id. StandsFor c.run.new.pool id (outcome c.self.inside.spec r vs))) (ap (map (value_at c.self.inside.pool)) c.deref.ensures.value ∙ known.1) (run r at) in
-    let held = IsGrove-same c.self.inside.spec c.self.inside.trees c.self.inside.trees c.self.inside.pool c.run.new.pool c.run.ensures.grown c.self.invariant.0 refl in
+    let held = IsGrove-same c.self.inside.spec c.self.inside.view c.self.inside.trees c.self.inside.trees c.self.inside.pool c.run.new.pool c.run.ensures.grown c.self.invariant.0 refl in
     let to = bearer r at in
     storable_result later held c.args.n c.args.rule r at (operator r at) c.args.node c.args.slot (record { there = to.there; slot_is = to.slot_is }) (map (value_for g c.args.n) r.args) is.types is.have is.typed c.run.result here
 
 pub returns-clause-kept : goal.returns-clause-kept
 returns-clause-kept c =
-    rw (← c.self.view_is) (OnlyStored-none c.self.inside.trees c.self.inside.trees refl c.self.inside.spec c.self.inside.pool c.run.new.pool c.run.ensures.grown)
+    rw (← c.self.view_is) (OnlyStored-none c.self.inside.trees c.self.inside.trees refl c.self.inside.spec c.self.inside.view c.self.inside.pool c.run.new.pool c.run.ensures.grown)

@@ -22,4 +22,4 @@ returns-clause-typed c = rw (← c.self.view_is) (λ op is. storable_again _ c.s
 pub returns-clause-leaf : goal.returns-clause-leaf
 returns-clause-leaf c =
     rw (← c.self.view_is)
-    (λ p v h. let x = number_node (grove c.self.inside.spec c.self.inside.trees c.self.inside.pool) c.args.n c.args.slot c.number.result c.number.ensures in leaf_told _ c.self.invariant.0 c.args.n x.0 x.1 p v c.args.slot c.number.result h c.number.ensures)
+    (λ p v h. let x = number_node (grove c.self.inside.spec c.self.inside.view c.self.inside.trees c.self.inside.pool) c.args.n c.args.slot c.number.result c.number.ensures in leaf_told _ c.self.invariant.0 c.args.n x.0 x.1 p v c.args.slot c.number.result h c.number.ensures)

@@ -16,7 +16,7 @@ invariant_of-self c =
     let live = rw (← c.self.view_is) at c.requires.live in
     let root = rw (← c.self.view_is) at c.requires.root in
     let phyla = rw (← c.self.view_is) at c.requires.phyla in (
-      IsGrove-exchanged c.self.inside.spec c.self.inside.trees c.swap.new.self c.self.inside.pool c.self.invariant.0 c.args.at c.args.detached live root c.swap.ensures.swapped c.swap.ensures.unchanged c.swap.ensures.parts phyla c.swap.ensures.forest,
+      IsGrove-exchanged c.self.inside.spec c.self.inside.view c.self.inside.trees c.swap.new.self c.self.inside.pool c.self.invariant.0 c.args.at c.args.detached live root c.swap.ensures.swapped c.swap.ensures.unchanged c.swap.ensures.parts phyla c.swap.ensures.forest,
       c.self.invariant.1,
     )
 
@@ -28,17 +28,17 @@ returns-clause-numbers c =
     let live = rw (← c.self.view_is) at c.requires.live in
     let root = rw (← c.self.view_is) at c.requires.root in
     rw (← c.self.view_is)
-    (numbers_swapped c.self.inside.spec c.self.inside.trees c.swap.new.self c.self.inside.pool c.self.invariant.0 c.args.at c.args.detached live root c.swap.ensures.swapped c.swap.ensures.unchanged c.swap.ensures.parts)
+    (numbers_swapped c.self.inside.spec c.self.inside.view c.self.inside.trees c.swap.new.self c.self.inside.pool c.self.invariant.0 c.args.at c.args.detached live root c.swap.ensures.swapped c.swap.ensures.unchanged c.swap.ensures.parts)
 
 pub returns-clause-replaced : goal.returns-clause-replaced
 returns-clause-replaced c =
-    subst (λ (g : Grove). ReplacesTerms g (grove c.self.inside.spec c.swap.new.self c.self.inside.pool) c.args.at c.args.detached) c.self.view_is
-    (Holds-replaced c.self.inside.spec c.self.inside.trees c.swap.new.self c.self.inside.pool c.self.invariant.0 c.args.at c.args.detached c.swap.ensures.replaced)
+    subst (λ (g : Grove). ReplacesTerms g (grove c.self.inside.spec c.self.inside.view c.swap.new.self c.self.inside.pool) c.args.at c.args.detached) c.self.view_is
+    (Holds-replaced c.self.inside.spec c.self.inside.view c.self.inside.trees c.swap.new.self c.self.inside.pool c.self.invariant.0 c.args.at c.args.detached c.swap.ensures.replaced)
 
 pub returns-clause-terms : goal.returns-clause-terms
 returns-clause-terms c =
     rw (← c.self.view_is)
-    (λ m t not h. Holds-stays c.self.inside.spec c.self.inside.trees c.swap.new.self c.self.inside.pool c.self.inside.pool (grown_itself c.self.inside.pool) c.self.invariant.0 m t (λ tree s. c.swap.ensures.trees m tree not s) h)
+    (λ m t not h. Holds-stays c.self.inside.spec c.self.inside.view c.self.inside.trees c.swap.new.self c.self.inside.pool c.self.inside.pool (grown_itself c.self.inside.pool) c.self.invariant.0 m t (λ tree s. c.swap.ensures.trees m tree not s) h)
 
 pub returns-clause-placed : goal.returns-clause-placed
 returns-clause-placed c = rw (← c.self.view_is) c.swap.ensures.placed
