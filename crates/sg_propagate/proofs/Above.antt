@@ -28,7 +28,7 @@ use Rattle.sg_plans.proofs.Visiting as visiting
 use Rattle.sg_plans.proofs.Ways.{visits_rise}
 use Rattle.sg_attrib.specs.Visited as visited
 use Rattle.sg_attrib.specs.Visited.{HasEquation}
-use Rattle.sg_work.specs.Worklist.{Worklist}
+use Rattle.sg_propagate.specs.Worklist.{Worklist}
 use Rattle.sg_propagate.specs.Scenes.{Scene, term_now, value_now, value_was, AreFine, AreStale, IsCalm, IsFine, IsStaged}
 use Rattle.sg_propagate.specs.Moves.{AreMeant, IsGivenFrom, IsKnownFrom, IsMore, IsOnStage, Moves}
 use Rattle.sg_propagate.proofs.Composed.{moves_ok, moves_twice}

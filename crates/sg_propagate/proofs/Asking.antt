@@ -23,7 +23,7 @@ use Rattle.sg_dependencies.specs.Vertices.{IsVertex, locals_there}
 use Rattle.sg_terms.specs.Found.{op_at}
 use Rattle.sg_terms.specs.Occurrences.{node_there}
 use Rattle.sg_attrib.proofs.Nodes.{operation_is}
-use Rattle.sg_work.specs.Worklist.{Worklist}
+use Rattle.sg_propagate.specs.Worklist.{Worklist}
 use Rattle.sg_propagate.specs.Scenes.{AreTops, ShowsOther, own, at_top, below}
 use Rattle.sg_propagate.proofs.Updating.{HasOneNumber}
 use Rattle.sg_propagate.proofs.Exits.{argument_there, child_low, child_there}

@@ -11,7 +11,7 @@ use Rattle.sg_groves.specs.Grove.{Grove, nodes, IsGrove}
 use Rattle.sg_groves.proofs.Frames.{only_itself, only_more, only_twice, only_climbed}
 use Rattle.sg_terms.specs.Entries.{Gained, GainedAll}
 use Rattle.sg_attrib.proofs.Listed.{gained_before, gained_all_before, gained_more, gained_same, gained_nothing, gained_twice, gained_all_twice}
-use Rattle.sg_work.specs.Worklist.{Worklist}
+use Rattle.sg_propagate.specs.Worklist.{Worklist}
 use Rattle.sg_propagate.specs.Scenes.{Scene, term_now, IsMeant, IsStaged, AreFine, AreNoted}
 use Rattle.sg_propagate.specs.Moves.{AreMeant, IsRefSlot, IsMore, Moves}
 use Rattle.sg_propagate.proofs.Staged.{more_itself, more_twice, fine_kept}

@@ -30,7 +30,7 @@ use Rattle.sg_terms.specs.Occurrences.{node_there}
 use Rattle.sg_attrib.specs.Visited.{IsArgument}
 use Rattle.sg_attrib.proofs.Nodes.{StandsThere, op_node, stands_there}
 use Rattle.sg_attrib.proofs.Evaluated.{argument_vertex}
-use Rattle.sg_work.specs.Worklist.{Worklist}
+use Rattle.sg_propagate.specs.Worklist.{Worklist}
 use Rattle.sg_propagate.specs.Scenes.{Scene, term_now, value_was, IsOther, IsStaged, IsFine, AreFine, ShowsOther, own, at_top, below}
 use Rattle.sg_propagate.specs.Moves.{IsOnStage}
 use Rattle.sg_propagate.proofs.Staged.{same_ref}

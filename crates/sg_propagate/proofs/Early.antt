@@ -42,9 +42,9 @@ use Rattle.sg_plans.proofs.Nodes.{below_at, node_at, node_on_way, not_held}
 use Rattle.sg_plans.proofs.Visiting.{visit_some}
 use Rattle.sg_plans.proofs.Ways.{one_way, position_joins, visit_high, visit_low, visits_rise}
 use Rattle.sg_attrib.proofs.Stepped.{taken_not_given}
-use Rattle.sg_work.proofs.Changing.{leaf_same}
-use Rattle.sg_work.proofs.Clean as untouched
-use Rattle.sg_work.proofs.Clean.{IsClosed}
+use Rattle.sg_propagate.proofs.Changing.{leaf_same}
+use Rattle.sg_propagate.proofs.Clean as untouched
+use Rattle.sg_propagate.proofs.Clean.{IsClosed}
 use Rattle.sg_propagate.proofs.Given.{given_below}
 use Rattle.sg_propagate.specs.Scenes.{Scene, term_now, value_now, value_was}
 

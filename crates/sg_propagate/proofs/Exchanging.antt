@@ -60,11 +60,11 @@ pub record IsSwap (old mid : Grove) (at detached : NodeId) : Type 0 where
   pub moved : MovesWays (nodes old) (nodes mid) at detached
 
 pub is_swap : (old mid : Grove) (at detached : NodeId) → IsLive (nodes old) at → IsRoot (nodes old) detached → (IsInside (nodes old) at detached → ⊥) → SameSort (λ (k : Kind). k.phylum) (nodes old) at detached
-    → ((p : NodeId) (k : ℕ) → IsChild (nodes old) at p k → IsSwapped (nodes old) (nodes mid) at detached p k) → (IsRoot (nodes old) at → mid ≡ old) → mid.spec ≡ old.spec → mid.pool ≡ old.pool → KeepsParts (nodes old) (nodes mid)
+    → ((p : NodeId) (k : ℕ) → IsChild (nodes old) at p k → IsSwapped (nodes old) (nodes mid) at detached p k) → (IsRoot (nodes old) at → mid ≡ old) → mid.spec ≡ old.spec → mid.view ≡ old.view → mid.pool ≡ old.pool → KeepsParts (nodes old) (nodes mid)
     → ((m : NodeId) (slot : ℕ) → number_at mid m slot ≡ number_at old m slot) → ReplacesTerms old mid at detached → KeepsTermsNotOver old mid at → IsRoot (nodes mid) at → KeepsOtherRoots old mid at detached
     → KeepsWaysWithin (nodes old) (nodes mid) at → MovesWays (nodes old) (nodes mid) at detached → IsSwap old mid at detached
-is_swap old mid at detached live root apart phyla swapped same spec pool parts numbers replaced terms freed roots ways moved = record {
-  exchanged = record { spec = spec; pool = pool; live = live; root = root; apart = apart; phyla = phyla; swapped = swapped; unchanged = λ top n. ap (λ (g : Grove). nodes g n) (same top); numbers = numbers };
+is_swap old mid at detached live root apart phyla swapped same spec view pool parts numbers replaced terms freed roots ways moved = record {
+  exchanged = record { spec = spec; view = view; pool = pool; live = live; root = root; apart = apart; phyla = phyla; swapped = swapped; unchanged = λ top n. ap (λ (g : Grove). nodes g n) (same top); numbers = numbers };
   same = same;
   parts = parts;
   replaced = replaced;

@@ -36,7 +36,7 @@ use Rattle.sg_trail.specs.declared.entry.WasStored.{WasStored}
 use Rattle.sg_trail.specs.Trails.{IsAnySlot, IsCovered, Way}
 use Rattle.sg_attrib.specs.Visited.{IsArgument, IsNeeded, IsStepGiven, Gives}
 use Rattle.sg_attrib.proofs.Listed.{gained_nothing}
-use Rattle.sg_work.specs.Worklist.{Worklist}
+use Rattle.sg_propagate.specs.Worklist.{Worklist}
 use Rattle.sg_propagate.specs.Scenes.{Scene, term_now, AreFine, AreStale, ShowsOther}
 use Rattle.sg_propagate.specs.Moves.{AreMeant, Announces, IsRefSlot, IsOnStage, IsTracked, Moves, Refs, Repairs}
 use Rattle.sg_propagate.proofs.Stepped.{repairs_nothing}

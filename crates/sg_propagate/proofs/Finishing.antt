@@ -24,7 +24,7 @@ use Rattle.sg_groves.proofs.Held.{held_fits, part_held}
 use Rattle.sg_groves.proofs.Lists.{contains_none}
 use Rattle.sg_plans.proofs.Nodes.{fitting_phylum}
 use Rattle.sg_trail.specs.Trails.{Way}
-use Rattle.sg_work.specs.Worklist.{Worklist}
+use Rattle.sg_propagate.specs.Worklist.{Worklist}
 use Rattle.sg_propagate.specs.Moves.{Finishes, IsOnStage, IsSlotAt, IsTouched, IsTracked, Repairs, within}
 use Rattle.sg_propagate.specs.Scenes.{Scene, term_now, AreStale, AreTops, IsSetUp, IsStaged}
 use Rattle.sg_propagate.proofs.Risen.{IsEquation, NeedsNothing, not_longer}

@@ -25,7 +25,7 @@ use Rattle.sg_terms.specs.Entries.{Gained, GainedAll}
 use Rattle.sg_attrib.specs.Visited.{AreRight, IsGiven, IsKnown, IsSlotOf, IsStepGiven, Gives}
 use Rattle.sg_attrib.proofs.Placed.{Sets, kid_placed, of_slot, one_place}
 use Rattle.sg_attrib.proofs.Listed.{gained_more, gained_same}
-use Rattle.sg_work.specs.Worklist.{Worklist}
+use Rattle.sg_propagate.specs.Worklist.{Worklist}
 use Rattle.sg_propagate.specs.Scenes.{Scene, term_now, value_now, IsMeant, AreNoted, AreFine}
 use Rattle.sg_propagate.specs.Moves.{AreMeant, IsRefSlot, IsMore, IsOnStage, Moves}
 use Rattle.sg_propagate.proofs.Staged.{more_itself, noted_still}

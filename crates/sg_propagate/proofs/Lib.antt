@@ -1,3 +1,6 @@
+pub mod Changing
+pub mod Members
+pub mod Clean
 pub mod Staged
 pub mod Composed
 pub mod Stepped

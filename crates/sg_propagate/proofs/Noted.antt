@@ -26,7 +26,7 @@ use Rattle.sg_attrib.specs.Visited.{IsVisited}
 use Rattle.sg_attrib.proofs.Calls.{count_is, op_there}
 use Rattle.sg_attrib.proofs.Nodes.{has_visit, label_op, planned}
 use Rattle.sg_attrib.proofs.Placed.{has_place, kid_placed}
-use Rattle.sg_work.specs.Worklist.{Worklist}
+use Rattle.sg_propagate.specs.Worklist.{Worklist}
 use Rattle.sg_propagate.specs.Moves.{IsQuiet, IsSeat, IsUp}
 use Rattle.sg_propagate.proofs.Seats.{seat_there}
 use Rattle.sg_propagate.proofs.Tops.{phylum_low}

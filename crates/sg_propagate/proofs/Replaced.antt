@@ -117,6 +117,9 @@ module _ {A E : Type 0} (old new : Grove) (is : IsGrove old) (at detached : Node
   pub spec_same : new.spec ≡ old.spec
   spec_same = e.stored.spec ∙ e.exchanged.spec
 
+  pub view_same : new.view ≡ old.view
+  view_same = e.stored.view ∙ e.exchanged.view
+
   pub pool_grown : IsGrown old.pool new.pool
   pool_grown = subst (λ (vs : List Value). IsGrown vs new.pool) e.exchanged.pool e.stored.pool
 

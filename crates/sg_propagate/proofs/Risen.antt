@@ -34,8 +34,8 @@ use Rattle.sg_attrib.specs.Visited as visited
 use Rattle.sg_attrib.specs.Visited.{HasEquation, IsGiven, IsGivenUpTo, IsKnown, IsNothing}
 use Rattle.sg_attrib.proofs.Listed.{gained_more, gained_same}
 use Rattle.sg_attrib.proofs.Nodes.{op_live, operation_is}
-use Rattle.sg_work.specs.Worklist.{Worklist}
-use Rattle.sg_work.proofs.Changing.{same_or_not}
+use Rattle.sg_propagate.specs.Worklist.{Worklist}
+use Rattle.sg_propagate.proofs.Changing.{same_or_not}
 use Rattle.sg_propagate.specs.Scenes.{Scene, term_now, value_now, value_was, AreFine, AreStale, IsCalm, IsFine, IsStaged}
 use Rattle.sg_propagate.specs.Exchanged.{IsReach}
 use Rattle.sg_propagate.specs.Moves.{AreMeant, IsMore, IsOnStage, IsQuiet, IsRefSlot, Moves, Refs}

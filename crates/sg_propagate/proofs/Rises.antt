@@ -34,7 +34,7 @@ use Rattle.sg_plans.proofs.Visiting.{visit_there}
 use Rattle.sg_trail.specs.Trails.{IsAnySlot, Way}
 use Rattle.sg_attrib.specs.Visited.{IsGiven, IsKnown, IsVisited}
 use Rattle.sg_attrib.proofs.Nodes.{has_visit, is_visited, op_in, op_live}
-use Rattle.sg_work.specs.Worklist.{Worklist}
+use Rattle.sg_propagate.specs.Worklist.{Worklist}
 use Rattle.sg_propagate.specs.Scenes.{Scene, term_now, AreStale}
 use Rattle.sg_propagate.specs.Exchanged.{IsReach}
 use Rattle.sg_propagate.specs.Moves.{IsGivenFrom, IsKnownFrom, IsOnStage, IsQuiet, IsTracked, IsUp, Moves, Repairs}

@@ -23,9 +23,9 @@ use Rattle.sg_trail.specs.Trails.{IsAnySlot, Way}
 use Rattle.sg_attrib.specs.Visited as visited
 use Rattle.sg_attrib.specs.Visited.{IsGiven, IsKnown, IsNeeded, IsSlotOf, IsStepGiven, IsVisited, Gives}
 use Rattle.sg_attrib.proofs.Stepped.{taken_not_given}
-use Rattle.sg_work.specs.Worklist.{Worklist}
-use Rattle.sg_work.proofs.Changing.{one_above, same_or_not}
-use Rattle.sg_work.proofs.Clean.{visit_clean}
+use Rattle.sg_propagate.specs.Worklist.{Worklist}
+use Rattle.sg_propagate.proofs.Changing.{one_above, same_or_not}
+use Rattle.sg_propagate.proofs.Clean.{visit_clean}
 use Rattle.sg_propagate.specs.Scenes.{Scene, term_now, value_now, value_was, IsCalm, AreFine}
 use Rattle.sg_propagate.specs.Moves.{IsOnStage, Repairs}
 use Rattle.sg_propagate.proofs.Composed.{moves_again}

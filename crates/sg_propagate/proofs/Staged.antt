@@ -16,8 +16,8 @@ use Rattle.sg_plans.specs.Planned.{IsPlanned}
 use Rattle.sg_plans.specs.Segments.{IsOutside}
 use Rattle.sg_plans.proofs.Bearers.{found_bears, found_live}
 use Rattle.sg_attrib.proofs.Placed.{placed_still}
-use Rattle.sg_work.specs.Worklist.{Worklist}
-use Rattle.sg_work.proofs.Changing.{cut, same_or_not}
+use Rattle.sg_propagate.specs.Worklist.{Worklist}
+use Rattle.sg_propagate.proofs.Changing.{cut, same_or_not}
 use Rattle.sg_propagate.specs.Scenes.{Scene, term_now, value_now, value_was, IsMeant, IsCalm, AreNoted, IsStaged, IsFine}
 use Rattle.sg_propagate.specs.Moves.{IsRefSlot, IsMore, IsOnStage}
 

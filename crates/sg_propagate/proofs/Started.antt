@@ -28,7 +28,7 @@ use Rattle.sg_terms.specs.Entries.{Gained, GainedAll}
 use Rattle.sg_terms.proofs.Same.{Stands-grown}
 use Rattle.sg_attrib.proofs.Listed.{gained_all_before, gained_before, gained_more, gained_same}
 use Rattle.sg_attrib.proofs.Placed.{placed_still}
-use Rattle.sg_work.specs.Worklist.{Worklist}
+use Rattle.sg_propagate.specs.Worklist.{Worklist}
 use Rattle.sg_propagate.specs.Scenes.{Scene, term_now, value_now, value_was, IsMeant, IsCalm, IsStaged, IsSetUp, AreFine, AreStale}
 use Rattle.sg_propagate.specs.Moves.{AreMeant, Finishes, IsSlotAt, IsTouched, IsRefSlot, Moves, within, meant}
 use Rattle.sg_propagate.proofs.Staged.{calm_outside, calm_same}

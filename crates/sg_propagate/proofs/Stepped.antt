@@ -37,8 +37,8 @@ use Rattle.sg_attrib.proofs.Stepped.{known_not_given}
 use Rattle.sg_attrib.proofs.Nodes.{not_held, op_in, label_op, has_visit}
 use Rattle.sg_attrib.proofs.Evaluated.{argument_vertex}
 use Rattle.sg_attrib.proofs.Leaves.{leaf_right}
-use Rattle.sg_work.specs.Worklist.{Worklist}
-use Rattle.sg_work.proofs.Changing.{leaf_same}
+use Rattle.sg_propagate.specs.Worklist.{Worklist}
+use Rattle.sg_propagate.proofs.Changing.{leaf_same}
 use Rattle.sg_propagate.specs.Scenes.{Scene, term_now, IsCalm, IsStaged, IsFine, AreFine, AreStale}
 use Rattle.sg_propagate.specs.Moves.{AreMeant, IsGivenFrom, IsKnownFrom, IsRefSlot, IsOnStage, Moves, Refs, Repairs}
 use Rattle.sg_propagate.proofs.Staged.{calm_fine, fine_kept, value_kept, staged_still, on_stage_still}

@@ -90,6 +90,7 @@ module _ (g : Grove) (is : IsGrove g) (at detached : NodeId) (live : IsLive (nod
   nothing_moved : IsRoot (nodes g) at → IsExchanged g g at detached
   nothing_moved top = record {
     spec = refl;
+    view = refl;
     pool = refl;
     live = live;
     root = root;
@@ -114,11 +115,12 @@ module _ (g : Grove) (is : IsGrove g) (at detached : NodeId) (live : IsLive (nod
     parent_is_detached e = apart (record { path = k ∷ []; climbs = (p, hangs, e) })
 
     abbrev later : Grove
-    later = record { spec = g.spec; trees = swapped_trees g.trees at detached p k hangs.node root.node parent.node detached_is parent_is_at parent_is_detached hangs.found root.found parent.found; pool = g.pool }
+    later = record { spec = g.spec; trees = swapped_trees g.trees at detached p k hangs.node root.node parent.node detached_is parent_is_at parent_is_detached hangs.found root.found parent.found; pool = g.pool; view = g.view }
 
     moved : IsExchanged g later at detached
     moved = record {
       spec = refl;
+      view = refl;
       pool = refl;
       live = live;
       root = root;

@@ -38,7 +38,7 @@ use Rattle.sg_terms.specs.Occurrences.{IsBearer}
 use Rattle.sg_terms.proofs.Same.{Stands-grown}
 use Rattle.sg_attrib.specs.Visited.{IsArgument, IsStepGiven, Gives}
 use Rattle.sg_attrib.proofs.Nodes.{StandsThere, op_label, stands_there}
-use Rattle.sg_work.specs.Worklist.{Worklist}
+use Rattle.sg_propagate.specs.Worklist.{Worklist}
 use Rattle.sg_propagate.specs.Scenes.{Scene, term_now, value_now, value_was, IsOther, IsMeant, IsCalm, IsFine, AreFine, AreStale}
 use Rattle.sg_propagate.specs.Moves.{AreMeant, Announces, IsRefSlot, IsOnStage, Moves}
 use Rattle.sg_propagate.proofs.Staged.{noted_still}

@@ -1,3 +1,4 @@
+pub mod Worklist
 pub mod Scenes
 pub mod Moves
 pub mod Asked

@@ -21,7 +21,7 @@ use Rattle.sg_plans.specs.Segments.{IsGivenBy, IsOutside}
 use Rattle.sg_plans.specs.Stepping.{IsGivenBefore, steps_of}
 use Rattle.sg_terms.specs.Entries.{Gained, GainedAll}
 use Rattle.sg_trail.specs.Trails.{AreCovered, AreStorable, IsAnySlot, TellsNumbers, Way}
-use Rattle.sg_work.specs.Worklist.{Worklist}
+use Rattle.sg_propagate.specs.Worklist.{Worklist}
 use Rattle.sg_propagate.specs.Scenes.{Scene, term_now, value_now, IsMeant, IsStaged, AreFine, AreNoted, AreStale}
 
 -- references of a term at a place

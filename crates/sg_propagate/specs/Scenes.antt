@@ -21,7 +21,7 @@ use Rattle.sg_groves.specs.Stored.{number_at, value_there}
 use Rattle.sg_plans.specs.Planned.{IsPlanned}
 use Rattle.sg_plans.specs.Segments.{IsOutside}
 use Rattle.sg_terms.specs.Occurrences.{node_there}
-use Rattle.sg_work.specs.Worklist.{Worklist}
+use Rattle.sg_propagate.specs.Worklist.{Worklist}
 
 -- the root of the tree, the term that it held, the place of the exchange, the new subterm with its top, and the old one's top
 pub record Scene : Type 0 where

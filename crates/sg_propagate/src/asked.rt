@@ -6,12 +6,12 @@ ghost use Rattle.sg_dependencies.specs.Vertices.{IsVertex};
 ghost use Rattle.sg_terms.specs.Found.{op_at};
 ghost use Rattle.sg_propagate.specs.Scenes.{AreTops, ShowsOther};
 
+use crate::work::Work;
 use sg_forest::NodeId;
 use sg_kinds::ids::RuleId;
 use sg_kinds::row::item;
 use sg_kinds::spec::Occurrence;
 use sg_terms::Terms;
-use sg_work::Work;
 
 // Whether an argument at a node shows another value. At the new top it is compared with what the old one keeps, so that
 // no visit of the new subterm has to say what changed.

@@ -8,5 +8,6 @@ mod replacement;
 mod rise;
 mod start;
 mod update;
+mod work;
 
 pub use replacement::{Exchange, replace};

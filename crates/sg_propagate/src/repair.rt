@@ -11,6 +11,7 @@ ghost use Rattle.sg_propagate.specs.Scenes.{AreTops};
 ghost use Rattle.sg_propagate.specs.Moves.{IsGivenFrom, IsKnownFrom, Repairs};
 
 use crate::update::update;
+use crate::work::Work;
 use sg_attrib::visit;
 use sg_eval::{Evaluator, Journal};
 use sg_forest::NodeId;
@@ -20,7 +21,6 @@ use sg_kinds::row::item;
 use sg_plans::steps;
 use sg_terms::Terms;
 use sg_trail::Trail;
-use sg_work::Work;
 
 // a step of a visit of a node: an equation, the new top's visit in its turn, or an active child's
 #[cycle(repair)]

@@ -24,6 +24,7 @@ ghost use Rattle.sg_propagate.specs.Scenes.{AreTops, IsSetUp, Scene};
 
 use crate::rise::rise;
 use crate::start::take_over;
+use crate::work::Work;
 use sg_attrib::attribute;
 use sg_eval::{Evaluator, Journal};
 use sg_forest::NodeId;
@@ -31,7 +32,6 @@ use sg_kinds::memory::NoMemory;
 use sg_kinds::plans::Plans;
 use sg_terms::Terms;
 use sg_trail::Trail;
-use sg_work::Work;
 use std::alloc::Global;
 
 // Every value of a tree in which a subtree has just taken another's place: the way up begins at the node above. It
@@ -174,6 +174,7 @@ pub fn replace(
     ensures leads_back { IfOk result (λ e. LeadsBack terms.old terms.new e.trail) }
     ensures as_before { OnErr result ((n : _) → nodes terms.new n ≡ nodes terms.old n) }
     ensures spec { terms.new.spec ≡ terms.old.spec }
+    ensures view { terms.new.view ≡ terms.old.view }
     ensures grown { IsGrown terms.old.pool terms.new.pool }
     ensures total { total_of journal.new ≡ total_of journal.old }
 {

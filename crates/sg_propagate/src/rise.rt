@@ -15,6 +15,7 @@ ghost use Rattle.sg_propagate.specs.Scenes.{AreStale, AreTops, Scene, term_now};
 
 use crate::repair::repair;
 use crate::start::{attr_count, is_handed};
+use crate::work::Work;
 use sg_eval::{Evaluator, Journal};
 use sg_forest::NodeId;
 use sg_kinds::ids::OpId;
@@ -24,7 +25,6 @@ use sg_kinds::row::item;
 use sg_plans::{steps, visit_count, visit_of};
 use sg_terms::Terms;
 use sg_trail::Trail;
-use sg_work::Work;
 
 // whether a synthesized attribute of visit `k` of a node is noted
 fn gives_other(terms: &Terms, n: NodeId, k: u32, plans: &Plans, work: &Work) -> bool

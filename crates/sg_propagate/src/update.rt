@@ -12,6 +12,7 @@ ghost use Rattle.sg_propagate.specs.Scenes.{AreTops};
 ghost use Rattle.sg_propagate.specs.Moves.{Announces, Repairs};
 
 use crate::asked::has_other;
+use crate::work::Work;
 use sg_eval::{Evaluator, Journal};
 use sg_forest::NodeId;
 use sg_kinds::ids::RuleId;
@@ -20,7 +21,6 @@ use sg_kinds::plans::Plans;
 use sg_kinds::row::item;
 use sg_terms::{Renewed, Terms};
 use sg_trail::{Trail, WasStored};
-use sg_work::Work;
 
 // what an equation defines at a node: the node at its target, and the slot
 fn bearer(terms: &Terms, n: NodeId, rule: RuleId) -> (NodeId, u32)

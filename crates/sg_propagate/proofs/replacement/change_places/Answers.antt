@@ -26,7 +26,7 @@ attribute-requires-clause-inherits c =
     let e = c.swap.ensures in
     let q = c.requires in
     root_inherits c.args.terms.now c.swap.new.self c.facts.ensures c.args.at c.args.detached
-    (is_swap c.args.terms.now c.swap.new.self c.args.at c.args.detached q.live q.root q.apart q.phyla e.swapped e.unchanged e.spec e.pool e.parts e.numbers e.replaced e.terms e.freed e.roots e.ways e.ways_over)
+    (is_swap c.args.terms.now c.swap.new.self c.args.at c.args.detached q.live q.root q.apart q.phyla e.swapped e.unchanged e.spec e.view e.pool e.parts e.numbers e.replaced e.terms e.freed e.roots e.ways e.ways_over)
     q.inherits (c.parent-above.ensures.root.0 c.in-None.is)
 
 pub returns-in_ok-attribute-in-None-clause-exchanges : goal.returns-in_ok-attribute-in-None-clause-exchanges
@@ -35,7 +35,7 @@ returns-in_ok-attribute-in-None-clause-exchanges c =
     let q = c.requires in
     let a = c.in_ok-attribute-in-None.ensures in
     exchanges_root c.args.terms.now c.swap.new.self c.facts.ensures c.args.at c.args.detached
-    (is_swap c.args.terms.now c.swap.new.self c.args.at c.args.detached q.live q.root q.apart q.phyla e.swapped e.unchanged e.spec e.pool e.parts e.numbers e.replaced e.terms e.freed e.roots e.ways e.ways_over)
+    (is_swap c.args.terms.now c.swap.new.self c.args.at c.args.detached q.live q.root q.apart q.phyla e.swapped e.unchanged e.spec e.view e.pool e.parts e.numbers e.replaced e.terms e.freed e.roots e.ways e.ways_over)
     c.facts-2.ensures (c.parent-above.ensures.root.0 c.in-None.is) c.attribute.new.terms (now_of c.args.journal.now) (now_of c.attribute.new.journal) (Ok c.args.detached) a.term a.right a.frame a.noted c.args.trail.now
 
 pub returns-in_err-attribute-in-None-clause-exchanges : goal.returns-in_err-attribute-in-None-clause-exchanges
@@ -46,7 +46,7 @@ returns-in_err-attribute-in-None-clause-exchanges c =
     let p = err_from_is_err_and c.from_residual.result c.from_residual.ensures.1 in
     rw p.1
     (exchanges_root c.args.terms.now c.swap.new.self c.facts.ensures c.args.at c.args.detached
-    (is_swap c.args.terms.now c.swap.new.self c.args.at c.args.detached q.live q.root q.apart q.phyla e.swapped e.unchanged e.spec e.pool e.parts e.numbers e.replaced e.terms e.freed e.roots e.ways e.ways_over)
+    (is_swap c.args.terms.now c.swap.new.self c.args.at c.args.detached q.live q.root q.apart q.phyla e.swapped e.unchanged e.spec e.view e.pool e.parts e.numbers e.replaced e.terms e.freed e.roots e.ways e.ways_over)
     c.facts-2.ensures (c.parent-above.ensures.root.0 c.in-None.is) c.attribute.new.terms (now_of c.args.journal.now) (now_of c.attribute.new.journal) (Err p.0) a.term a.right a.frame a.noted c.args.trail.now)
 
 pub returns-in_ok-attribute-in-None-clause-reach : goal.returns-in_ok-attribute-in-None-clause-reach
@@ -54,7 +54,7 @@ returns-in_ok-attribute-in-None-clause-reach c =
     let e = c.swap.ensures in
     let q = c.requires in
     reaches_root c.args.terms.now c.swap.new.self c.facts.ensures c.args.at c.args.detached
-    (is_swap c.args.terms.now c.swap.new.self c.args.at c.args.detached q.live q.root q.apart q.phyla e.swapped e.unchanged e.spec e.pool e.parts e.numbers e.replaced e.terms e.freed e.roots e.ways e.ways_over)
+    (is_swap c.args.terms.now c.swap.new.self c.args.at c.args.detached q.live q.root q.apart q.phyla e.swapped e.unchanged e.spec e.view e.pool e.parts e.numbers e.replaced e.terms e.freed e.roots e.ways e.ways_over)
     (c.parent-above.ensures.root.0 c.in-None.is) c.attribute.new.terms
 
 -- under another node the tree is brought up to date
@@ -69,7 +69,7 @@ bring_up_to_date-requires-clause-tops c =
     let e = c.swap.ensures in
     let q = c.requires in
     tops_moved c.args.terms.now c.swap.new.self c.facts.ensures c.args.at c.args.detached
-    (is_swap c.args.terms.now c.swap.new.self c.args.at c.args.detached q.live q.root q.apart q.phyla e.swapped e.unchanged e.spec e.pool e.parts e.numbers e.replaced e.terms e.freed e.roots e.ways e.ways_over)
+    (is_swap c.args.terms.now c.swap.new.self c.args.at c.args.detached q.live q.root q.apart q.phyla e.swapped e.unchanged e.spec e.view e.pool e.parts e.numbers e.replaced e.terms e.freed e.roots e.ways e.ways_over)
     c.facts-2.ensures
 
 pub bring_up_to_date-requires-clause-hangs : goal.bring_up_to_date-requires-clause-hangs
@@ -83,7 +83,7 @@ bring_up_to_date-requires-clause-inherits c =
     let q = c.requires in
     let up = c.in-Some.field-0 in
     under_inherits c.args.terms.now c.swap.new.self c.facts.ensures c.args.at c.args.detached
-    (is_swap c.args.terms.now c.swap.new.self c.args.at c.args.detached q.live q.root q.apart q.phyla e.swapped e.unchanged e.spec e.pool e.parts e.numbers e.replaced e.terms e.freed e.roots e.ways e.ways_over)
+    (is_swap c.args.terms.now c.swap.new.self c.args.at c.args.detached q.live q.root q.apart q.phyla e.swapped e.unchanged e.spec e.view e.pool e.parts e.numbers e.replaced e.terms e.freed e.roots e.ways e.ways_over)
     q.inherits up.0 up.1 c.in-Some.ensures.child
 
 pub returns-in-Some-clause-exchanges : goal.returns-in-Some-clause-exchanges
@@ -93,7 +93,7 @@ returns-in-Some-clause-exchanges c =
     let b = c.bring_up_to_date.ensures in
     let up = c.in-Some.field-0 in
     exchanges_under c.args.terms.now c.swap.new.self c.facts.ensures c.args.at c.args.detached
-    (is_swap c.args.terms.now c.swap.new.self c.args.at c.args.detached q.live q.root q.apart q.phyla e.swapped e.unchanged e.spec e.pool e.parts e.numbers e.replaced e.terms e.freed e.roots e.ways e.ways_over)
+    (is_swap c.args.terms.now c.swap.new.self c.args.at c.args.detached q.live q.root q.apart q.phyla e.swapped e.unchanged e.spec e.view e.pool e.parts e.numbers e.replaced e.terms e.freed e.roots e.ways e.ways_over)
     c.args.plans.now c.facts-2.ensures q.valid up.0 up.1 c.in-Some.ensures.child c.bring_up_to_date.new.terms c.args.trail.now c.bring_up_to_date.new.trail (now_of c.args.journal.now) (now_of c.bring_up_to_date.new.journal) c.bring_up_to_date.result
     b.stored b.at b.detached b.tracked b.finishes
 
@@ -103,5 +103,5 @@ returns-in-Some-clause-reach c =
     let q = c.requires in
     let up = c.in-Some.field-0 in
     reaches_under c.args.terms.now c.swap.new.self c.facts.ensures c.args.at c.args.detached
-    (is_swap c.args.terms.now c.swap.new.self c.args.at c.args.detached q.live q.root q.apart q.phyla e.swapped e.unchanged e.spec e.pool e.parts e.numbers e.replaced e.terms e.freed e.roots e.ways e.ways_over)
+    (is_swap c.args.terms.now c.swap.new.self c.args.at c.args.detached q.live q.root q.apart q.phyla e.swapped e.unchanged e.spec e.view e.pool e.parts e.numbers e.replaced e.terms e.freed e.roots e.ways e.ways_over)
     c.args.plans.now c.facts-2.ensures q.valid up.0 up.1 c.in-Some.ensures.child c.bring_up_to_date.new.terms c.bring_up_to_date.result c.bring_up_to_date.ensures.reach

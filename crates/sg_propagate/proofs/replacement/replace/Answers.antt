@@ -5,7 +5,7 @@ use Rattle.sg_eval.specs.Journal.{now_of}
 use Rattle.sg_groves.specs.Evaluated.{IsEvaluated}
 use Rattle.sg_attrib.proofs.Listed.{gained_nothing}
 use Rattle.sg_propagate.specs.Asked.{root_then}
-use Rattle.sg_propagate.proofs.Replaced.{evaluated_now, leads_back, others_renewed, pool_grown, spec_same}
+use Rattle.sg_propagate.proofs.Replaced.{evaluated_now, leads_back, others_renewed, pool_grown, spec_same, view_same}
 use Rattle.sg_propagate.proofs.Swapping.{exchange_there}
 use Rattle.sg_propagate.proofs.replacement.replace.Goals as goal
 
@@ -54,6 +54,9 @@ returns-in-Ok-clause-leads_back c =
 pub returns-in-Ok-clause-spec : goal.returns-in-Ok-clause-spec
 returns-in-Ok-clause-spec c = spec_same _ _ c.facts.ensures _ _ _ _ _ _ _ c.in-Ok.ensures.exchanges
 
+pub returns-in-Ok-clause-view : goal.returns-in-Ok-clause-view
+returns-in-Ok-clause-view c = view_same _ _ c.facts.ensures _ _ _ _ _ _ _ c.in-Ok.ensures.exchanges
+
 pub returns-in-Ok-clause-grown : goal.returns-in-Ok-clause-grown
 returns-in-Ok-clause-grown c = pool_grown _ _ c.facts.ensures _ _ _ _ _ _ _ c.in-Ok.ensures.exchanges
 
@@ -82,6 +85,11 @@ pub returns-in-Err-clause-spec : goal.returns-in-Err-clause-spec
 returns-in-Err-clause-spec c =
     c.back.ensures.spec
     ∙ spec_same _ _ c.facts.ensures _ _ _ _ _ _ _ c.in-Err.ensures.exchanges
+
+pub returns-in-Err-clause-view : goal.returns-in-Err-clause-view
+returns-in-Err-clause-view c =
+    c.back.ensures.view
+    ∙ view_same _ _ c.facts.ensures _ _ _ _ _ _ _ c.in-Err.ensures.exchanges
 
 pub returns-in-Err-clause-grown : goal.returns-in-Err-clause-grown
 returns-in-Err-clause-grown c =

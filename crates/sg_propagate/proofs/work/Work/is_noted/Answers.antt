@@ -1,9 +1,9 @@
 use Rattle.std.specs.Prelude.{◌≡◌, [], length, not}
 use Rattle.std.proofs.Common.{ap, arith, subst, sym, ◌∙◌}
 use Rattle.std.proofs.lemmas.Bool.{false≢true}
-use Rattle.sg_work.specs.Worklist.{Worklist}
-use Rattle.sg_work.proofs.Members.{same_pair, pair_itself, pair_is, is_in}
-use Rattle.sg_work.proofs.work.Work.is_noted.Goals as goal
+use Rattle.sg_propagate.specs.Worklist.{Worklist}
+use Rattle.sg_propagate.proofs.Members.{same_pair, pair_itself, pair_is, is_in}
+use Rattle.sg_propagate.proofs.work.Work.is_noted.Goals as goal
 
 pub returns-then-not-is_empty : goal.returns-then-not-is_empty
 returns-then-not-is_empty c = is_in same_pair pair_itself pair_is _ _ [] (ap (λ (w : Worklist). w.changed) c.self.view_is) _ _ c.contains.ensures

@@ -16,7 +16,7 @@ pub struct Work {
 }
 
 impl Model for Work {
-    ghost use Rattle.sg_work.specs.Worklist.{Worklist};
+    ghost use Rattle.sg_propagate.specs.Worklist.{Worklist};
 
     ghost Value = { Worklist };
 

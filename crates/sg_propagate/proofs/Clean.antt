@@ -19,7 +19,7 @@ use Rattle.sg_plans.specs.Planned.{IsPlanned}
 use Rattle.sg_plans.specs.Segments.{IsOfVisit, IsOutside, IsTaken, bearer}
 use Rattle.sg_plans.proofs.Bearers.{ranges, bearer_found, found_bears, found_live}
 use Rattle.sg_plans.proofs.Closed.{closed}
-use Rattle.sg_work.proofs.Changing.{IsSame, cut, leaf_same, one_above}
+use Rattle.sg_propagate.proofs.Changing.{IsSame, cut, leaf_same, one_above}
 
 -- an element of a list's image
 mapped : {X Y : Type 0} (f : X → Y) (xs : List X) (y : Y) → Contains (map f xs) y → (x : X) × Contains xs x × (f x ≡ y)
