@@ -1,5 +1,5 @@
 -- A buffer after the nearest change of one way is gone along.
-use Rattle.std.specs.Prelude.{◌≡◌, ◌≢◌, refl, ℕ, ◌+◌, ◌≤◌, true, List, [], ◌∷◌, ◌++◌, length, slice_get, Option, None, Some}
+use Rattle.std.specs.Prelude.{◌≡◌, ◌≢◌, refl, ℕ, ◌+◌, ◌≤◌, true, List, [], ◌∷◌, ◌++◌, length, slice_get, IfSome, Option, None, Some}
 use Rattle.std.proofs.Common.{sym, ap, ◌∙◌, subst, arith}
 use Rattle.std.proofs.lemmas.Option.{none-some, same_Some}
 use Rattle.sg_kinds.specs.Terms.{Term, nodes_of}
@@ -12,6 +12,7 @@ use Rattle.sg_forest.specs.declared.node_id.NodeId.{NodeId}
 use Rattle.sg_forest.specs.Trees.{Climbs, IsRoot}
 use Rattle.sg_groves.specs.Grove.{Grove, nodes, IsGrove}
 use Rattle.sg_groves.specs.TermAt.{term_at}
+use Rattle.sg_changes.specs.Captured.{Captured}
 use Rattle.sg_changes.specs.Chain.{AllGo, CanGo, IsProper, Passes, Stands}
 use Rattle.sg_changes.specs.Changes.{Change, chosen, opposite, part_of, spot_along, term_along}
 use Rattle.sg_changes.specs.Told.{Agree, Exchanged, change_along, hanging, hung, told_along, tops, tops_of}
@@ -25,21 +26,22 @@ use Rattle.sg_changes.proofs.Telling.{told_ahead, told_behind}
 use Rattle.sg_undo.specs.Timeline.{Timeline}
 use Rattle.sg_unparse.specs.Sheet.{Sheet}
 use Rattle.sg_buffer.specs.declared.way.Standing.{Standing}
+use Rattle.sg_states.specs.Beginnings.{Begins}
 use Rattle.sg_states.specs.Selections.{place_in}
-use Rattle.sg_states.specs.Seen.{is_spot}
+use Rattle.sg_states.specs.Seen.{is_spot, nothing_typed, respotted}
 use Rattle.sg_states.specs.States.{State, ahead, gone, gone_by}
-use Rattle.sg_states.specs.Paged.{IsWhole}
-use Rattle.sg_states.proofs.Selecting.{selection_rests}
-use Rattle.sg_states.proofs.Spotted.{spot_selects}
+use Rattle.sg_states.specs.Paged.{IsWhole, page_seen}
+use Rattle.sg_states.proofs.Foretold.{if_some}
+use Rattle.sg_states.proofs.Spotted.{settled_seen}
 use Rattle.sg_turns.specs.Roots.{times, AreTheRoots}
-use Rattle.sg_turns.specs.Stepped.{IsStepped, MayStep, coming, seen_along, step_place}
+use Rattle.sg_turns.specs.Stepped.{IsStepped, MayGo, coming, seen_along, spot_then, step_place}
 use Rattle.sg_turns.specs.Turns.{Notes, NotesSome, comes_out, goes_in, made}
 use Rattle.sg_turns.specs.declared.stepped.Stepped.{Stepped}
 use Rattle.sg_turns.proofs.Hanging.{agree_then, keeps_by, listed_apart, listed_root, roots_alike, times_future, times_past}
-use Rattle.sg_turns.proofs.Stepping.{HasPlace, in_along, made_along, may_mark, may_swap, out_along, part_along, rests_there, spot_there}
+use Rattle.sg_turns.proofs.Stepping.{in_along, made_along, may_mark, may_swap, out_along, part_along, spot_there}
 use Rattle.sg_turns.proofs.Times.{times_append, times_cons, times_same}
 use Rattle.sg_buffer.specs.Gains.{Gained, NotedAlong, OfFirst}
-use Rattle.sg_buffer.specs.Held.{Held, state_of}
+use Rattle.sg_buffer.specs.Held.{Held, state_of, typed_by}
 use Rattle.sg_buffer.specs.Buffers.{StandsFor, IsBuffer}
 use Rattle.sg_buffer.proofs.Closing.{Closes, closes}
 use Rattle.sg_buffer.proofs.Standing.{no_capture}
@@ -58,9 +60,9 @@ stepped_held b new r past future = record {
   capture = b.capture;
 }
 
--- the selected node's path, and nothing of where it begins
-abbrev pub unseen : Stepped → Standing
-unseen r = record { way = r.way; begins = None }
+-- the selected node's path, and where it begins, where that is told
+abbrev pub standing_then : Stepped → Standing
+standing_then r = record { way = r.way; begins = r.begins }
 
 -- the first step of a list, and the others
 abbrev pub rest_of : List Step → List Step
@@ -133,20 +135,20 @@ module _ (b : Held) where
   few_then Forth s x rest is few = (let e = ap length is in omega (arith, e, few))
 
 -- a way may go along a step
-pub may_along : (g : Grove) → IsGrove g → (root : NodeId) (t : Term) (count : ℕ) → IsWhole g root t → Fits g.spec t g.spec.root → count ≡ nodes_of t → IsSmall t
+pub may_along : (g : Grove) → IsGrove g → (root : NodeId) (t : Term) (height count : ℕ) → IsWhole g root t → Fits g.spec t g.spec.root → count ≡ nodes_of t → IsSmall t
     → (d : Direction) (s : Step) → ((n : NodeId) → times n (hanging s) ≢ 0 → IsRoot (nodes g) n × (n ≢ root)) → Stands d t (change_along (term_at g) d t s) → IsProper g.spec (change_along (term_at g) d t s)
-    → IsSmall (term_along d t (change_along (term_at g) d t s)) → HasPlace (made (term_at g) t (step_place s) (coming d s)) (place_in (seen_along d s).selection)
-    → MayStep g root t (step_place s) (coming d s) (seen_along d s) count
-may_along g is root t count whole fits counted small Back (Replaced path hangs before after) roots at proper later there =
+    → IsSmall (term_along d t (change_along (term_at g) d t s)) → is_spot g.spec height (made (term_at g) t (step_place s) (coming d s)) (seen_along d s) ≡ true
+    → MayGo g root t d s height count
+may_along g is root t height count whole fits counted small Back (Replaced path hangs before after) roots at proper later there =
     let top = roots hangs (let e = times_same hangs [] in λ z. absurd (omega (arith, e, z))) in
-    may_swap g is root t (step_place (Replaced path hangs before after)) before count whole fits counted small hangs (part_of t (place_of path)) proper.0 top.0 top.1 at proper.2 proper.1 later there
-may_along g is root t count whole fits counted small Back (Marked path old new before after) roots at proper later there =
-    may_mark g is root t (step_place (Marked path old new before after)) before count whole fits counted small new old at proper.0 later there
-may_along g is root t count whole fits counted small Forth (Replaced path hangs before after) roots at proper later there =
+    may_swap g is root t (step_place (Replaced path hangs before after)) height before count whole fits counted small hangs (part_of t (place_of path)) proper.0 top.0 top.1 at proper.2 proper.1 later there
+may_along g is root t height count whole fits counted small Back (Marked path old new before after) roots at proper later there =
+    may_mark g is root t (step_place (Marked path old new before after)) height before count whole fits counted small new old at proper.0 later there
+may_along g is root t height count whole fits counted small Forth (Replaced path hangs before after) roots at proper later there =
     let top = roots hangs (let e = times_same hangs [] in λ z. absurd (omega (arith, e, z))) in
-    may_swap g is root t (step_place (Replaced path hangs before after)) after count whole fits counted small hangs (part_of t (place_of path)) proper.0 top.0 top.1 at proper.1 proper.2 later there
-may_along g is root t count whole fits counted small Forth (Marked path old new before after) roots at proper later there =
-    may_mark g is root t (step_place (Marked path old new before after)) after count whole fits counted small old new at proper.1 later there
+    may_swap g is root t (step_place (Replaced path hangs before after)) height after count whole fits counted small hangs (part_of t (place_of path)) proper.0 top.0 top.1 at proper.1 proper.2 later there
+may_along g is root t height count whole fits counted small Forth (Marked path old new before after) roots at proper later there =
+    may_mark g is root t (step_place (Marked path old new before after)) height after count whole fits counted small old new at proper.1 later there
 
 module _ (b : Held) (count room : ℕ) (page : Option Sheet) (standing : Standing) (is : IsBuffer b count room page standing) (d : Direction) (s : Step) (rest : List Step) (ahead_is : steps_along d b ≡ s ∷ rest) where
   abbrev st : State
@@ -182,16 +184,14 @@ module _ (b : Held) (count room : ℕ) (page : Option Sheet) (standing : Standin
   made_is : made (term_at g) st.term (step_place s) (coming d s) ≡ term_along d st.term c
   made_is = made_along (term_at g) st.term d s
 
-  -- the spot of the step is one of the term then, so it has that place
-  there_then : HasPlace (made (term_at g) st.term (step_place s) (coming d s)) (place_in (seen_along d s).selection)
-  there_then =
-      let t = made (term_at g) st.term (step_place s) (coming d s) in
-      let u = place_in (seen_along d s).selection in
-      let spot : is_spot g.spec b.height t (seen_along d s) ≡ true = subst (λ z. is_spot g.spec b.height t z ≡ true) (sym (spot_there (term_at g) st.term d s)) (subst (λ z. is_spot g.spec b.height z (spot_along d c) ≡ true) (sym made_is) can.there) in
-      rests_there g.spec t u (selection_rests g.spec t u (seen_along d s).selection.count (spot_selects g.spec b.height t (seen_along d s) spot))
+  -- the spot of the step is one of the term then
+  spot_may : is_spot g.spec b.height (made (term_at g) st.term (step_place s) (coming d s)) (seen_along d s) ≡ true
+  spot_may =
+      subst (λ z. is_spot g.spec b.height (made (term_at g) st.term (step_place s) (coming d s)) z ≡ true) (sym (spot_there (term_at g) st.term d s))
+      (subst (λ z. is_spot g.spec b.height z (spot_along d c) ≡ true) (sym made_is) can.there)
 
-  pub may_go : MayStep g b.root st.term (step_place s) (coming d s) (seen_along d s) count
-  may_go = may_along g is.stands.grove b.root st.term count is.stands.whole is.stands.fits is.counted is.stands.small d s hangs can.stands can.proper can.small there_then
+  pub may_go : MayGo g b.root st.term d s b.height count
+  may_go = may_along g is.stands.grove b.root st.term b.height count is.stands.whole is.stands.fits is.counted is.stands.small d s hangs can.stands can.proper can.small spot_may
 
   roots_split : AreTheRoots g (b.root ∷ (goes_in (coming d s) ++ tops rest behind))
   roots_split = roots_alike g (b.root ∷ tops b.past b.future) (b.root ∷ (goes_in (coming d s) ++ tops rest behind)) same is.stands.roots
@@ -206,13 +206,23 @@ module _ (b : Held) (count room : ℕ) (page : Option Sheet) (standing : Standin
           omega (arith, p, q, r, e, i)
 
   -- the nearest change of the state
-  pub gone_is : gone d st ≡ gone_by d (c ∷ older) st
-  gone_is = ap (λ cs. gone_by d cs st) (sym ahead_then)
+  pub gone_is : gone g.spec b.height d st ≡ gone_by g.spec b.height d (c ∷ older) st
+  gone_is = ap (λ cs. gone_by g.spec b.height d cs st) (sym ahead_then)
 
-  module _ (new : Grove) (on : IsGrove new) (spec : new.spec ≡ g.spec) (r : Stepped) (stepped : IsStepped g new b.root st.term (step_place s) (coming d s) (seen_along d s) r) where
-    abbrev end : Term
-    end = term_along d st.term c
+  -- what is selected and seen then, settled in the view of the state
+  abbrev end : Term
+  end = term_along d st.term c
 
+  abbrev spot : Spot
+  spot = respotted g.spec b.height st.spot.view end (spot_along d c)
+
+  spot_is : spot_then g st.term d s b.height ≡ spot
+  spot_is =
+      ap (λ w. respotted g.spec b.height w (made (term_at g) st.term (step_place s) (coming d s)) (seen_along d s)) is.stands.view
+      ∙ ap (λ z. respotted g.spec b.height st.spot.view z (seen_along d s)) made_is
+      ∙ ap (respotted g.spec b.height st.spot.view end) (spot_there (term_at g) st.term d s)
+
+  module _ (new : Grove) (on : IsGrove new) (spec : new.spec ≡ g.spec) (shown : new.view ≡ g.view) (r : Stepped) (stepped : IsStepped g new b.root st.term (step_place s) (coming d s) (spot_then g st.term d s b.height) r) where
     abbrev over : Step
     over = hung s r.out
 
@@ -228,8 +238,19 @@ module _ (b : Held) (count room : ℕ) (page : Option Sheet) (standing : Standin
     whole : IsWhole new r.root end
     whole = subst (IsWhole new r.root) made_is stepped.turned.whole
 
-    selected : Climbs (nodes new) (place_in (spot_along d c).selection) r.selected r.root
-    selected = subst (λ (z : Spot). Climbs (nodes new) (place_in z.selection) r.selected r.root) (spot_there (term_at g) st.term d s) stepped.selected
+    selected : Climbs (nodes new) (place_in spot.selection) r.selected r.root
+    selected = subst (λ (z : Spot). Climbs (nodes new) (place_in z.selection) r.selected r.root) spot_is stepped.selected
+
+    page_told : (o : Option Captured) → o ≡ None → IfSome r.page (λ p. p ≡ page_seen new r.root end (typed_by o (place_in spot.selection)))
+    page_told o none =
+        if_some (λ p. p ≡ page_seen new r.root (made (term_at g) st.term (step_place s) (coming d s)) nothing_typed) (λ p. p ≡ page_seen new r.root end (typed_by o (place_in spot.selection))) r.page
+        (λ p told. told ∙ ap (λ t. page_seen new r.root t nothing_typed) made_is ∙ sym (ap (λ z. page_seen new r.root end (typed_by z (place_in spot.selection))) none)) stepped.page
+
+    begins_told : IfSome r.begins (Begins new.spec spot.view end (place_in spot.selection))
+    begins_told =
+        subst (λ (z : Spot). IfSome r.begins (Begins new.spec spot.view end (place_in z.selection))) spot_is
+        (subst (λ t. IfSome r.begins (Begins new.spec spot.view t (place_in (spot_then g st.term d s b.height).selection))) made_is
+        (subst (λ w. IfSome r.begins (Begins new.spec w (made (term_at g) st.term (step_place s) (coming d s)) (place_in (spot_then g st.term d s b.height).selection))) (shown ∙ is.stands.view) stepped.begins))
 
     roots_then : AreTheRoots new (r.root ∷ tops (past_then d b rest over) (future_then d b rest over))
     roots_then =
@@ -267,7 +288,7 @@ module _ (b : Held) (count room : ℕ) (page : Option Sheet) (standing : Standin
     abbrev CanAll : Direction → List Step → List Change → Type 0
     CanAll e ss cs = AllGo new.spec (Passes (is_spot new.spec b.height)) e end cs
 
-    gone_stands : b.capture ≡ None → StandsFor then (gone_by d (c ∷ older) st)
+    gone_stands : b.capture ≡ None → StandsFor then (gone_by g.spec b.height d (c ∷ older) st)
     gone_stands none = record {
       grove = on;
       whole = whole;
@@ -275,9 +296,10 @@ module _ (b : Held) (count room : ℕ) (page : Option Sheet) (standing : Standin
       small = can.small;
       tall = is.stands.tall;
       selected = selected;
-      count = stepped.count ∙ ap (λ (z : Spot). z.selection.count) (spot_there (term_at g) st.term d s);
-      top = stepped.top ∙ ap (λ (z : Spot). z.top) (spot_there (term_at g) st.term d s);
-      spot = subst (λ (z : Spec). is_spot z b.height end (spot_along d c) ≡ true) (sym spec) can.there;
+      count = stepped.count ∙ ap (λ (z : Spot). z.selection.count) spot_is;
+      top = stepped.top ∙ ap (λ (z : Spot). z.top) spot_is;
+      view = shown ∙ is.stands.view;
+      spot = subst (λ (z : Spec). is_spot z b.height end spot ≡ true) (sym spec) (settled_seen g.spec b.height end st.spot.view (spot_along d c) is.stands.tall);
       past = of_past Told d rest over b.past b.future older c st.past st.future ahead_told behind_told;
       future = of_future Told d rest over b.past b.future older c st.past st.future ahead_told behind_told;
       undoes = of_past CanAll d rest over b.past b.future older c st.past st.future ahead_goes behind_goes;
@@ -287,10 +309,10 @@ module _ (b : Held) (count room : ℕ) (page : Option Sheet) (standing : Standin
       alone = no_capture then none r.count;
     }
 
-    pub gone_closes : b.capture ≡ None → Closes then (gone_by d (c ∷ older) st) r.nodes room None (unseen r)
+    pub gone_closes : b.capture ≡ None → Closes then (gone_by g.spec b.height d (c ∷ older) st) r.nodes room r.page (standing_then r)
     gone_closes none =
-        closes then (gone_by d (c ∷ older) st) r.nodes room None (unseen r) (gone_stands none) (stepped.counted ∙ ap nodes_of made_is) is.room_is
-        (few_then b d s over rest ahead_is is.few) tt (stepped.path ∙ ap (λ (z : Spot). z.selection.path) (spot_there (term_at g) st.term d s), tt)
+        closes then (gone_by g.spec b.height d (c ∷ older) st) r.nodes room r.page (standing_then r) (gone_stands none) (stepped.counted ∙ ap nodes_of made_is) is.room_is
+        (few_then b d s over rest ahead_is is.few) (page_told b.capture none) (stepped.path ∙ ap (λ (z : Spot). z.selection.path) spot_is, begins_told)
 
 -- what the journal gains
 gained : (g new : Grove) (root : NodeId) (t : Term) (d : Direction) (s : Step) (was now : List Instance) → Notes g new root t (step_place s) (coming d s) was now
@@ -319,22 +341,22 @@ module _ (b v : Held) (view : b ≡ v) (count room : ℕ) (page : Option Sheet) 
         no_cons (change_along (term_at b.grove) d (state_of b).term s) (told_along (term_at b.grove) d (term_along d (state_of b).term (change_along (term_at b.grove) d (state_of b).term s)) rest)
         (ahead_then b count room page standing is d s rest ahead_is ∙ subst (λ (z : Held). ahead d (state_of z) ≡ []) (sym view) none)
 
-    pub gone_here : v.capture ≡ None → (new : Grove) → IsGrove new → new.spec ≡ b.grove.spec → (r : Stepped)
-        → ((t : Term) → MayStep b.grove b.root t (step_place s) (coming d s) (seen_along d s) count → IsStepped b.grove new b.root t (step_place s) (coming d s) (seen_along d s) r)
+    pub gone_here : v.capture ≡ None → (new : Grove) → IsGrove new → new.spec ≡ b.grove.spec → new.view ≡ b.grove.view → (r : Stepped)
+        → ((t : Term) → MayGo b.grove b.root t d s b.height count → IsStepped b.grove new b.root t (step_place s) (coming d s) (spot_then b.grove t d s b.height) r)
         → (h : Timeline Step) → h.past ≡ past_then d b rest (hung s r.out) → h.future ≡ future_then d b rest (hung s r.out) → h.room ≡ room
-        → IsBuffer (stepped_held b new r h.past h.future) r.nodes h.room None (unseen r) × (state_of (stepped_held b new r h.past h.future) ≡ gone d (state_of v))
-    gone_here none new on spec r stepped h past future room_is =
-        let e = gone_closes b count room page standing is d s rest ahead_is new on spec r (stepped (state_of b).term (may_go b count room page standing is d s rest ahead_is)) (ap (λ (z : Held). z.capture) view ∙ none) in (
-          subst (λ k. IsBuffer (stepped_held b new r h.past h.future) r.nodes k None (unseen r)) (sym room_is)
-              (subst (λ ss. IsBuffer (stepped_held b new r h.past ss) r.nodes room None (unseen r)) (sym future)
-              (subst (λ ss. IsBuffer (stepped_held b new r ss (future_then d b rest (hung s r.out))) r.nodes room None (unseen r)) (sym past) e.is)),
-          subst (λ (z : Held). state_of (stepped_held b new r h.past h.future) ≡ gone d (state_of z)) view
+        → IsBuffer (stepped_held b new r h.past h.future) r.nodes h.room r.page (standing_then r) × (state_of (stepped_held b new r h.past h.future) ≡ gone v.grove.spec v.height d (state_of v))
+    gone_here none new on spec shown r stepped h past future room_is =
+        let e = gone_closes b count room page standing is d s rest ahead_is new on spec shown r (stepped (state_of b).term (may_go b count room page standing is d s rest ahead_is)) (ap (λ (z : Held). z.capture) view ∙ none) in (
+          subst (λ k. IsBuffer (stepped_held b new r h.past h.future) r.nodes k r.page (standing_then r)) (sym room_is)
+              (subst (λ ss. IsBuffer (stepped_held b new r h.past ss) r.nodes room r.page (standing_then r)) (sym future)
+              (subst (λ ss. IsBuffer (stepped_held b new r ss (future_then d b rest (hung s r.out))) r.nodes room r.page (standing_then r)) (sym past) e.is)),
+          subst (λ (z : Held). state_of (stepped_held b new r h.past h.future) ≡ gone z.grove.spec z.height d (state_of z)) view
               (ap (λ ss. state_of (stepped_held b new r ss h.future)) past ∙ ap (λ ss. state_of (stepped_held b new r (past_then d b rest (hung s r.out)) ss)) future
               ∙ e.told ∙ sym (gone_is b count room page standing is d s rest ahead_is)),
         )
 
     pub gained_here : (new : Grove) (root : NodeId) (was now : List Instance)
-        → ((t : Term) → MayStep b.grove b.root t (step_place s) (coming d s) (seen_along d s) count → Notes b.grove new root t (step_place s) (coming d s) was now)
+        → ((t : Term) → MayGo b.grove b.root t d s b.height count → Notes b.grove new root t (step_place s) (coming d s) was now)
         → OfFirst (ahead d (state_of v)) (Gained d v.grove.spec (state_of v).term was now new root)
     gained_here new root was now notes =
         subst (λ (z : Held). OfFirst (ahead d (state_of z)) (Gained d z.grove.spec (state_of z).term was now new root)) view
@@ -342,7 +364,7 @@ module _ (b v : Held) (view : b ≡ v) (count room : ℕ) (page : Option Sheet) 
         (gained b.grove new root (state_of b).term d s was now (notes (state_of b).term (may_go b count room page standing is d s rest ahead_is))))
 
     pub noted_here : (was now : List Instance)
-        → ((t : Term) → MayStep b.grove b.root t (step_place s) (coming d s) (seen_along d s) count → NotesSome b.grove b.root t (step_place s) (coming d s) was now)
+        → ((t : Term) → MayGo b.grove b.root t d s b.height count → NotesSome b.grove b.root t (step_place s) (coming d s) was now)
         → OfFirst (ahead d (state_of v)) (NotedAlong d v.grove v.root (state_of v).term was now)
     noted_here was now notes =
         subst (λ (z : Held). OfFirst (ahead d (state_of z)) (NotedAlong d z.grove z.root (state_of z).term was now)) view

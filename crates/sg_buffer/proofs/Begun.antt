@@ -5,6 +5,7 @@ use Rattle.std.proofs.Common.{sym, ap, ◌∙◌, subst, arith, append-nil}
 use Rattle.sg_kinds.specs.Terms.{Term, nodes_of}
 use Rattle.sg_kinds.specs.Fits.{Fits}
 use Rattle.sg_kinds.specs.FromScratch.{value_in}
+use Rattle.sg_kinds.specs.InView.{in_view}
 use Rattle.sg_kinds.specs.Sound.{IsSmall}
 use Rattle.sg_kinds.specs.declared.spec.Spec.{Spec}
 use Rattle.sg_forest.specs.declared.node_id.NodeId.{NodeId}
@@ -32,25 +33,25 @@ nothing_before : (marks : List Mark) → before [] marks ≡ []
 nothing_before [] = refl
 nothing_before (x ∷ marks) = ap (λ b. if b then [] else x ∷ before [] marks) (below_to (place_of_mark x) [] (record { below = place_of_mark x; is = sym (append-nil (place_of_mark x)) }))
 
-pub root_line : (spec : Spec) (t : Term) → first_line spec t [] ≡ 1
+pub root_line : (spec : Spec) (v : ℕ) (t : Term) → first_line spec v t [] ≡ 1
 unfolding first_line
-root_line spec t = by (region_of (marks_seen spec t nothing_typed) []) refl
+root_line spec v t = by (region_of (marks_seen spec v t nothing_typed) []) refl
   where
-    by : (o : Option Region) → region_of (marks_seen spec t nothing_typed) [] ≡ o → option_map_or (λ r. r.first.line) o 1 ≡ 1
+    by : (o : Option Region) → region_of (marks_seen spec v t nothing_typed) [] ≡ o → option_map_or (λ r. r.first.line) o 1 ≡ 1
     by None e = refl
     by (Some r) e =
-        ap (λ p. p.line) (region_begins spec (value_in spec t) nothing_typed [] t 0 [] r e)
-        ∙ ap (λ ms. (position_behind (cells_of ms)).line) (nothing_before (marks_seen spec t nothing_typed))
+        ap (λ p. p.line) (region_begins (in_view spec v) (value_in spec t) nothing_typed [] t 0 [] r e)
+        ∙ ap (λ ms. (position_behind (cells_of ms)).line) (nothing_before (marks_seen spec v t nothing_typed))
 
 begins_seen : (height line : ℕ) → 1 ≤ height → line ≡ 1 → (not (nat_lt line 1) && nat_lt line (1 + height)) ≡ true
 begins_seen height line tall first = grind arith
 
 pub begun_spot : (spec : Spec) (height : ℕ) (t : Term) → 1 ≤ height → is_spot spec height t (begun t).spot ≡ true
-begun_spot spec height t tall = and_true _ _ (alone_selected spec t [] refl) (begins_seen height (first_line spec t []) tall (root_line spec t))
+begun_spot spec height t tall = and_true _ _ (alone_selected spec 0 t [] refl) (begins_seen height (first_line spec 0 t []) tall (root_line spec 0 t))
 
-pub begun_stands : (g : Grove) (root : NodeId) (height : ℕ) (t : Term) → IsGrove g → IsWhole g root t → Fits g.spec t g.spec.root → IsSmall t → 1 ≤ height → AreTheRoots g (root ∷ [])
+pub begun_stands : (g : Grove) (root : NodeId) (height : ℕ) (t : Term) → IsGrove g → g.view ≡ 0 → IsWhole g root t → Fits g.spec t g.spec.root → IsSmall t → 1 ≤ height → AreTheRoots g (root ∷ [])
     → StandsFor (record { grove = g; root = root; selected = root; count = 1; top = 1; height = height; past = []; future = []; capture = None }) (begun t)
-begun_stands g root height t is whole fits small tall roots = record {
+begun_stands g root height t is ordinary whole fits small tall roots = record {
   grove = is;
   whole = whole;
   fits = fits;
@@ -59,6 +60,7 @@ begun_stands g root height t is whole fits small tall roots = record {
   selected = refl;
   count = refl;
   top = refl;
+  view = ordinary;
   spot = begun_spot g.spec height t tall;
   past = refl;
   future = refl;
@@ -77,12 +79,12 @@ unseen = record { way = []; begins = None }
 abbrev begun_held : Grove → NodeId → ℕ → Held
 begun_held g root height = record { grove = g; root = root; selected = root; count = 1; top = 1; height = height; past = []; future = []; capture = None }
 
-pub begun_closes : (g : Grove) (spec : Spec) (root : NodeId) (height : ℕ) (t : Term) (count : ℕ) (h : Timeline Step) (standing : Standing) → standing ≡ unseen → g.spec ≡ spec → IsGrove g → IsWhole g root t → Fits spec t spec.root → IsSmall t
+pub begun_closes : (g : Grove) (spec : Spec) (root : NodeId) (height : ℕ) (t : Term) (count : ℕ) (h : Timeline Step) (standing : Standing) → standing ≡ unseen → g.spec ≡ spec → IsGrove g → g.view ≡ 0 → IsWhole g root t → Fits spec t spec.root → IsSmall t
     → count ≡ nodes_of t → 1 ≤ height → AreTheRoots g (root ∷ []) → h ≡ timeline [] [] 256
     → IsBuffer (record { grove = g; root = root; selected = root; count = 1; top = 1; height = height; past = h.past; future = h.future; capture = None }) count h.room None standing
     × (state_of (record { grove = g; root = root; selected = root; count = 1; top = 1; height = height; past = h.past; future = h.future; capture = None }) ≡ begun t)
-begun_closes g spec root height t count h standing at same is whole fits small counted tall roots empty =
+begun_closes g spec root height t count h standing at same is ordinary whole fits small counted tall roots empty =
     subst (λ (z : Timeline Step). IsBuffer (record { grove = g; root = root; selected = root; count = 1; top = 1; height = height; past = z.past; future = z.future; capture = None }) count z.room None standing
     × (state_of (record { grove = g; root = root; selected = root; count = 1; top = 1; height = height; past = z.past; future = z.future; capture = None }) ≡ begun t)) (sym empty)
-    (let c = closes (begun_held g root height) (begun t) count 256 None unseen (begun_stands g root height t is whole (subst (λ (s : Spec). Fits s t s.root) (sym same) fits) small tall roots) counted refl (omega arith) tt (refl, tt) in
+    (let c = closes (begun_held g root height) (begun t) count 256 None unseen (begun_stands g root height t is ordinary whole (subst (λ (s : Spec). Fits s t s.root) (sym same) fits) small tall roots) counted refl (omega arith) tt (refl, tt) in
     (subst (λ (o : Standing). IsBuffer (begun_held g root height) count 256 None o) (sym at) c.is, c.told))

@@ -39,6 +39,7 @@ use Rattle.sg_buffer.proofs.Standing.{no_capture}
 pub record Changed (b : Held) (mid : Grove) (now : Term) (c : Change) (step : Step) (spot : Spot) (r : Turned) : Type 0 where
   pub grove : IsGrove mid
   pub spec : mid.spec ≡ b.grove.spec
+  pub view : mid.view ≡ spot.view
   pub whole : IsWhole mid r.root now
   pub fits : Fits b.grove.spec now b.grove.spec.root
   pub small : IsSmall now
@@ -117,6 +118,7 @@ module _ (b : Held) (count room : ℕ) (page : Option Sheet) (standing : Standin
     selected = climbs_on mid kept r.root tree (place_in spot.selection) r.look.selected change.look.selected;
     count = ap (λ (s : Spot). s.selection.count) change.look.spot_is;
     top = ap (λ (s : Spot). s.top) change.look.spot_is;
+    view = remembers.dropped.1.view ∙ change.view;
     spot = subst (λ (z : Spec). is_spot z b.height now spot ≡ true) (sym spec) change.seen;
     past = past_told;
     future = ap (told_future (term_at kept) now) remembers.future_is;
@@ -139,5 +141,8 @@ module _ (b : Held) (count room : ℕ) (page : Option Sheet) (standing : Standin
       closes (changed_held b kept r h o) (changed_state b now c spot) nodes h.room r.look.page (record { way = r.look.way; begins = r.look.begins }) (changed_stands o none) counted (remembers.room_is ∙ is.room_is) few
       (if_some (λ p. p ≡ page_seen mid r.root now nothing_typed) (λ p. p ≡ page_seen kept r.root now (typed_by o (place_in spot.selection))) r.look.page
       (λ p is. is ∙ sym (page_on mid kept r.root tree change.grove on now nothing_typed)
-      ∙ sym (ap (λ p. page_seen kept r.root now (typed_by p (place_in spot.selection))) none)) change.look.page)
-      (change.look.way, subst (λ (z : Spec). IfSome r.look.begins (Begins z now (place_in spot.selection))) (sym remembers.dropped.1.spec) change.look.begins)
+      ∙ sym (ap (λ p. page_seen kept r.root now (typed_by p (place_in spot.selection))) none)) change.look.page) (
+        change.look.way,
+        subst (λ (v : ℕ). IfSome r.look.begins (Begins kept.spec v now (place_in spot.selection))) change.view
+            (subst (λ (z : Spec). IfSome r.look.begins (Begins z mid.view now (place_in spot.selection))) (sym remembers.dropped.1.spec) change.look.begins),
+      )

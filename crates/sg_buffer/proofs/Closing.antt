@@ -15,7 +15,7 @@ use Rattle.sg_states.specs.Beginnings.{Begins}
 use Rattle.sg_states.specs.Selections.{alone, path_to, place_in, is_selection}
 use Rattle.sg_states.specs.Seen.{first_line, nothing_typed}
 use Rattle.sg_states.specs.States as states
-use Rattle.sg_states.specs.States.{State}
+use Rattle.sg_states.specs.States.{State, shown_spec}
 use Rattle.sg_states.specs.Paged.{page_seen}
 use Rattle.sg_states.proofs.Selecting.{path_there}
 use Rattle.sg_buffer.specs.Held.{Held, page_by, shown, state_of, typed_by}
@@ -38,14 +38,14 @@ module _ (b : Held) (count room : ℕ) (page : Option Sheet) (standing : Standin
   pub plain_page : (p : Sheet) → b.capture ≡ None → p ≡ shown b → p ≡ page_seen b.grove b.root now.term nothing_typed
   plain_page p none seen = seen ∙ ap (λ o. page_seen b.grove b.root now.term (typed_by o (place_in now.spot.selection))) none
 
-  pub stood_closes : (p : Sheet) → p ≡ shown b → (o : Standing) (u : Place) (n : NodeId) (top : ℕ) → o.way ≡ path_to u → IfSome o.begins (Begins b.grove.spec now.term u) → b.capture ≡ None → Climbs (nodes b.grove) u n b.root → rests b.grove.spec now.term u ≡ true → top ≡ topped b.height (first_line b.grove.spec now.term u) b.top
+  pub stood_closes : (p : Sheet) → p ≡ shown b → (o : Standing) (u : Place) (n : NodeId) (top : ℕ) → o.way ≡ path_to u → IfSome o.begins (Begins b.grove.spec now.spot.view now.term u) → b.capture ≡ None → Climbs (nodes b.grove) u n b.root → rests (shown_spec b.grove.spec now) now.term u ≡ true → top ≡ topped b.height (first_line b.grove.spec now.spot.view now.term u) b.top
       → Closes (stood b n top) (states.selected b.grove.spec b.height u now) count room (Some p) o
   stood_closes p seen o u n top path begun none way rest top_is =
       closes (stood b n top) (states.selected b.grove.spec b.height u now) count room (Some p) o (selected_stands b now u n top is.stands none way rest top_is) is.counted is.room_is is.few
       (plain_page p none seen ∙ sym (ap (λ o. page_seen b.grove b.root now.term (typed_by o (place_in (alone u)))) none))
-      (path, subst (λ z. IfSome o.begins (Begins b.grove.spec now.term z)) (sym (path_there u)) begun)
+      (path, subst (λ z. IfSome o.begins (Begins b.grove.spec now.spot.view now.term z)) (sym (path_there u)) begun)
 
-  pub counted_closes : (n : ℕ) → b.capture ≡ None → is_selection b.grove.spec now.term (place_in now.spot.selection) n ≡ true → Closes (counted b n) (states.recounted n now) count room page standing
+  pub counted_closes : (n : ℕ) → b.capture ≡ None → is_selection b.grove.spec now.spot.view now.term (place_in now.spot.selection) n ≡ true → Closes (counted b n) (states.recounted n now) count room page standing
   counted_closes n none selected = closes (counted b n) (states.recounted n now) count room page standing (recounted_stands b now n is.stands none selected) is.counted is.room_is is.few is.page_is is.standing_is
 
   pub captured_closes : (c : Option Captured) (p : Option Sheet) → MatchOption c ⊤ (λ _. b.count ≡ 1) → Keeps p (page_seen b.grove b.root now.term (typed_by c (place_in now.spot.selection)))

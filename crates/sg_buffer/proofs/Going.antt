@@ -7,7 +7,7 @@ use Rattle.sg_kinds.specs.Places.{Place}
 use Rattle.sg_kinds.specs.FromScratch.{value_in}
 use Rattle.sg_forest.specs.declared.node_id.NodeId.{NodeId}
 use Rattle.sg_forest.specs.Trees.{Climbs, IsLive}
-use Rattle.sg_groves.specs.Grove.{Grove, nodes, IsGrove}
+use Rattle.sg_groves.specs.Grove.{Grove, nodes, IsGrove, spec_shown}
 use Rattle.sg_groves.specs.Holds.{IsPlaced}
 use Rattle.sg_groves.proofs.Held.{node_held}
 use Rattle.sg_groves.proofs.Ways.{one_way}
@@ -31,24 +31,24 @@ module _ (g : Grove) (is : IsGrove g) (root : NodeId) (t : Term) (whole : IsWhol
   placed u n way = record { top = whole.top; holds = whole.holds; way = way }
 
   -- a node at a resting place is settled
-  pub settled_there : (u v : Place) (n : NodeId) → Climbs (nodes g) v n root → rests g.spec t v ≡ true → Climbs (nodes g) u n root → settled g.spec t u ≡ u
+  pub settled_there : (u v : Place) (n : NodeId) → Climbs (nodes g) v n root → rests (spec_shown g) t v ≡ true → Climbs (nodes g) u n root → settled (spec_shown g) t u ≡ u
   settled_there u v n at rest way =
       let same : u ≡ v = (one_way g is u v n root root whole.top whole.top way at).0 in
-      settled_itself g.spec t u (subst (λ z. rests g.spec t z ≡ true) (sym same) rest)
+      settled_itself (spec_shown g) t u (subst (λ z. rests (spec_shown g) t z ≡ true) (sym same) rest)
 
   -- the owner of a cell of the page
   record Owns (line col : ℕ) (n : NodeId) : Type 0 where
     place : Place
-    owner : owner_at (cells_of (marks_seen g.spec t nothing_typed)) line col ≡ Some place
+    owner : owner_at (cells_of (marks_seen g.spec g.view t nothing_typed)) line col ≡ Some place
     way : Climbs (nodes g) place n root
 
   module _ (p : Sheet) (page : p ≡ page_seen g root t nothing_typed) (line col : ℕ) where
     abbrev owner : Option Place
-    owner = owner_at (cells_of (marks_seen g.spec t nothing_typed)) line col
+    owner = owner_at (cells_of (marks_seen g.spec g.view t nothing_typed)) line col
 
     told : owner_at p.cells line col ≡ option_map (node_along g root) owner
     unfolding page_seen
-    told = ap (λ (z : Sheet). owner_at z.cells line col) page ∙ owner_told (node_along g root) (marks_seen g.spec t nothing_typed) line col
+    told = ap (λ (z : Sheet). owner_at z.cells line col) page ∙ owner_told (node_along g root) (marks_seen g.spec g.view t nothing_typed) line col
 
     owns : (n : NodeId) → owner_at p.cells line col ≡ Some n → Owns line col n
     owns n e = by owner refl (sym told ∙ e)
@@ -56,7 +56,7 @@ module _ (g : Grove) (is : IsGrove g) (root : NodeId) (t : Term) (whole : IsWhol
         by : (o : Option Place) → owner ≡ o → option_map (node_along g root) o ≡ Some n → Owns line col n
         by None at h = absurd (none-some n h)
         by (Some v) at h =
-            let of = owner_there t (marks_seen g.spec t nothing_typed) line col v (marks_there g.spec (value_in g.spec t) nothing_typed t) at in
+            let of = owner_there t (marks_seen g.spec g.view t nothing_typed) line col v (marks_there (spec_shown g) (value_in g.spec t) nothing_typed t) at in
             let m = node_held g is v root t of.0 whole.holds of.1 in
             let same : m.0 ≡ n = sym (climbs_along g is root v m.0 m.1) ∙ same_Some (node_along g root v) n h in
             record { place = v; owner = at; way = subst (λ z. Climbs (nodes g) v z root) same m.1 }
@@ -74,35 +74,35 @@ module _ (g : Grove) (is : IsGrove g) (root : NodeId) (t : Term) (whole : IsWhol
             node_of (k ∷ w) c = record { node = c.1.node; found = c.1.found }
 
     pub cell_leads : (r : Option NodeId) → (owner_at p.cells line col ≡ None → r ≡ None)
-        → ((n : NodeId) (u : Place) → owner_at p.cells line col ≡ Some n → IsPlaced g root t u n → LeadsTo g root (Some (settled g.spec t u)) r)
-        → LeadsTo g root (option_map (settled g.spec t) owner) r
+        → ((n : NodeId) (u : Place) → owner_at p.cells line col ≡ Some n → IsPlaced g root t u n → LeadsTo g root (Some (settled (spec_shown g) t u)) r)
+        → LeadsTo g root (option_map (settled (spec_shown g) t) owner) r
     cell_leads r none some = by owner refl (owner_at p.cells line col) refl
       where
-        by : (o : Option Place) → owner ≡ o → (w : Option NodeId) → owner_at p.cells line col ≡ w → LeadsTo g root (option_map (settled g.spec t) o) r
+        by : (o : Option Place) → owner ≡ o → (w : Option NodeId) → owner_at p.cells line col ≡ w → LeadsTo g root (option_map (settled (spec_shown g) t) o) r
         by None at None e = subst (LeadsTo g root None) (sym (none e)) tt
         by None at (Some n) e = absurd (none-some n (sym (told ∙ ap (option_map (node_along g root)) at) ∙ e))
         by (Some v) at None e = absurd (none-some (node_along g root v) (sym e ∙ told ∙ ap (option_map (node_along g root)) at))
         by (Some v) at (Some n) e =
             let o = owns n e in
             let same : o.place ≡ v = same_Some o.place v (sym o.owner ∙ at) in
-            subst (λ z. LeadsTo g root (Some (settled g.spec t z)) r) same (some n o.place e (placed o.place n o.way))
+            subst (λ z. LeadsTo g root (Some (settled (spec_shown g) t z)) r) same (some n o.place e (placed o.place n o.way))
 
   -- an answer that leads to a resting place
   pub record Reached (o : Option Place) (n : NodeId) : Type 0 where
     pub place : Place
     pub at : o ≡ Some place
     pub way : Climbs (nodes g) place n root
-    pub rest : rests g.spec t place ≡ true
+    pub rest : rests (spec_shown g) t place ≡ true
 
-  pub reached : (o : Option Place) (n : NodeId) → ((v : Place) → o ≡ Some v → rests g.spec t v ≡ true) → LeadsTo g root o (Some n) → Reached o n
+  pub reached : (o : Option Place) (n : NodeId) → ((v : Place) → o ≡ Some v → rests (spec_shown g) t v ≡ true) → LeadsTo g root o (Some n) → Reached o n
   reached o n rest leads = (let v = leads_some g root n o leads in record { place = v.0; at = v.1; way = v.2; rest = rest v.0 v.1 })
 
-  pub move_rests : (to : Move) (u v : Place) → target to g.spec t u ≡ Some v → rests g.spec t v ≡ true
-  move_rests to u v e = leads_to_rest g.spec t to u v e
+  pub move_rests : (to : Move) (u v : Place) → target to (spec_shown g) t u ≡ Some v → rests (spec_shown g) t v ≡ true
+  move_rests to u v e = leads_to_rest (spec_shown g) t to u v e
 
-  pub cell_rests : (o : Option Place) (v : Place) → option_map (settled g.spec t) o ≡ Some v → rests g.spec t v ≡ true
+  pub cell_rests : (o : Option Place) (v : Place) → option_map (settled (spec_shown g) t) o ≡ Some v → rests (spec_shown g) t v ≡ true
   cell_rests None v e = absurd (none-some v e)
-  cell_rests (Some w) v e = subst (λ z. rests g.spec t z ≡ true) (same_Some (settled g.spec t w) v e) (settled_rests g.spec t w)
+  cell_rests (Some w) v e = subst (λ z. rests (spec_shown g) t z ≡ true) (same_Some (settled (spec_shown g) t w) v e) (settled_rests (spec_shown g) t w)
 
 -- what is answered where a move leads somewhere, and where it leads nowhere
 pub answered_some : {A : Type 0} (f : Place → A) (o : Option Place) (v : Place) (P : Type 0) (R : A → Type 0) → o ≡ Some v → R (f v) → MatchOption (option_map f o) P R

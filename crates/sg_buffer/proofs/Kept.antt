@@ -37,10 +37,11 @@ abbrev pub regrown : Held → Grove → Held
 regrown b new = record b { grove = new }
 
 -- terms are held in it still
-grove_kept : (old new : Grove) → IsGrove old → new.spec ≡ old.spec → IsGrown old.pool new.pool → ((n : NodeId) → nodes new n ≡ nodes old n) → IsGrove new
-grove_kept old new is spec grown same =
-    subst (λ (z : Spec). IsGrove (grove z new.trees new.pool)) (sym spec)
-    (IsGrove-after old.spec old.trees new.trees old.pool new.pool grown is trees each)
+grove_kept : (old new : Grove) → IsGrove old → new.spec ≡ old.spec → new.view ≡ old.view → IsGrown old.pool new.pool → ((n : NodeId) → nodes new n ≡ nodes old n) → IsGrove new
+grove_kept old new is spec view grown same =
+    subst (λ (z : Spec). IsGrove (grove z new.view new.trees new.pool)) (sym spec)
+    (subst (λ (v : ℕ). IsGrove (grove old.spec v new.trees new.pool)) (sym view)
+    (IsGrove-after old.spec old.view old.trees new.trees old.pool new.pool grown is trees each))
   where
     functions : node_at new.trees ≡ node_at old.trees
     functions = λ i n. same n i
@@ -48,23 +49,23 @@ grove_kept old new is spec grown same =
     trees : AreTrees new.trees
     trees = subst (λ (f : NodeId → Option (Node Kind Part)). IsForest (λ (k : Kind). k.arity) (λ (k : Kind). 0) (λ (k : Kind) (i : ℕ). 0) f) (sym functions) is.forest
 
-    kinds : KeepsKinds old.spec old.trees new.trees old.pool new.pool
+    kinds : KeepsKinds old.spec old.view old.trees new.trees old.pool new.pool
     kinds n x y there then = (let e : Some y ≡ Some x = sym then ∙ same n ∙ there in let z : y ≡ x = cc e in ap (λ (w : Node Kind Part). w.label) z)
 
-    each : (n : NodeId) (y : Node Kind Part) → node_at new.trees n ≡ Some y → IsNode (grove old.spec new.trees new.pool) y
+    each : (n : NodeId) (y : Node Kind Part) → node_at new.trees n ≡ Some y → IsNode (grove old.spec old.view new.trees new.pool) y
     each n y then =
         let there = sym (same n) ∙ then in
-        node_after old.spec old.trees new.trees old.pool new.pool grown is n y y there refl refl (kids_fit old.spec old.trees new.trees old.pool new.pool grown is kinds n y there)
+        node_after old.spec old.view old.trees new.trees old.pool new.pool grown is n y y there refl refl (kids_fit old.spec old.view old.trees new.trees old.pool new.pool grown is kinds n y there)
 
-module _ (b : Held) (count room : ℕ) (page : Option Sheet) (standing : Standing) (is : IsBuffer b count room page standing) (new : Grove) (spec : new.spec ≡ b.grove.spec) (pool : IsGrown b.grove.pool new.pool) (same : (n : NodeId) → nodes new n ≡ nodes b.grove n) where
+module _ (b : Held) (count room : ℕ) (page : Option Sheet) (standing : Standing) (is : IsBuffer b count room page standing) (new : Grove) (spec : new.spec ≡ b.grove.spec) (view : new.view ≡ b.grove.view) (pool : IsGrown b.grove.pool new.pool) (same : (n : NodeId) → nodes new n ≡ nodes b.grove n) where
   abbrev st : State
   st = state_of b
 
   on : IsGrove new
-  on = grove_kept b.grove new is.stands.grove spec pool same
+  on = grove_kept b.grove new is.stands.grove spec view pool same
 
   tree : (n : NodeId) → KeepsTree b.grove new n
-  tree n = record { spec = spec; pool = pool; nodes = λ m inside. same m }
+  tree n = record { spec = spec; view = view; pool = pool; nodes = λ m inside. same m }
 
   root_back : (n : NodeId) → IsRoot (nodes new) n → IsRoot (nodes b.grove) n
   root_back n top = record { node = top.node; found = sym (same n) ∙ top.found; top = top.top }
@@ -82,6 +83,7 @@ module _ (b : Held) (count room : ℕ) (page : Option Sheet) (standing : Standin
     selected = climbs_on b.grove new b.root (tree b.root) (place_in st.spot.selection) b.selected is.stands.selected;
     count = is.stands.count;
     top = is.stands.top;
+    view = view ∙ is.stands.view;
     spot = subst (λ (z : Spec). is_spot z b.height st.term st.spot ≡ true) (sym spec) is.stands.spot;
     past = told_agrees (term_at b.grove) (term_at new) Back st.term b.past (agree_first (term_at b.grove) (term_at new) b.past b.future agree) ∙ is.stands.past;
     future = told_agrees (term_at b.grove) (term_at new) Forth st.term b.future (agree_second (term_at b.grove) (term_at new) b.past b.future agree) ∙ is.stands.future;
@@ -115,4 +117,4 @@ module _ (b : Held) (count room : ℕ) (page : Option Sheet) (standing : Standin
 
   -- where the fields are seen as another value
   pub kept_here : (v : Held) → b ≡ v → IsBuffer (regrown b new) count room page standing × IsAsBefore v (regrown b new)
-  kept_here v view = (regrown_closes.is, subst (λ z. IsAsBefore z (regrown b new)) view as_before)
+  kept_here v same_held = (regrown_closes.is, subst (λ z. IsAsBefore z (regrown b new)) same_held as_before)

@@ -9,3 +9,4 @@ pub mod Changing
 pub mod Toggling
 pub mod Replacing
 pub mod Along
+pub mod Viewing

@@ -3,10 +3,11 @@ use Rattle.std.specs.Prelude.{◌≡◌, ◌≢◌, refl, ℕ, ◌+◌, ◌-◌,
 use Rattle.std.proofs.Common.{sym, ap, ◌∙◌, subst}
 use Rattle.sg_kinds.specs.Terms.{Term}
 use Rattle.sg_kinds.specs.Places.{Place, place_of}
+use Rattle.sg_kinds.specs.InView.{in_view}
 use Rattle.sg_forest.specs.declared.node_id.NodeId.{NodeId}
 use Rattle.sg_forest.specs.Trees.{Climbs, IsInside, IsLive}
 use Rattle.sg_forest.proofs.Paths.{root_is_live}
-use Rattle.sg_groves.specs.Grove.{nodes}
+use Rattle.sg_groves.specs.Grove.{nodes, spec_shown}
 use Rattle.sg_groves.specs.Holds.{Holds, IsPlaced}
 use Rattle.sg_changes.specs.Captured.{Captured, captured, put_in, taken_out}
 use Rattle.sg_changes.specs.Top.{topped}
@@ -23,7 +24,7 @@ use Rattle.sg_states.specs.Beginnings.{Begins}
 use Rattle.sg_states.specs.Selections.{elements_at, path_to}
 use Rattle.sg_states.specs.Seen.{first_line, marks_seen, nothing_typed}
 use Rattle.sg_states.specs.States as states
-use Rattle.sg_states.specs.States.{State, extension, selected_place, target}
+use Rattle.sg_states.specs.States.{State, extension, selected_place, shown_spec, target}
 use Rattle.sg_states.specs.Paged.{IsWhole, page_seen}
 use Rattle.sg_states.specs.declared.marks.Extended.TheVariants.{Done, NotInList, NoPlace}
 use Rattle.sg_states.specs.declared.marks.Move.{Move}
@@ -60,30 +61,42 @@ module _ (b : Held) (count room : ℕ) (page : Option Sheet) (standing : Standin
   pub placed_now : IsPlaced b.grove b.root now.term (selected_place now) b.selected
   placed_now = stands.placed b now is.stands
 
+  -- the grove is shown in the view of the state
+  pub view_now : b.grove.view ≡ now.spot.view
+  view_now = is.stands.view
+
+  pub spec_now : spec_shown b.grove ≡ shown_spec b.grove.spec now
+  spec_now = ap (in_view b.grove.spec) view_now
+
   -- the path that is kept leads to the selected node
   pub way_there : Climbs (nodes b.grove) (place_of standing.way) b.selected b.root
   way_there = subst (λ p. Climbs (nodes b.grove) (place_of p) b.selected b.root) (sym is.standing_is.0) is.stands.selected
 
-  pub rests_now : rests b.grove.spec now.term (selected_place now) ≡ true
-  rests_now = selection_rests b.grove.spec now.term (selected_place now) now.spot.selection.count (spot_selects b.grove.spec b.height now.term now.spot is.stands.spot)
+  pub rests_now : rests (spec_shown b.grove) now.term (selected_place now) ≡ true
+  rests_now =
+      subst (λ z. rests z now.term (selected_place now) ≡ true) (sym spec_now)
+      (selection_rests b.grove.spec now.spot.view now.term (selected_place now) now.spot.selection.count (spot_selects b.grove.spec b.height now.term now.spot is.stands.spot))
 
   -- a node that settles where it is
-  pub stand_closes : (p : Sheet) → p ≡ shown b → (o : Standing) (n : NodeId) (top : ℕ) → ((u : Place) → Climbs (nodes b.grove) u n b.root → o.way ≡ path_to u) → b.capture ≡ None → ((u : Place) → Climbs (nodes b.grove) u n b.root → settled b.grove.spec now.term u ≡ u)
-      → ((u : Place) → IsWhole b.grove b.root now.term → Climbs (nodes b.grove) u n b.root → p ≡ page_seen b.grove b.root now.term nothing_typed → top ≡ topped b.height (first_line b.grove.spec now.term u) b.top)
-      → ((u : Place) → IsWhole b.grove b.root now.term → Climbs (nodes b.grove) u n b.root → p ≡ page_seen b.grove b.root now.term nothing_typed → IfSome o.begins (Begins b.grove.spec now.term u))
+  pub stand_closes : (p : Sheet) → p ≡ shown b → (o : Standing) (n : NodeId) (top : ℕ) → ((u : Place) → Climbs (nodes b.grove) u n b.root → o.way ≡ path_to u) → b.capture ≡ None → ((u : Place) → Climbs (nodes b.grove) u n b.root → settled (shown_spec b.grove.spec now) now.term u ≡ u)
+      → ((u : Place) → IsWhole b.grove b.root now.term → Climbs (nodes b.grove) u n b.root → p ≡ page_seen b.grove b.root now.term nothing_typed → top ≡ topped b.height (first_line b.grove.spec b.grove.view now.term u) b.top)
+      → ((u : Place) → IsWhole b.grove b.root now.term → Climbs (nodes b.grove) u n b.root → p ≡ page_seen b.grove b.root now.term nothing_typed → IfSome o.begins (Begins b.grove.spec b.grove.view now.term u))
       → (u : Place) → Climbs (nodes b.grove) u n b.root → Closes (stood b n top) (states.selected b.grove.spec b.height u now) count room (Some p) o
   stand_closes p shows o n top path none still seen begun u way =
       let plain = plain_page b count room page standing is p none shows in
-      let rest : rests b.grove.spec now.term u ≡ true = subst (λ z. rests b.grove.spec now.term z ≡ true) (still u way) (settled_rests b.grove.spec now.term u) in
-      stood_closes b count room page standing is p shows o u n top (path u way) (begun u is.stands.whole way plain) none way rest (seen u is.stands.whole way plain)
+      let rest : rests (shown_spec b.grove.spec now) now.term u ≡ true = subst (λ z. rests (shown_spec b.grove.spec now) now.term z ≡ true) (still u way) (settled_rests (shown_spec b.grove.spec now) now.term u) in
+      stood_closes b count room page standing is p shows o u n top (path u way) (subst (λ v. IfSome o.begins (Begins b.grove.spec v now.term u)) view_now (begun u is.stands.whole way plain)) none way rest
+      (seen u is.stands.whole way plain ∙ ap (λ v. topped b.height (first_line b.grove.spec v now.term u) b.top) view_now)
 
   -- a move that leads to a node
-  pub go_reaches : (to : Move) (n : NodeId) → LeadsTo b.grove b.root (target to b.grove.spec now.term (selected_place now)) (Some n)
-      → Reached b.grove is.stands.grove b.root now.term is.stands.whole (target to b.grove.spec now.term (selected_place now)) n
-  go_reaches to n leads = reached b.grove is.stands.grove b.root now.term is.stands.whole (target to b.grove.spec now.term (selected_place now)) n (move_rests b.grove is.stands.grove b.root now.term is.stands.whole to (selected_place now)) leads
+  pub go_reaches : (to : Move) (n : NodeId) → LeadsTo b.grove b.root (target to (spec_shown b.grove) now.term (selected_place now)) (Some n)
+      → Reached b.grove is.stands.grove b.root now.term is.stands.whole (target to (shown_spec b.grove.spec now) now.term (selected_place now)) n
+  go_reaches to n leads =
+      subst (λ z. Reached b.grove is.stands.grove b.root now.term is.stands.whole (target to z now.term (selected_place now)) n) spec_now
+      (reached b.grove is.stands.grove b.root now.term is.stands.whole (target to (spec_shown b.grove) now.term (selected_place now)) n (move_rests b.grove is.stands.grove b.root now.term is.stands.whole to (selected_place now)) leads)
 
-  pub still_there : (o : Option Place) (n : NodeId) → Reached b.grove is.stands.grove b.root now.term is.stands.whole o n → (u : Place) → Climbs (nodes b.grove) u n b.root → settled b.grove.spec now.term u ≡ u
-  still_there o n r u way = settled_there b.grove is.stands.grove b.root now.term is.stands.whole u r.place n r.way r.rest way
+  pub still_there : (o : Option Place) (n : NodeId) → Reached b.grove is.stands.grove b.root now.term is.stands.whole o n → (u : Place) → Climbs (nodes b.grove) u n b.root → settled (shown_spec b.grove.spec now) now.term u ≡ u
+  still_there o n r u way = subst (λ z. settled z now.term u ≡ u) spec_now (settled_there b.grove is.stands.grove b.root now.term is.stands.whole u r.place n r.way r.rest way)
 
   pub inside_there : (o : Option Place) (n : NodeId) → Reached b.grove is.stands.grove b.root now.term is.stands.whole o n → IsInside (nodes b.grove) n b.root
   inside_there o n r = record { path = r.place; climbs = r.way }
@@ -120,15 +133,15 @@ module _ (b : Held) (count room : ℕ) (page : Option Sheet) (standing : Standin
 -- the same, where the fields are seen as another value
 module _ (b v : Held) (view : b ≡ v) (count room : ℕ) (page : Option Sheet) (standing : Standing) (is : IsBuffer b count room page standing) where
   pub stood_here : (p : Sheet) → p ≡ shown v → (o : Standing) (n : NodeId) (top : ℕ) → ((root : NodeId) (t : Term) (u : Place) → IsPlaced b.grove root t u n → place_of o.way ≡ u) → IsInside (nodes v.grove) n v.root → v.capture ≡ None
-      → ((u : Place) → Climbs (nodes v.grove) u n v.root → settled v.grove.spec (state_of v).term u ≡ u)
-      → ((root : NodeId) (t : Term) (u : Place) → IsWhole b.grove root t → Climbs (nodes b.grove) u n root → p ≡ page_seen b.grove root t nothing_typed → top ≡ topped b.height (first_line b.grove.spec t u) b.top)
-      → ((root : NodeId) (t : Term) (u : Place) → IsWhole b.grove root t → Climbs (nodes b.grove) u n root → p ≡ page_seen b.grove root t nothing_typed → IfSome o.begins (Begins b.grove.spec t u))
+      → ((u : Place) → Climbs (nodes v.grove) u n v.root → settled (shown_spec v.grove.spec (state_of v)) (state_of v).term u ≡ u)
+      → ((root : NodeId) (t : Term) (u : Place) → IsWhole b.grove root t → Climbs (nodes b.grove) u n root → p ≡ page_seen b.grove root t nothing_typed → top ≡ topped b.height (first_line b.grove.spec b.grove.view t u) b.top)
+      → ((root : NodeId) (t : Term) (u : Place) → IsWhole b.grove root t → Climbs (nodes b.grove) u n root → p ≡ page_seen b.grove root t nothing_typed → IfSome o.begins (Begins b.grove.spec b.grove.view t u))
       → IsBuffer (stood b n top) count room (Some p) o × ((u : Place) → Climbs (nodes v.grove) u n v.root → state_of (stood b n top) ≡ states.selected v.grove.spec v.height u (state_of v))
   stood_here p shows o n top named node none still seen begun =
       let here : IsInside (nodes b.grove) n b.root = subst (λ (z : Held). IsInside (nodes z.grove) n z.root) (sym view) node in
       let free : b.capture ≡ None = ap (λ (z : Held). z.capture) view ∙ none in
-      let stays : (u : Place) → Climbs (nodes b.grove) u n b.root → settled b.grove.spec (state_of b).term u ≡ u =
-      subst (λ (z : Held). (u : Place) → Climbs (nodes z.grove) u n z.root → settled z.grove.spec (state_of z).term u ≡ u) (sym view) still in
+      let stays : (u : Place) → Climbs (nodes b.grove) u n b.root → settled (shown_spec b.grove.spec (state_of b)) (state_of b).term u ≡ u =
+      subst (λ (z : Held). (u : Place) → Climbs (nodes z.grove) u n z.root → settled (shown_spec z.grove.spec (state_of z)) (state_of z).term u ≡ u) (sym view) still in
       let path : (u : Place) → Climbs (nodes b.grove) u n b.root → o.way ≡ path_to u =
       λ u way. sym (path_back o.way) ∙ ap path_to (named b.root (state_of b).term u (record { top = is.stands.whole.top; holds = is.stands.whole.holds; way = way })) in
       let all = stand_closes b count room page standing is p (subst (λ (z : Held). p ≡ shown z) (sym view) shows) o n top path free stays (λ u whole way paged. seen b.root (state_of b).term u whole way paged) (λ u whole way paged. begun b.root (state_of b).term u whole way paged) in (
@@ -145,7 +158,8 @@ module _ (b v : Held) (view : b ≡ v) (count room : ℕ) (page : Option Sheet) 
         whole = is.stands.whole;
         way = is.stands.selected;
         rests = rests_now b count room page standing is;
-        begins = subst (λ o. MatchOption o ⊤ (Begins b.grove.spec (state_of b).term (selected_place (state_of b)))) kept is.standing_is.1;
+        begins = subst (λ w. Begins b.grove.spec w (state_of b).term (selected_place (state_of b)) at) (sym (view_now b count room page standing is))
+            (subst (λ o. MatchOption o ⊤ (Begins b.grove.spec (state_of b).spot.view (state_of b).term (selected_place (state_of b)))) kept is.standing_is.1);
         counted = is.counted;
       })
 
@@ -154,35 +168,43 @@ module _ (b v : Held) (view : b ≡ v) (count room : ℕ) (page : Option Sheet) 
     pub place : Place
     pub at : o ≡ Some place
     pub way : Climbs (nodes v.grove) place n v.root
-    pub still : (u : Place) → Climbs (nodes v.grove) u n v.root → settled v.grove.spec (state_of v).term u ≡ u
+    pub still : (u : Place) → Climbs (nodes v.grove) u n v.root → settled (shown_spec v.grove.spec (state_of v)) (state_of v).term u ≡ u
 
   pub found : (o : Option Place) (n : NodeId) → Reached b.grove is.stands.grove b.root (state_of b).term is.stands.whole o n → Found o n
   found o n r = record {
     place = r.place;
     at = r.at;
     way = subst (λ (z : Held). Climbs (nodes z.grove) r.place n z.root) view r.way;
-    still = subst (λ (z : Held). (u : Place) → Climbs (nodes z.grove) u n z.root → settled z.grove.spec (state_of z).term u ≡ u) view (still_there b count room page standing is o n r);
+    still = subst (λ (z : Held). (u : Place) → Climbs (nodes z.grove) u n z.root → settled (shown_spec z.grove.spec (state_of z)) (state_of z).term u ≡ u) view (still_there b count room page standing is o n r);
   }
 
   abbrev pub goes : Held → Move → Option Place
-  goes z to = target to z.grove.spec (state_of z).term (selected_place (state_of z))
+  goes z to = target to (shown_spec z.grove.spec (state_of z)) (state_of z).term (selected_place (state_of z))
 
-  pub gone : (to : Move) (n : NodeId) → ((root : NodeId) (t : Term) (u : Place) → IsPlaced b.grove root t u b.selected → rests b.grove.spec t u ≡ true → LeadsTo b.grove root (target to b.grove.spec t u) (Some n)) → Found (goes v to) n
+  pub gone : (to : Move) (n : NodeId) → ((root : NodeId) (t : Term) (u : Place) → IsPlaced b.grove root t u b.selected → rests (spec_shown b.grove) t u ≡ true → LeadsTo b.grove root (target to (spec_shown b.grove) t u) (Some n)) → Found (goes v to) n
   gone to n leads =
       subst (λ (z : Held). Found (goes z to) n) view
       (found (goes b to) n (go_reaches b count room page standing is to n (leads b.root (state_of b).term (selected_place (state_of b)) (placed_now b count room page standing is) (rests_now b count room page standing is))))
 
-  pub stays : (to : Move) → ((root : NodeId) (t : Term) (u : Place) → IsPlaced b.grove root t u b.selected → rests b.grove.spec t u ≡ true → LeadsTo b.grove root (target to b.grove.spec t u) None) → goes v to ≡ None
+  pub stays : (to : Move) → ((root : NodeId) (t : Term) (u : Place) → IsPlaced b.grove root t u b.selected → rests (spec_shown b.grove) t u ≡ true → LeadsTo b.grove root (target to (spec_shown b.grove) t u) None) → goes v to ≡ None
   stays to leads =
       subst (λ (z : Held). goes z to ≡ None) view
-      (leads_none b.grove b.root (goes b to) (leads b.root (state_of b).term (selected_place (state_of b)) (placed_now b count room page standing is) (rests_now b count room page standing is)))
+      (subst (λ z. target to z (state_of b).term (selected_place (state_of b)) ≡ None) (spec_now b count room page standing is)
+      (leads_none b.grove b.root (target to (spec_shown b.grove) (state_of b).term (selected_place (state_of b)))
+      (leads b.root (state_of b).term (selected_place (state_of b)) (placed_now b count room page standing is) (rests_now b count room page standing is))))
 
-  -- cells
+  -- cells, in a view, and in that of the state
+  abbrev picks_in : Held → ℕ → ℕ → ℕ → Option Place
+  picks_in z w line col = owner_at (cells_of (marks_seen z.grove.spec w (state_of z).term nothing_typed)) line col
+
+  abbrev picks_to_in : Held → ℕ → ℕ → ℕ → Option Place
+  picks_to_in z w line col = option_map (settled (in_view z.grove.spec w) (state_of z).term) (picks_in z w line col)
+
   abbrev pub picks : Held → ℕ → ℕ → Option Place
-  picks z line col = owner_at (cells_of (marks_seen z.grove.spec (state_of z).term nothing_typed)) line col
+  picks z line col = picks_in z (state_of z).spot.view line col
 
   abbrev pub picks_to : Held → ℕ → ℕ → Option Place
-  picks_to z line col = option_map (settled z.grove.spec (state_of z).term) (picks z line col)
+  picks_to z line col = picks_to_in z (state_of z).spot.view line col
 
   plain : (p : Sheet) → p ≡ shown v → v.capture ≡ None → p ≡ page_seen b.grove b.root (state_of b).term nothing_typed
   plain p shows none = plain_page b count room page standing is p (ap (λ (z : Held). z.capture) view ∙ none) (subst (λ (z : Held). p ≡ shown z) (sym view) shows)
@@ -191,20 +213,22 @@ module _ (b v : Held) (view : b ≡ v) (count room : ℕ) (page : Option Sheet) 
   cell_there p shows none line col n e = cell_live b.grove is.stands.grove b.root (state_of b).term is.stands.whole p (plain p shows none) line col n e
 
   pub picked_at : (p : Sheet) → p ≡ shown v → v.capture ≡ None → (line col : ℕ) (n : NodeId) → (owner_at p.cells line col ≡ None → Some n ≡ None)
-      → ((m root : NodeId) (t : Term) (u : Place) → owner_at p.cells line col ≡ Some m → IsPlaced b.grove root t u m → LeadsTo b.grove root (Some (settled b.grove.spec t u)) (Some n)) → Found (picks_to v line col) n
+      → ((m root : NodeId) (t : Term) (u : Place) → owner_at p.cells line col ≡ Some m → IsPlaced b.grove root t u m → LeadsTo b.grove root (Some (settled (spec_shown b.grove) t u)) (Some n)) → Found (picks_to v line col) n
   picked_at p shows none line col n no_cell leads =
       subst (λ (z : Held). Found (picks_to z line col) n) view
       (found (picks_to b line col) n
-      (reached b.grove is.stands.grove b.root (state_of b).term is.stands.whole (picks_to b line col) n (cell_rests b.grove is.stands.grove b.root (state_of b).term is.stands.whole (picks b line col))
-      (cell_leads b.grove is.stands.grove b.root (state_of b).term is.stands.whole p (plain p shows none) line col (Some n) no_cell (λ m u e placed. leads m b.root (state_of b).term u e placed))))
+      (subst (λ w. Reached b.grove is.stands.grove b.root (state_of b).term is.stands.whole (picks_to_in b w line col) n) (view_now b count room page standing is)
+      (reached b.grove is.stands.grove b.root (state_of b).term is.stands.whole (picks_to_in b b.grove.view line col) n (cell_rests b.grove is.stands.grove b.root (state_of b).term is.stands.whole (picks_in b b.grove.view line col))
+      (cell_leads b.grove is.stands.grove b.root (state_of b).term is.stands.whole p (plain p shows none) line col (Some n) no_cell (λ m u e placed. leads m b.root (state_of b).term u e placed)))))
 
   pub picked_none : (p : Sheet) → p ≡ shown v → v.capture ≡ None → (line col : ℕ)
-      → ((m root : NodeId) (t : Term) (u : Place) → owner_at p.cells line col ≡ Some m → IsPlaced b.grove root t u m → LeadsTo b.grove root (Some (settled b.grove.spec t u)) None) → picks v line col ≡ None
+      → ((m root : NodeId) (t : Term) (u : Place) → owner_at p.cells line col ≡ Some m → IsPlaced b.grove root t u m → LeadsTo b.grove root (Some (settled (spec_shown b.grove) t u)) None) → picks v line col ≡ None
   picked_none p shows none line col leads =
       subst (λ (z : Held). picks z line col ≡ None) view
-      (nothing (picks b line col) (cell_leads b.grove is.stands.grove b.root (state_of b).term is.stands.whole p (plain p shows none) line col None (λ e. refl) (λ m u e placed. leads m b.root (state_of b).term u e placed)))
+      (subst (λ w. picks_in b w line col ≡ None) (view_now b count room page standing is)
+      (nothing (picks_in b b.grove.view line col) (cell_leads b.grove is.stands.grove b.root (state_of b).term is.stands.whole p (plain p shows none) line col None (λ e. refl) (λ m u e placed. leads m b.root (state_of b).term u e placed))))
     where
-      nothing : (o : Option Place) → LeadsTo b.grove b.root (option_map (settled b.grove.spec (state_of b).term) o) None → o ≡ None
+      nothing : (o : Option Place) → LeadsTo b.grove b.root (option_map (settled (spec_shown b.grove) (state_of b).term) o) None → o ≡ None
       nothing None h = refl
       nothing (Some w) h = absurd h
 
@@ -220,12 +244,14 @@ module _ (b v : Held) (view : b ≡ v) (count room : ℕ) (page : Option Sheet) 
       by (k ∷ w) c = record { node = c.1.node; found = c.1.found }
 
   pub settles : (n m : NodeId) (u : Place) → Climbs (nodes v.grove) u n v.root
-      → ((root : NodeId) (t : Term) (u : Place) → IsPlaced b.grove root t u n → Climbs (nodes b.grove) (settled b.grove.spec t u) m root) → Found (Some (settled v.grove.spec (state_of v).term u)) m
+      → ((root : NodeId) (t : Term) (u : Place) → IsPlaced b.grove root t u n → Climbs (nodes b.grove) (settled (spec_shown b.grove) t u) m root) → Found (Some (settled (shown_spec v.grove.spec (state_of v)) (state_of v).term u)) m
   settles n m u way settle =
       let here : Climbs (nodes b.grove) u n b.root = subst (λ (z : Held). Climbs (nodes z.grove) u n z.root) (sym view) way in
       let at = settle b.root (state_of b).term u (record { top = is.stands.whole.top; holds = is.stands.whole.holds; way = here }) in
-      subst (λ (z : Held). Found (Some (settled z.grove.spec (state_of z).term u)) m) view
-      (found (Some (settled b.grove.spec (state_of b).term u)) m (record { place = settled b.grove.spec (state_of b).term u; at = refl; way = at; rest = settled_rests b.grove.spec (state_of b).term u }))
+      subst (λ (z : Held). Found (Some (settled (shown_spec z.grove.spec (state_of z)) (state_of z).term u)) m) view
+      (found (Some (settled (shown_spec b.grove.spec (state_of b)) (state_of b).term u)) m
+      (subst (λ z. Reached b.grove is.stands.grove b.root (state_of b).term is.stands.whole (Some (settled z (state_of b).term u)) m) (spec_now b count room page standing is)
+      (record { place = settled (spec_shown b.grove) (state_of b).term u; at = refl; way = at; rest = settled_rests (spec_shown b.grove) (state_of b).term u })))
 
   -- counts
   pub longer_here : v.capture ≡ None → (state_of b).spot.selection.count < elements_at b.grove.spec (state_of b).term (selected_place (state_of b))

@@ -28,10 +28,10 @@ use Rattle.sg_changes.proofs.Telling.{agree_first, put_pushed}
 use Rattle.sg_undo.specs.Timeline.{Timeline}
 use Rattle.sg_unparse.specs.Sheet.{Sheet}
 use Rattle.sg_buffer.specs.declared.way.Standing.{Standing}
-use Rattle.sg_states.specs.Selections.{settled_selection}
-use Rattle.sg_states.specs.Seen.{seen}
+use Rattle.sg_states.specs.Paged.{IsLook}
+use Rattle.sg_states.specs.Seen.{settled_spot}
 use Rattle.sg_states.specs.States.{State, replaced}
-use Rattle.sg_states.proofs.Spotted.{settled_seen}
+use Rattle.sg_states.proofs.Spotted.{selected_seen}
 use Rattle.sg_turns.specs.Puts.{IsPut, MayPut}
 use Rattle.sg_turns.specs.Roots.{times, KeepsTree}
 use Rattle.sg_turns.specs.declared.turns.Turned.{Turned}
@@ -105,9 +105,9 @@ module _ (b : Held) (count room : ℕ) (page : Option Sheet) (standing : Standin
     abbrev now : Term
     now = put st.term u s
 
-    module _ (select : Selection) (mid : Grove) (on : IsGrove mid) (spec : mid.spec ≡ b.grove.spec) (t : Turned) (puts : IsPut b.grove mid b.root n st.term u s b.height select b.top t) (small : IsSmall now) where
+    module _ (select : Selection) (mid : Grove) (on : IsGrove mid) (spec : mid.spec ≡ b.grove.spec) (shown : mid.view ≡ b.grove.view) (t : Turned) (puts : IsPut b.grove mid b.root n st.term u s b.height select b.top t) (small : IsSmall now) where
       abbrev spot : Spot
-      spot = seen b.grove.spec b.height now (settled_selection b.grove.spec now select) st.spot.top
+      spot = settled_spot b.grove.spec b.height st.spot.view now select st.spot.top
 
       abbrev step : Step
       step = Replaced path n st.spot spot
@@ -118,18 +118,21 @@ module _ (b : Held) (count room : ℕ) (page : Option Sheet) (standing : Standin
       stood : Fits b.grove.spec (part_of st.term u) fit.1
       stood = subst (λ z. Fits b.grove.spec z fit.1) (sym (part_is st.term u fit.0 fit.2)) fit.3
 
-      puts_now : IsPut b.grove mid b.root n st.term u s b.height select st.spot.top t
-      puts_now = subst (λ k. IsPut b.grove mid b.root n st.term u s b.height select k t) is.stands.top puts
+      look_now : IsLook mid t.root now spot t.look
+      look_now =
+          subst (λ w. IsLook mid t.root now (settled_spot b.grove.spec b.height w now select st.spot.top) t.look) is.stands.view
+          (subst (λ k. IsLook mid t.root now (settled_spot b.grove.spec b.height b.grove.view now select k) t.look) is.stands.top puts.look)
 
       pub put_changed : Changed b mid now (Put u (part_of st.term u) s st.spot spot) step spot t
       put_changed = record {
         grove = on;
         spec = spec;
+        view = shown ∙ is.stands.view;
         whole = puts.whole;
         fits = puts.fits;
         small = small;
-        look = puts_now.look;
-        seen = settled_seen b.grove.spec b.height now select st.spot.top is.stands.tall;
+        look = look_now;
+        seen = selected_seen b.grove.spec b.height now st.spot.view select st.spot.top is.stands.tall;
         told = put_pushed (term_at b.grove) (term_at mid) st.term s (part_of st.term u) path n st.spot spot b.past part (held_at mid on n (part_of st.term u) puts.out)
             (agree_first (term_at b.grove) (term_at mid) b.past b.future
             (agree_then b.grove mid is.stands.grove on b.root [] (tops b.past b.future) is.stands.roots (λ m x top apart none holds. puts.hanging m x top apart holds)));
@@ -138,7 +141,7 @@ module _ (b : Held) (count room : ℕ) (page : Option Sheet) (standing : Standin
           proper = (fit.1, stood, fit.4);
           small = small;
           here = is.stands.spot;
-          there = settled_seen b.grove.spec b.height now select st.spot.top is.stands.tall;
+          there = selected_seen b.grove.spec b.height now st.spot.view select st.spot.top is.stands.tall;
         };
         after = refl;
         roots = puts.roots (tops b.past b.future) is.stands.roots;
@@ -153,12 +156,12 @@ module _ (b : Held) (count room : ℕ) (page : Option Sheet) (standing : Standin
 
       -- from what the calls tell, where the fields are seen as another value
       pub put_here : (v : Held) → b ≡ v → (before : Spot)
-          → before ≡ record { selection = record { path = standing.way; count = b.count }; top = b.top }
+          → before ≡ record { selection = record { path = standing.way; count = b.count }; top = b.top; view = b.grove.view }
           → (copy : List ℕ) → copy ≡ path → (made : Step) → made ≡ Replaced copy n before t.look.spot
           → (kept : Grove) → IsGrove kept → (h : Timeline Step) → Remembers mid kept b.past b.future room made h → (nodes : ℕ) → nodes ≡ nodes_of now
           → IsBuffer (changed_held b kept t h None) nodes h.room t.look.page (record { way = t.look.way; begins = t.look.begins }) × (state_of (changed_held b kept t h None) ≡ replaced v.grove.spec v.height u s select (state_of v)) × KeepsTree mid kept t.root
       put_here v view before told copy copy_is made made_is kept still h remembers nodes counted =
-          let same = made_is ∙ step_same copy path n before st.spot t.look.spot spot copy_is (spot_is b count room page standing is before told) puts_now.look.spot_is in
+          let same = made_is ∙ step_same copy path n before st.spot t.look.spot spot copy_is (spot_is b count room page standing is before told) look_now.spot_is in
           let kept_steps : Remembers mid kept b.past b.future room step h = subst (λ z. Remembers mid kept b.past b.future room z h) same remembers in
           let d = kept_steps.dropped in
           let c = changed_closes b count room page standing is mid kept still now (Put u (part_of st.term u) s st.spot spot) step spot t put_changed h kept_steps None refl nodes counted in (

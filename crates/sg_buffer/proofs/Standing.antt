@@ -23,15 +23,15 @@ use Rattle.sg_buffer.specs.declared.way.Standing.{Standing}
 use Rattle.sg_states.specs.Selections.{alone, path_to, place_in, elements_at, is_selection}
 use Rattle.sg_states.specs.Seen.{first_line, is_seen}
 use Rattle.sg_states.specs.States as states
-use Rattle.sg_states.specs.States.{State}
+use Rattle.sg_states.specs.States.{State, shown_spec}
 use Rattle.sg_states.proofs.Selecting.{path_there, path_back, alone_selected}
 use Rattle.sg_states.proofs.Spotted.{spot_seen, spot_selects, spot_shows}
 use Rattle.sg_buffer.specs.Held.{Held, page_by, state_of, term_in, selected_in}
 use Rattle.sg_buffer.specs.Buffers.{StandsFor, IsBuffer, Keeps, IsStanding}
 
-abbrev state : Term → List ℕ → ℕ → ℕ → List Change → List Change → Option Captured → State
-state t path count top past future capture =
-    record { term = t; spot = record { selection = record { path = path; count = count }; top = top }; past = past; future = future; capture = capture }
+abbrev state : Term → List ℕ → ℕ → ℕ → ℕ → List Change → List Change → Option Captured → State
+state t path count top view past future capture =
+    record { term = t; spot = record { selection = record { path = path; count = count }; top = top; view = view }; past = past; future = future; capture = capture }
 
 pub placed : (b : Held) (st : State) → StandsFor b st → IsPlaced b.grove b.root st.term (place_in st.spot.selection) b.selected
 placed b st s = record { top = s.whole.top; holds = s.whole.holds; way = s.selected }
@@ -44,13 +44,14 @@ stands_told b st s =
     let term : term_in b ≡ st.term = held_at g s.grove b.root st.term s.whole.holds in
     let path : path_to (selected_in b) ≡ st.spot.selection.path =
     ap path_to (way_is g s.grove (place_in st.spot.selection) b.selected b.root s.whole.top s.selected) ∙ path_back st.spot.selection.path in
-    ap (λ t. state t (path_to (selected_in b)) b.count b.top (told_past (term_at g) t b.past) (told_future (term_at g) t b.future) b.capture) term
-    ∙ ap (λ p. state st.term p b.count b.top (told_past (term_at g) st.term b.past) (told_future (term_at g) st.term b.future) b.capture) path
-    ∙ ap (λ n. state st.term st.spot.selection.path n b.top (told_past (term_at g) st.term b.past) (told_future (term_at g) st.term b.future) b.capture) s.count
-    ∙ ap (λ n. state st.term st.spot.selection.path st.spot.selection.count n (told_past (term_at g) st.term b.past) (told_future (term_at g) st.term b.future) b.capture) s.top
-    ∙ ap (λ cs. state st.term st.spot.selection.path st.spot.selection.count st.spot.top cs (told_future (term_at g) st.term b.future) b.capture) s.past
-    ∙ ap (λ cs. state st.term st.spot.selection.path st.spot.selection.count st.spot.top st.past cs b.capture) s.future
-    ∙ ap (λ c. state st.term st.spot.selection.path st.spot.selection.count st.spot.top st.past st.future c) s.capture
+    ap (λ t. state t (path_to (selected_in b)) b.count b.top g.view (told_past (term_at g) t b.past) (told_future (term_at g) t b.future) b.capture) term
+    ∙ ap (λ p. state st.term p b.count b.top g.view (told_past (term_at g) st.term b.past) (told_future (term_at g) st.term b.future) b.capture) path
+    ∙ ap (λ n. state st.term st.spot.selection.path n b.top g.view (told_past (term_at g) st.term b.past) (told_future (term_at g) st.term b.future) b.capture) s.count
+    ∙ ap (λ n. state st.term st.spot.selection.path st.spot.selection.count n g.view (told_past (term_at g) st.term b.past) (told_future (term_at g) st.term b.future) b.capture) s.top
+    ∙ ap (λ v. state st.term st.spot.selection.path st.spot.selection.count st.spot.top v (told_past (term_at g) st.term b.past) (told_future (term_at g) st.term b.future) b.capture) s.view
+    ∙ ap (λ cs. state st.term st.spot.selection.path st.spot.selection.count st.spot.top st.spot.view cs (told_future (term_at g) st.term b.future) b.capture) s.past
+    ∙ ap (λ cs. state st.term st.spot.selection.path st.spot.selection.count st.spot.top st.spot.view st.past cs b.capture) s.future
+    ∙ ap (λ c. state st.term st.spot.selection.path st.spot.selection.count st.spot.top st.spot.view st.past st.future c) s.capture
 
 pub is_buffer : (b : Held) (st : State) (count room : ℕ) (page : Option Sheet) (standing : Standing) → StandsFor b st → count ≡ nodes_of st.term → room ≡ 256 → length b.past + length b.future ≤ 256 → Keeps page (page_by b st) → IsStanding standing b.grove.spec st → IsBuffer b count room page standing
 is_buffer b st count room page standing s counted room_is few page_is standing_is =
@@ -72,8 +73,8 @@ no_capture b none n = subst (λ (o : Option Captured). MatchOption o ⊤ (λ _. 
 abbrev pub stood : Held → NodeId → ℕ → Held
 stood b n top = record b { selected = n; count = 1; top = top }
 
-pub selected_stands : (b : Held) (st : State) (u : Place) (n : NodeId) (top : ℕ) → StandsFor b st → b.capture ≡ None → Climbs (nodes b.grove) u n b.root → rests b.grove.spec st.term u ≡ true
-    → top ≡ topped b.height (first_line b.grove.spec st.term u) b.top → StandsFor (stood b n top) (states.selected b.grove.spec b.height u st)
+pub selected_stands : (b : Held) (st : State) (u : Place) (n : NodeId) (top : ℕ) → StandsFor b st → b.capture ≡ None → Climbs (nodes b.grove) u n b.root → rests (shown_spec b.grove.spec st) st.term u ≡ true
+    → top ≡ topped b.height (first_line b.grove.spec st.spot.view st.term u) b.top → StandsFor (stood b n top) (states.selected b.grove.spec b.height u st)
 selected_stands b st u n top s none way rest is =
     let spec = b.grove.spec in
     record {
@@ -84,8 +85,9 @@ selected_stands b st u n top s none way rest is =
       tall = s.tall;
       selected = subst (λ z. Climbs (nodes b.grove) z n b.root) (sym (path_there u)) way;
       count = refl;
-      top = is ∙ ap (λ z. topped b.height (first_line spec st.term z) b.top) (sym (path_there u)) ∙ ap (topped b.height (first_line spec st.term (place_in (alone u)))) s.top;
-      spot = spot_seen spec b.height st.term (alone u) st.spot.top s.tall (alone_selected spec st.term u rest);
+      top = is ∙ ap (λ z. topped b.height (first_line spec st.spot.view st.term z) b.top) (sym (path_there u)) ∙ ap (topped b.height (first_line spec st.spot.view st.term (place_in (alone u)))) s.top;
+      view = s.view;
+      spot = spot_seen spec b.height st.term st.spot.view (alone u) st.spot.top s.tall (alone_selected spec st.spot.view st.term u rest);
       past = s.past;
       future = s.future;
       undoes = s.undoes;
@@ -99,7 +101,7 @@ selected_stands b st u n top s none way rest is =
 abbrev pub counted : Held → ℕ → Held
 counted b n = record b { count = n }
 
-pub recounted_stands : (b : Held) (st : State) (n : ℕ) → StandsFor b st → b.capture ≡ None → is_selection b.grove.spec st.term (place_in st.spot.selection) n ≡ true → StandsFor (counted b n) (states.recounted n st)
+pub recounted_stands : (b : Held) (st : State) (n : ℕ) → StandsFor b st → b.capture ≡ None → is_selection b.grove.spec st.spot.view st.term (place_in st.spot.selection) n ≡ true → StandsFor (counted b n) (states.recounted n st)
 recounted_stands b st n s none is = record {
   grove = s.grove;
   whole = s.whole;
@@ -109,7 +111,8 @@ recounted_stands b st n s none is = record {
   selected = s.selected;
   count = refl;
   top = s.top;
-  spot = and_true (is_selection b.grove.spec st.term (place_in st.spot.selection) n) (is_seen b.grove.spec b.height st.term (place_in st.spot.selection) st.spot.top) is (spot_shows b.grove.spec b.height st.term st.spot s.spot);
+  view = s.view;
+  spot = and_true (is_selection b.grove.spec st.spot.view st.term (place_in st.spot.selection) n) (is_seen b.grove.spec b.height st.spot.view st.term (place_in st.spot.selection) st.spot.top) is (spot_shows b.grove.spec b.height st.term st.spot s.spot);
   past = s.past;
   future = s.future;
   undoes = s.undoes;
@@ -129,29 +132,29 @@ some_from : (n e : ℕ) → (nat_eq n 1 || (nat_lt 1 n && not (nat_lt e n))) ≡
 some_from n e is = grind (arith, nat_tests)
 
 pub longer : (b : Held) (st : State) → StandsFor b st → st.spot.selection.count < elements_at b.grove.spec st.term (place_in st.spot.selection)
-    → is_selection b.grove.spec st.term (place_in st.spot.selection) (st.spot.selection.count + 1) ≡ true
+    → is_selection b.grove.spec st.spot.view st.term (place_in st.spot.selection) (st.spot.selection.count + 1) ≡ true
 longer b st s more =
     let spec = b.grove.spec in
     let u = place_in st.spot.selection in
     let n = st.spot.selection.count in
     let is = spot_selects spec b.height st.term st.spot s.spot in
-    let parts = and_parts (rests spec st.term u) (nat_eq n 1 || (nat_lt 1 n && not (nat_lt (elements_at spec st.term u) n))) is in
+    let parts = and_parts (rests (shown_spec spec st) st.term u) (nat_eq n 1 || (nat_lt 1 n && not (nat_lt (elements_at spec st.term u) n))) is in
     let low = some_from n (elements_at spec st.term u) parts.1 in
-    and_true (rests spec st.term u) (nat_eq (n + 1) 1 || (nat_lt 1 (n + 1) && not (nat_lt (elements_at spec st.term u) (n + 1)))) parts.0
+    and_true (rests (shown_spec spec st) st.term u) (nat_eq (n + 1) 1 || (nat_lt 1 (n + 1) && not (nat_lt (elements_at spec st.term u) (n + 1)))) parts.0
     (run_of (n + 1) (elements_at spec st.term u) (omega (arith, low)) (omega (arith, more)))
 
 one_or : (n e : ℕ) → (1 < n) × (n ≤ e) → (nat_eq (n - 1) 1 || (nat_lt 1 (n - 1) && not (nat_lt e (n - 1)))) ≡ true
 one_or n e h = (let a = h.0 in let b = h.1 in grind (arith, nat_tests))
 
 pub shorter : (b : Held) (st : State) → StandsFor b st → st.spot.selection.count ≢ 1
-    → is_selection b.grove.spec st.term (place_in st.spot.selection) (st.spot.selection.count - 1) ≡ true
+    → is_selection b.grove.spec st.spot.view st.term (place_in st.spot.selection) (st.spot.selection.count - 1) ≡ true
 shorter b st s many =
     let spec = b.grove.spec in
     let u = place_in st.spot.selection in
     let n = st.spot.selection.count in
     let e = elements_at spec st.term u in
-    let parts = and_parts (rests spec st.term u) (nat_eq n 1 || (nat_lt 1 n && not (nat_lt e n))) (spot_selects spec b.height st.term st.spot s.spot) in
-    and_true (rests spec st.term u) (nat_eq (n - 1) 1 || (nat_lt 1 (n - 1) && not (nat_lt e (n - 1)))) parts.0 (one_or n e (run_from n e parts.1 many))
+    let parts = and_parts (rests (shown_spec spec st) st.term u) (nat_eq n 1 || (nat_lt 1 n && not (nat_lt e n))) (spot_selects spec b.height st.term st.spot s.spot) in
+    and_true (rests (shown_spec spec st) st.term u) (nat_eq (n - 1) 1 || (nat_lt 1 (n - 1) && not (nat_lt e (n - 1)))) parts.0 (one_or n e (run_from n e parts.1 many))
 
 -- another capture, or none
 abbrev pub capturing : Held → Option Captured → Held
@@ -167,6 +170,7 @@ captured_stands b st c s one = record {
   selected = s.selected;
   count = s.count;
   top = s.top;
+  view = s.view;
   spot = s.spot;
   past = s.past;
   future = s.future;

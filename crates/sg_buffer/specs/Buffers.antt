@@ -20,8 +20,9 @@ use Rattle.sg_buffer.specs.Held.{Held, shown, state_of}
 use Rattle.sg_turns.specs.Roots.{AreTheRoots}
 
 -- what is held stands for a state: a right tree holds its term, which fits the root's phylum and is in the limits; a
--- selection of the term is selected, and its first line is seen; the past changes can be undone and the future ones
--- done again, one after another; each root of the forest is the term's or hangs for one step; and a run is no capture's
+-- selection of the term is selected, in the view in which it is shown, and its first line is seen; the past changes can
+-- be undone and the future ones done again, one after another; each root of the forest is the term's or hangs for one
+-- step; and a run is no capture's
 pub record StandsFor (b : Held) (st : State) : Type 0 where
   pub grove : IsGrove b.grove
   pub whole : IsWhole b.grove b.root st.term
@@ -31,6 +32,7 @@ pub record StandsFor (b : Held) (st : State) : Type 0 where
   pub selected : Climbs (nodes b.grove) (place_in st.spot.selection) b.selected b.root
   pub count : b.count ≡ st.spot.selection.count
   pub top : b.top ≡ st.spot.top
+  pub view : b.grove.view ≡ st.spot.view
   pub spot : is_spot b.grove.spec b.height st.term st.spot ≡ true
   pub past : told_past (term_at b.grove) st.term b.past ≡ st.past
   pub future : told_future (term_at b.grove) st.term b.future ≡ st.future
@@ -47,7 +49,8 @@ Keeps page s = MatchOption page ⊤ (λ p. p ≡ s)
 -- the path of the selected node, and where it begins, where that is kept
 abbrev pub IsStanding : Standing → Spec → State → Type 0
 IsStanding s spec st =
-    (s.way ≡ st.spot.selection.path) × MatchOption s.begins ⊤ (Begins spec st.term (place_in st.spot.selection))
+    (s.way ≡ st.spot.selection.path)
+    × MatchOption s.begins ⊤ (Begins spec st.spot.view st.term (place_in st.spot.selection))
 
 -- a buffer besides knows how many nodes its term has, and the selected node's path; a page that it keeps shows the term
 -- and what is being typed, and a beginning that it keeps is that of the selected node; its history has room for 256 steps

@@ -37,6 +37,6 @@ module _ (d : Direction) where
 pub record Went (d : Direction) (old new : Held) (was now : List Instance) (r : Bool) : Type 0 where
   pub nothing : (r ≡ false) ↔ (ahead d (state_of old) ≡ [])
   pub refused : r ≡ false → (new ≡ old) × (now ≡ was)
-  pub done : r ≡ true → state_of new ≡ gone d (state_of old)
+  pub done : r ≡ true → state_of new ≡ gone old.grove.spec old.height d (state_of old)
   pub evaluated : r ≡ true → OfFirst (ahead d (state_of old))
       (Gained d old.grove.spec (state_of old).term was now new.grove new.root)

@@ -45,11 +45,11 @@ pub record Held : Type 0 where
 abbrev pub grove_code : Coded Grove
 grove_code =
     code_by
-    (Spec × (Trees Kind Part × List Value))
+    (Spec × (Trees Kind Part × (List Value × ℕ)))
     (coded× the_spec.the_row.coded
-    (coded× (trees_code the_kind.the_row.coded the_part.the_row.coded) (coded_list value_code)))
-    (λ g. (g.spec, (g.trees, g.pool)))
-    (λ p. record { spec = p.0; trees = p.1.0; pool = p.1.1 })
+    (coded× (trees_code the_kind.the_row.coded the_part.the_row.coded) (coded× (coded_list value_code) coded_ℕ)))
+    (λ g. (g.spec, (g.trees, (g.pool, g.view))))
+    (λ p. record { spec = p.0; trees = p.1.0; pool = p.1.1.0; view = p.1.1.1 })
     (λ _. refl)
 
 abbrev pub captured_code : Coded Captured
@@ -82,7 +82,7 @@ held_code =
     })
     (λ _. refl)
 
--- the edited term, the place of the selected node, and the spot
+-- the edited term, the place of the selected node, and the spot, in the view in which the terms are shown
 abbrev pub term_in : Held → Term
 term_in b = term_at b.grove b.root
 
@@ -90,7 +90,11 @@ abbrev pub selected_in : Held → Place
 selected_in b = way_at b.grove b.selected
 
 abbrev pub spot_in : Held → Spot
-spot_in b = record { selection = record { path = path_to (selected_in b); count = b.count }; top = b.top }
+spot_in b = record {
+  selection = record { path = path_to (selected_in b); count = b.count };
+  top = b.top;
+  view = b.grove.view;
+}
 
 -- the state: the changes of the history are told from the term and from what the hanging roots hold
 unfoldable pub state_of : Held → State

@@ -15,7 +15,7 @@ ghost use Rattle.sg_terms.specs.Entries.{GainedAll};
 ghost use Rattle.sg_build.specs.Counted.{AreCounts};
 ghost use Rattle.sg_select.specs.RestingPlaces.{settled};
 ghost use Rattle.sg_states.specs.States as states;
-ghost use Rattle.sg_states.specs.States.{begun, selected_place, moved, picked, extension};
+ghost use Rattle.sg_states.specs.States.{begun, selected_place, shown_spec, moved, picked, extension};
 ghost use Rattle.sg_buffer.specs.Held.{shown, state_of};
 ghost use Rattle.sg_buffer.specs.Buffers.{StandsFor};
 ghost use Rattle.sg_turns.specs.Known.{IsKnown};
@@ -285,7 +285,7 @@ impl Buffer {
         requires node { IsInside (nodes self.old.grove) n self.old.root }
         requires none { self.old.capture ≡ None }
         requires rests { (u : Place) → Climbs (nodes self.old.grove) u n self.old.root
-            → settled self.old.grove.spec (state_of self.old).term u ≡ u }
+            → settled (shown_spec self.old.grove.spec (state_of self.old)) (state_of self.old).term u ≡ u }
         ensures state { (u : Place) → Climbs (nodes self.old.grove) u n self.old.root → IfOk result (λ _.
             state_of self.new ≡ states.selected self.old.grove.spec self.old.height u (state_of self.old)) }
         ensures kept { IfOk result (λ _. self.new
@@ -310,7 +310,8 @@ impl Buffer {
         requires none { self.old.capture ≡ None }
         ensures state { (u : Place) → Climbs (nodes self.old.grove) u n self.old.root → IfOk result (λ _.
             state_of self.new ≡ states.selected self.old.grove.spec self.old.height
-            (settled self.old.grove.spec (state_of self.old).term u) (state_of self.old)) }
+            (settled (shown_spec self.old.grove.spec (state_of self.old)) (state_of self.old).term u)
+            (state_of self.old)) }
         ensures kept { IfOk result (λ _. self.new
             ≡ record self.old { selected = self.new.selected; count = 1; top = self.new.top }) }
         ensures err { OnErr result (self.new ≡ self.old) }

@@ -1,5 +1,5 @@
 //! Changes of a buffer's term, and the ways back and forth.
-ghost use Rattle.std.specs.Prelude.{◌≡◌, ◌≢◌, ℕ, [], true, false, IfOk, IsErrOf, IsErrAnd, OnErr, MatchOption, None, Some};
+ghost use Rattle.std.specs.Prelude.{◌≡◌, ◌≢◌, ◌<◌, ℕ, [], true, false, IfOk, IsErrOf, IsErrAnd, OnErr, MatchOption, None, Some};
 ghost use Rattle.sg_kinds.specs.Fits.{Fits};
 ghost use Rattle.sg_kinds.specs.Places.{place_of, put, sub};
 ghost use Rattle.sg_kinds.specs.Sound.{IsSmall};
@@ -7,12 +7,14 @@ ghost use Rattle.sg_kinds.specs.Specification.{rules_of};
 ghost use Rattle.sg_kinds.specs.Terms.{Term as IsTerm, nodes_of};
 ghost use Rattle.sg_kinds.specs.ValidPlans.{AreValid};
 ghost use Rattle.sg_eval.specs.Journal.{now_of, total_of};
-ghost use Rattle.sg_forest.specs.Trees.{Climbs};
+ghost use Rattle.sg_forest.specs.Trees.{Climbs, IsRoot};
 ghost use Rattle.sg_groves.specs.Evaluated.{IsEvaluated};
 ghost use Rattle.sg_groves.specs.Grove.{nodes};
 ghost use Rattle.sg_terms.specs.Entries.{GainedAll};
 ghost use Rattle.sg_build.specs.Counted.{AreCounts};
-ghost use Rattle.sg_states.specs.States.{ahead, marked, replaced};
+ghost use Rattle.sg_states.specs.Paged.{IsLook, IsWhole};
+ghost use Rattle.sg_states.specs.Seen.{settled_spot};
+ghost use Rattle.sg_states.specs.States.{ahead, marked, replaced, viewed};
 ghost use Rattle.sg_turns.specs.Noted.{NotedPut};
 ghost use Rattle.sg_buffer.specs.AsBefore.{IsAsBefore};
 ghost use Rattle.sg_buffer.specs.Gains.{NotedAlong, OfFirst, Went};
@@ -29,10 +31,40 @@ use sg_kinds::memory::NoMemory;
 use sg_kinds::plans::Plans;
 use sg_kinds::row::Path;
 use sg_kinds::term::Term;
-use sg_states::Mark;
+use sg_states::{Look, Mark, look_at};
+use sg_terms::Terms;
 use sg_turns::{
     next_along, node_at, put_over, put_term, remarked, remember, spot_at, step_along, turned_marks,
 };
+use std::alloc::Global;
+
+// shows the term that a root holds in a view, with this to be selected, settled there; without memory the view stays
+fn look_in(
+    alloc: Global,
+    terms: &mut Terms,
+    root: NodeId,
+    v: u32,
+    select: &Selection,
+    height: usize,
+    top: usize,
+) -> Result<Look, NoMemory>
+    requires root { IsRoot (nodes terms.old) root }
+    requires tall { 0 < height }
+    ensures look { (t : IsTerm) → IsWhole terms.new root t → IfOk result (IsLook terms.new root t
+        (settled_spot terms.new.spec height terms.new.view t select.now top)) }
+    ensures shown { IfOk result (λ _. terms.new ≡ record terms.old { view = v }) }
+    ensures err { OnErr result (terms.new ≡ terms.old) }
+{
+    let was = terms.view();
+    terms.set_view(v);
+    match look_at(alloc, terms, root, select, height, top) {
+        Ok(look) => Ok(look),
+        Err(e) => {
+            terms.set_view(was);
+            Err(e)
+        }
+    }
+}
 
 impl Buffer {
     /// Turns a mark of the selected node: its scheme number is the next one, after the last the first, or its elided
@@ -52,7 +84,13 @@ impl Buffer {
         let Some(marks) = turned_marks(&self.terms, self.selected, mark) else {
             return Ok(false);
         };
-        let before = spot_at(self.alloc, &self.standing.way, self.count, self.top)?;
+        let before = spot_at(
+            self.alloc,
+            &self.standing.way,
+            self.count,
+            self.top,
+            self.terms.view(),
+        )?;
         let path = before.selection.path.copy(self.alloc)?;
         let turned = remarked(
             self.alloc,
@@ -158,7 +196,13 @@ impl Buffer {
         ensures height { self.new.height ≡ self.old.height }
         ensures total { total_of journal.new ≡ total_of journal.old }
     {
-        let before = spot_at(self.alloc, &self.standing.way, self.count, self.top)?;
+        let before = spot_at(
+            self.alloc,
+            &self.standing.way,
+            self.count,
+            self.top,
+            self.terms.view(),
+        )?;
         let path = at.copy(self.alloc)?;
         let begins = self.beginning();
         let placed = put_term(
@@ -224,6 +268,7 @@ impl Buffer {
             self.root,
             direction,
             step,
+            self.height,
             self.nodes,
             self.selected,
             &self.standing.way,
@@ -238,17 +283,56 @@ impl Buffer {
         self.selected = went.selected;
         self.count = went.count;
         self.top = went.top;
-        self.page = None;
+        self.page = went.page;
         self.standing = Standing {
             way: went.way,
-            begins: None,
+            begins: went.begins,
         };
         Ok(true)
     }
 
-    /// Undoes the newest change: the old subterm or marks, the selection and the window's first line are back. No text
-    /// is being typed. False exactly where there is no change to undo, and nothing changes then. Without memory nothing
-    /// changes but the pool, and some of the equations may be evaluated.
+    /// Shows the term in a view, counted from 1; 0 is the ordinary one. The selection is settled there, and the
+    /// window's top follows it. No text is being typed. Term, values and history stay. Without memory nothing changes.
+    pub fn view(&mut self, v: u32) -> Result<(), NoMemory>
+        requires { self.old.capture ≡ None }
+        ensures state { IfOk result (λ _. state_of self.new
+            ≡ viewed self.old.grove.spec self.old.height v (state_of self.old)) }
+        ensures kept { IfOk result (λ _. self.new ≡ record self.old {
+          grove = record self.old.grove { view = v };
+          selected = self.new.selected;
+          count = self.new.count;
+          top = self.new.top;
+        }) }
+        ensures err { OnErr result (self.new ≡ self.old) }
+    {
+        let path = self.standing.way.copy(self.alloc)?;
+        let select = Selection {
+            path,
+            count: self.count,
+        };
+        let there = look_in(
+            self.alloc,
+            &mut self.terms,
+            self.root,
+            v,
+            &select,
+            self.height,
+            self.top,
+        )?;
+        self.selected = there.selected;
+        self.count = there.spot.selection.count;
+        self.top = there.spot.top;
+        self.page = there.page;
+        self.standing = Standing {
+            way: there.way,
+            begins: there.begins,
+        };
+        Ok(())
+    }
+
+    /// Undoes the newest change: the old subterm or marks, the selection and the window's first line are back, settled
+    /// in the present view. No text is being typed. False exactly where there is no change to undo, and nothing
+    /// changes then. Without memory nothing changes but the pool, and some of the equations may be evaluated.
     pub fn undo(
         &mut self,
         plans: &Plans,
@@ -271,8 +355,9 @@ impl Buffer {
     }
 
     /// Does the next change of the future again: its new subterm or marks, the selection and the window's first line
-    /// after it are back. No text is being typed. False exactly where there is no change to do again, and nothing
-    /// changes then. Without memory nothing changes but the pool, and some of the equations may be evaluated.
+    /// after it are back, settled in the present view. No text is being typed. False exactly where there is no change
+    /// to do again, and nothing changes then. Without memory nothing changes but the pool, and some of the equations
+    /// may be evaluated.
     pub fn redo(
         &mut self,
         plans: &Plans,

@@ -32,6 +32,8 @@ pub struct Spot {
     pub selection: Selection,
     /// the line at the window's top, from 1
     pub top: usize,
+    /// the view in which it was seen, 0 for the ordinary one
+    pub view: u32,
 }
 
 impl Spot {
@@ -42,6 +44,7 @@ impl Spot {
         Ok(Spot {
             selection: self.selection.copy(alloc)?,
             top: self.top,
+            view: self.view,
         })
     }
 }

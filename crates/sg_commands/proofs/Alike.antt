@@ -51,7 +51,8 @@ Waits k = (k ≡ command.Next)
     ⊎ ((k ≡ command.Alternate)
     ⊎ ((k ≡ command.Elide)
     ⊎ ((k ≡ command.Undo)
-    ⊎ ((k ≡ command.Redo)))))))))))))))))))))))
+    ⊎ ((k ≡ command.Redo)
+    ⊎ (((x : Option Bytes) × (k ≡ command.View x)))))))))))))))))))))))))
 
 module _ (spec : Spec) (height : ℕ) (reads : Reads) (clip : Option Clip) (st : State) (k : Command) where
   pub allowed_stays : StaysThere k → allowed_turn spec height reads clip st k ≡ says clip message.Fine st
@@ -106,4 +107,5 @@ module _ (spec : Spec) (height : ℕ) (reads : Reads) (clip : Option Clip) (st :
     typing_waits (inr (inr (inr (inr (inr (inr (inr (inr (inr (inr (inr (inr (inr (inr (inr (inr (inr (inr (inr (inl e)))))))))))))))))))) = ap (typing_turn spec height reads clip st c) e
     typing_waits (inr (inr (inr (inr (inr (inr (inr (inr (inr (inr (inr (inr (inr (inr (inr (inr (inr (inr (inr (inr (inl e))))))))))))))))))))) = ap (typing_turn spec height reads clip st c) e
     typing_waits (inr (inr (inr (inr (inr (inr (inr (inr (inr (inr (inr (inr (inr (inr (inr (inr (inr (inr (inr (inr (inr (inl e)))))))))))))))))))))) = ap (typing_turn spec height reads clip st c) e
-    typing_waits (inr (inr (inr (inr (inr (inr (inr (inr (inr (inr (inr (inr (inr (inr (inr (inr (inr (inr (inr (inr (inr (inr e)))))))))))))))))))))) = ap (typing_turn spec height reads clip st c) e
+    typing_waits (inr (inr (inr (inr (inr (inr (inr (inr (inr (inr (inr (inr (inr (inr (inr (inr (inr (inr (inr (inr (inr (inr (inl e))))))))))))))))))))))) = ap (typing_turn spec height reads clip st c) e
+    typing_waits (inr (inr (inr (inr (inr (inr (inr (inr (inr (inr (inr (inr (inr (inr (inr (inr (inr (inr (inr (inr (inr (inr (inr e))))))))))))))))))))))) = ap (typing_turn spec height reads clip st c) e.1

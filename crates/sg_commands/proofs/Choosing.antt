@@ -1,16 +1,17 @@
 -- What is chosen at the selected node of a buffer.
-use Rattle.std.specs.Prelude.{◌≡◌, ℕ, Bool, true, false, ◌&&◌, ◌||◌, not, nat_eq, nat_lt, Some, Option, unwrap_or}
+use Rattle.std.specs.Prelude.{◌≡◌, ℕ, Bool, true, false, ◌&&◌, ◌||◌, not, nat_eq, nat_lt, Some, Option, Result, IfOk, unwrap_or}
 use Rattle.std.proofs.Common.{refl, sym, ap, ◌∙◌, subst, arith, inl, inr}
 use Rattle.std.proofs.lemmas.Bool.{and_parts, ltb-false}
 use Rattle.sg_kinds.specs.Terms.{Term}
 use Rattle.sg_kinds.specs.Places.{Place, sub}
 use Rattle.sg_kinds.specs.Values.{Bytes, Value}
 use Rattle.sg_kinds.specs.Fits.{Fits}
+use Rattle.sg_kinds.specs.InView.{in_view}
 use Rattle.sg_kinds.specs.Plain.{plain}
 use Rattle.sg_kinds.specs.declared.spec.Spec.{Spec}
 use Rattle.sg_forest.specs.declared.node_id.NodeId.{NodeId}
 use Rattle.sg_forest.specs.Trees.{Climbs, IsLive}
-use Rattle.sg_groves.specs.Grove.{Grove, nodes}
+use Rattle.sg_groves.specs.Grove.{Grove, nodes, spec_shown}
 use Rattle.sg_groves.specs.Holds.{Holds, IsPlaced}
 use Rattle.sg_groves.proofs.Held.{one_term, part_held}
 use Rattle.sg_select.proofs.Fronts.{climber_live}
@@ -18,7 +19,7 @@ use Rattle.sg_select.specs.Leads.{LeadsTo}
 use Rattle.sg_select.specs.RestingPlaces.{rests}
 use Rattle.sg_search.specs.Found.{found_behind}
 use Rattle.sg_states.specs.Selections.{elements_at, is_selection}
-use Rattle.sg_states.specs.States.{selected_place}
+use Rattle.sg_states.specs.States.{selected_place, shown_spec}
 use Rattle.sg_states.proofs.Selecting.{selection_rests}
 use Rattle.sg_states.proofs.Spotted.{spot_selects}
 use Rattle.sg_buffer.specs.Buffers.{StandsFor}
@@ -42,17 +43,19 @@ module _ (b : Held) (stands : StandsFor b (state_of b)) (g : Grove) (same : g �
   live_here = subst (λ h. IsLive (nodes h) n) (sym same) (climber_live b.grove (selected_place (state_of b)) n b.root stands.whole.top way)
 
   -- what is selected
-  is_selected : is_selection b.grove.spec (state_of b).term (selected_place (state_of b)) (count_here (state_of b)) ≡ true
+  is_selected : is_selection b.grove.spec (state_of b).spot.view (state_of b).term (selected_place (state_of b)) (count_here (state_of b)) ≡ true
   is_selected = spot_selects b.grove.spec b.height (state_of b).term (state_of b).spot stands.spot
 
-  pub rests_here : rests b.grove.spec (state_of b).term (selected_place (state_of b)) ≡ true
-  rests_here = selection_rests b.grove.spec (state_of b).term (selected_place (state_of b)) (count_here (state_of b)) is_selected
+  pub rests_here : rests (spec_shown b.grove) (state_of b).term (selected_place (state_of b)) ≡ true
+  rests_here =
+      subst (λ v. rests (in_view b.grove.spec v) (state_of b).term (selected_place (state_of b)) ≡ true) (sym stands.view)
+      (selection_rests b.grove.spec (state_of b).spot.view (state_of b).term (selected_place (state_of b)) (count_here (state_of b)) is_selected)
 
   pub run_there : IsRunAt b.grove.spec (state_of b).term (selected_place (state_of b)) (count_here (state_of b))
   run_there =
       let m = count_here (state_of b) in
       run_tested b.grove.spec (state_of b).term (selected_place (state_of b)) m
-      (and_parts (rests b.grove.spec (state_of b).term (selected_place (state_of b)))
+      (and_parts (rests (shown_spec b.grove.spec (state_of b)) (state_of b).term (selected_place (state_of b)))
       (nat_eq m 1 || (nat_lt 1 m && not (nat_lt (elements_at b.grove.spec (state_of b).term (selected_place (state_of b))) m))) is_selected).1
 
   pub run_here : (count : ℕ) → count ≡ count_here (state_of b) → IsRun g n count
@@ -63,19 +66,20 @@ module _ (b : Held) (stands : StandsFor b (state_of b)) (g : Grove) (same : g �
 
   -- what is found behind it
   module _ (root : NodeId) (top : root ≡ b.root) where
-    pub resting_here : (t : Term) × (u : Place) × IsPlaced g root t u n × (rests g.spec t u ≡ true)
+    pub resting_here : (t : Term) × (u : Place) × IsPlaced g root t u n × (rests (spec_shown g) t u ≡ true)
     resting_here =
-        subst (λ (h : Grove). (t : Term) × (u : Place) × IsPlaced h root t u n × (rests h.spec t u ≡ true)) (sym same)
-        (subst (λ r. (t : Term) × (u : Place) × IsPlaced b.grove r t u n × (rests b.grove.spec t u ≡ true)) (sym top)
+        subst (λ (h : Grove). (t : Term) × (u : Place) × IsPlaced h root t u n × (rests (spec_shown h) t u ≡ true)) (sym same)
+        (subst (λ r. (t : Term) × (u : Place) × IsPlaced b.grove r t u n × (rests (spec_shown b.grove) t u ≡ true)) (sym top)
         ((state_of b).term, selected_place (state_of b), placed_here, rests_here))
 
-    pub found_told : (name : Bytes) (r : Option NodeId)
-        → ((t : Term) (u : Place) → IsPlaced g root t u n → rests g.spec t u ≡ true → LeadsTo g root (found_behind g.spec name t u) r)
-        → LeadsTo b.grove b.root (found_behind b.grove.spec name (state_of b).term (selected_place (state_of b))) r
+    pub found_told : {E : Type 0} (name : Bytes) (r : Result (Option NodeId) E)
+        → ((t : Term) (u : Place) → IsPlaced g root t u n → rests (spec_shown g) t u ≡ true → IfOk r (LeadsTo g root (found_behind g.spec g.view name t u)))
+        → IfOk r (LeadsTo b.grove b.root (found_behind b.grove.spec (state_of b).spot.view name (state_of b).term (selected_place (state_of b))))
     found_told name r leads =
-        subst (λ (h : Grove). (t : Term) (u : Place) → IsPlaced h b.root t u n → rests h.spec t u ≡ true → LeadsTo h b.root (found_behind h.spec name t u) r) same
-        (subst (λ z. (t : Term) (u : Place) → IsPlaced g z t u n → rests g.spec t u ≡ true → LeadsTo g z (found_behind g.spec name t u) r) top leads)
-        (state_of b).term (selected_place (state_of b)) placed_here rests_here
+        subst (λ v. IfOk r (LeadsTo b.grove b.root (found_behind b.grove.spec v name (state_of b).term (selected_place (state_of b))))) stands.view
+        (subst (λ (h : Grove). (t : Term) (u : Place) → IsPlaced h b.root t u n → rests (spec_shown h) t u ≡ true → IfOk r (LeadsTo h b.root (found_behind h.spec h.view name t u))) same
+        (subst (λ z. (t : Term) (u : Place) → IsPlaced g z t u n → rests (spec_shown g) t u ≡ true → IfOk r (LeadsTo g z (found_behind g.spec g.view name t u))) top leads)
+        (state_of b).term (selected_place (state_of b)) placed_here rests_here)
 
   module _ (c : declared.Choice) where
     pub fits_here : ((root : NodeId) (t : Term) (u : Place) → IsPlaced g root t u n → IsFit g.spec t (choice_of c)) → IsFit b.grove.spec (state_of b).term (choice_of c)
@@ -109,8 +113,10 @@ module _ (b : Held) (stands : StandsFor b (state_of b)) (g : Grove) (same : g �
   pub selected_held : Holds g n (selected_term (state_of b))
   selected_held = subst (λ h. Holds h n (selected_term (state_of b))) (sym same) held_here
 
-  pub editable_told : (r : Bool) → ((t : Term) → Holds g n t → r ≡ is_editable g.spec t) → r ≡ is_editable_here b.grove.spec (state_of b)
-  editable_told r told = told (selected_term (state_of b)) selected_held ∙ ap (λ (h : Grove). is_editable h.spec (selected_term (state_of b))) same
+  pub editable_told : (r : Bool) → ((t : Term) → Holds g n t → r ≡ is_editable (spec_shown g) t) → r ≡ is_editable_here b.grove.spec (state_of b)
+  editable_told r told =
+      told (selected_term (state_of b)) selected_held ∙ ap (λ (h : Grove). is_editable (spec_shown h) (selected_term (state_of b))) same
+      ∙ ap (λ v. is_editable (in_view b.grove.spec v) (selected_term (state_of b))) stands.view
 
   pub copied_told : (c : Clip) (count : ℕ) → count ≡ count_here (state_of b)
       → ((root : NodeId) (t : Term) (u : Place) → IsPlaced g root t u n → c ≡ clip_of g.spec t u count) → c ≡ copied_of b.grove.spec (state_of b)

@@ -15,7 +15,7 @@ use Rattle.sg_select.proofs.Leading.{leads_some}
 use Rattle.sg_select.proofs.Settling.{settled_itself}
 use Rattle.sg_search.specs.Found.{applies_at, found_behind, is_known}
 use Rattle.sg_script.specs.declared.message.Message.TheVariants as message
-use Rattle.sg_states.specs.States.{State, selected, selected_place}
+use Rattle.sg_states.specs.States.{State, selected, selected_place, shown_spec}
 use Rattle.sg_buffer.specs.Held.{Held, state_of}
 use Rattle.sg_buffer.proofs.Going.{answered_some}
 use Rattle.sg_edits.specs.declared.clip.Clip.{Clip}
@@ -33,7 +33,7 @@ found_passes p (y ∷ xs) x e = by (p y) refl (found_passes p xs x) e
 
 module _ (b : Held) (name : Bytes) (n : NodeId) where
   abbrev here : Option Place
-  here = found_behind b.grove.spec name (state_of b).term (selected_place (state_of b))
+  here = found_behind b.grove.spec (state_of b).spot.view name (state_of b).term (selected_place (state_of b))
 
   module _ (leads : LeadsTo b.grove b.root here (Some n)) where
     place : (v : Place) × (here ≡ Some v) × Climbs (nodes b.grove) v n b.root
@@ -42,14 +42,14 @@ module _ (b : Held) (name : Bytes) (n : NodeId) where
     pub found_inside : IsInside (nodes b.grove) n b.root
     found_inside = record { path = place.0; climbs = place.2 }
 
-    still : settled b.grove.spec (state_of b).term place.0 ≡ place.0
+    still : settled (shown_spec b.grove.spec (state_of b)) (state_of b).term place.0 ≡ place.0
     still =
-        settled_itself b.grove.spec (state_of b).term place.0
-        (found_passes (rests b.grove.spec (state_of b).term)
+        settled_itself (shown_spec b.grove.spec (state_of b)) (state_of b).term place.0
+        (found_passes (rests (shown_spec b.grove.spec (state_of b)) (state_of b).term)
         (filter (applies_at b.grove.spec name (state_of b).term) (behind (selected_place (state_of b)) (places_in (state_of b).term))) place.0 place.1)
 
     pub found_answers : (new : Held)
-        → ((u : Place) → Climbs (nodes b.grove) u n b.root → state_of new ≡ selected b.grove.spec b.height (settled b.grove.spec (state_of b).term u) (state_of b))
+        → ((u : Place) → Climbs (nodes b.grove) u n b.root → state_of new ≡ selected b.grove.spec b.height (settled (shown_spec b.grove.spec (state_of b)) (state_of b).term u) (state_of b))
         → MatchOption (found_next b.grove.spec b.height name (state_of b)) ((true ≡ false) × (new ≡ b)) (λ st. (true ≡ true) × (state_of new ≡ st))
     found_answers new state =
         answered_some (λ v. selected b.grove.spec b.height v (state_of b)) here place.0 ((true ≡ false) × (new ≡ b)) (λ st. (true ≡ true) × (state_of new ≡ st)) place.1

@@ -21,7 +21,7 @@ use Rattle.sg_script.specs.declared.command.Command.TheVariants as command
 use Rattle.sg_search.specs.Found.{found_behind, is_known}
 use Rattle.sg_states.specs.declared.marks.Extended.{Extended}
 use Rattle.sg_states.specs.declared.marks.Extended.TheVariants.{Done, NotInList, NoPlace}
-use Rattle.sg_states.specs.States.{State, ahead, begun, capture_of, ended, erased, extended, extension, gone_by, pointed, remarked, replaced, selected, selected_place, shrunk, target, typed}
+use Rattle.sg_states.specs.States.{State, ahead, begun, capture_of, ended, erased, extended, extension, gone_by, pointed, remarked, replaced, selected, selected_place, shown_spec, shrunk, target, typed, viewed}
 use Rattle.sg_states.specs.Seen.{marks_seen, nothing_typed}
 use Rattle.sg_unparse.specs.Page.{cells_of, owner_at}
 use Rattle.sg_states.specs.declared.marks.Mark.TheVariants.{Alternate, Elide}
@@ -37,7 +37,7 @@ use Rattle.sg_input.specs.Entered.{Entered, BadByte, NoToken, Stopped, Faulted, 
 use Rattle.sg_input.proofs.Answering.{none-bad}
 use Rattle.sg_commands.specs.Tools.{IsClip}
 use Rattle.sg_commands.specs.Turn.{Reads, Turn, becomes, found_or, refused_if, says}
-use Rattle.sg_commands.specs.Turns.{allowed_turn, copied_of, count_here, enterable, enters, enters_typed, entry_here, evaluated_along, extends, found_next, goes, is_editable_here, marks, plain_turn, puts, replaces, selection_of, travels, turn, types, types_unless, typing_turn, wants_one}
+use Rattle.sg_commands.specs.Turns.{allowed_turn, copied_of, count_here, enterable, enters, enters_typed, entry_here, evaluated_along, extends, found_next, goes, is_editable_here, marks, plain_turn, puts, replaces, selection_of, travels, turn, types, types_unless, typing_turn, view_named, views, wants_one}
 use Rattle.sg_commands.specs.Typing.{IsTyping, MayEnter}
 
 pub record IsKept (spec : Spec) (t : Turn) : Type 0 where
@@ -62,9 +62,12 @@ module _ (spec : Spec) (height : ℕ) (st : State) (is : IsTyping spec st) where
     selected_typing : (u : Place) → IsTyping spec (selected spec height u st)
     selected_typing u = plain_typing (selected spec height u st) refl
 
-    gone_typing : (d : Direction) (ps : List Change) → IsTyping spec (gone_by d ps st)
+    gone_typing : (d : Direction) (ps : List Change) → IsTyping spec (gone_by spec height d ps st)
     gone_typing d [] = is
-    gone_typing d (c ∷ cs) = plain_typing (gone_by d (c ∷ cs) st) refl
+    gone_typing d (c ∷ cs) = plain_typing (gone_by spec height d (c ∷ cs) st) refl
+
+    viewed_typing : (v : ℕ) → IsTyping spec (viewed spec height v st)
+    viewed_typing v = plain_typing (viewed spec height v st) refl
 
   -- with another text in the capture
   captured_typing : (c : Captured) → MayEnter spec st c → IsTyping spec (record st { capture = Some c })
@@ -128,7 +131,7 @@ module _ (spec : Spec) (height : ℕ) (clip : Option Clip) (st : State) (is : Is
   marks_kept : (mark : Mark) → IsKept spec (marks spec height clip st mark)
   marks_kept mark =
       let x = part_of st.term (selected_place st) in
-      found_kept message.NoAlternate (turned_in spec mark x) (λ new. remarked spec height (unwrap_or (marks_of x) new) new st)
+      found_kept message.NoAlternate (turned_in (shown_spec spec st) mark x) (λ new. remarked spec height (unwrap_or (marks_of x) new) new st)
       (λ new. record { typed = tt })
 
   guarded_kept : (b : Bool) (m : Message) (t : Turn) → IsKept spec t → IsKept spec (refused_if clip st b m t)
@@ -165,10 +168,10 @@ module _ (spec : Spec) (height : ℕ) (clip : Option Clip) (st : State) (is : Is
     -- while nothing is typed
     module _ (copied : IsClip spec (Some (copied_of spec st))) (none : st.capture ≡ None) where
       goes_kept : (to : Move) → IsKept spec (goes spec height clip st to)
-      goes_kept to = found_kept message.NoPlace (target to spec st.term (selected_place st))
+      goes_kept to = found_kept message.NoPlace (target to (shown_spec spec st) st.term (selected_place st))
           (λ v. selected spec height v st) (selected_typing spec height st is none)
 
-      travels_kept : (d : Direction) (ps : List Change) → IsKept spec (travels spec clip st d ps)
+      travels_kept : (d : Direction) (ps : List Change) → IsKept spec (travels spec height clip st d ps)
       travels_kept d [] = refused_kept (chosen d message.NothingToUndo message.NothingToRedo)
       travels_kept d (c ∷ cs) = record {
         typing = gone_typing spec height st is none d (ahead d st);
@@ -181,6 +184,14 @@ module _ (spec : Spec) (height : ℕ) (clip : Option Clip) (st : State) (is : Is
       extends_kept NotInList = refused_kept message.NotInList
       extends_kept NoPlace = refused_kept message.NoPlace
 
+      named_kept : (o : Option ℕ) → IsKept spec (found_or clip st message.Unknown (λ v. becomes clip (viewed spec height v st)) o)
+      named_kept None = refused_kept message.Unknown
+      named_kept (Some v) = says_kept message.Fine (viewed spec height v st) (viewed_typing spec height st is none v)
+
+      views_kept : (name : Option Bytes) → IsKept spec (views spec height clip st name)
+      views_kept None = says_kept message.Fine (viewed spec height 0 st) (viewed_typing spec height st is none 0)
+      views_kept (Some name) = named_kept (view_named spec name)
+
       allowed_kept : (c : Command) → IsKept spec (allowed_turn spec height reads clip st c)
       allowed_kept command.Next = goes_kept Next
       allowed_kept command.Prev = goes_kept Prev
@@ -188,9 +199,9 @@ module _ (spec : Spec) (height : ℕ) (clip : Option Clip) (st : State) (is : Is
       allowed_kept command.First = goes_kept First
       allowed_kept command.Sibling = goes_kept Sibling
       allowed_kept (command.Goto line column) =
-          found_kept message.NoPlace (owner_at (cells_of (marks_seen spec st.term nothing_typed)) line column)
-          (λ v. selected spec height (settled spec st.term v) st)
-          (λ v. selected_typing spec height st is none (settled spec st.term v))
+          found_kept message.NoPlace (owner_at (cells_of (marks_seen spec st.spot.view st.term nothing_typed)) line column)
+          (λ u. selected spec height (settled (shown_spec spec st) st.term u) st)
+          (λ u. selected_typing spec height st is none (settled (shown_spec spec st) st.term u))
       allowed_kept command.Extend = extends_kept (extension spec st)
       allowed_kept command.Shrink =
           guarded_kept (nat_eq (count_here st) 1) message.NoPlace (becomes clip (shrunk st))
@@ -198,7 +209,7 @@ module _ (spec : Spec) (height : ℕ) (clip : Option Clip) (st : State) (is : Is
       allowed_kept (command.Find name) =
           guarded_kept (not (is_known spec name)) message.Unknown
           (found_or clip st message.NoMatch (becomes clip) (found_next spec height name st))
-          (found_kept message.NoMatch (found_behind spec name st.term (selected_place st)) (λ v. selected spec height v st)
+          (found_kept message.NoMatch (found_behind spec st.spot.view name st.term (selected_place st)) (λ u. selected spec height u st)
           (selected_typing spec height st is none))
       allowed_kept (command.Do name) = puts_kept (done spec st.term (selected_place st) name)
       allowed_kept (command.ReplaceAll name) = puts_kept (everywhere spec st.term (selected_place st) name)
@@ -219,6 +230,7 @@ module _ (spec : Spec) (height : ℕ) (clip : Option Clip) (st : State) (is : Is
       allowed_kept command.Elide = marks_kept Elide
       allowed_kept command.Undo = travels_kept Back st.past
       allowed_kept command.Redo = travels_kept Forth st.future
+      allowed_kept (command.View name) = views_kept name
       allowed_kept (command.New name) = says_kept message.Fine st is
       allowed_kept (command.Load name file) = says_kept message.Fine st is
       allowed_kept (command.Switch name) = says_kept message.Fine st is
@@ -294,6 +306,7 @@ module _ (spec : Spec) (height : ℕ) (clip : Option Clip) (st : State) (is : Is
       typing_kept command.Elide = refused_kept message.InText
       typing_kept command.Undo = refused_kept message.InText
       typing_kept command.Redo = refused_kept message.InText
+      typing_kept (command.View name) = refused_kept message.InText
 
     pub turn_kept : IsClip spec (Some (copied_of spec st)) → (x : Command)
         → IsKept spec (turn spec height reads clip st x)

@@ -41,7 +41,7 @@ module _ (old : Held) (sound : IsSound old.grove.spec) (was now : List Instance)
   st = state_of old
 
   noted : (d : Direction) (c : Change) (cs : List Change) → ahead d st ≡ c ∷ cs → NotedAlong d old.grove old.root st.term was now c
-      → (now ≡ was) ⊎ NotedOf old.grove.spec old (gone_by d (c ∷ cs) st) (evaluated_along d old.grove.spec st.term c) was now
+      → (now ≡ was) ⊎ NotedOf old.grove.spec old (gone_by old.grove.spec old.height d (c ∷ cs) st) (evaluated_along d old.grove.spec st.term c) was now
   noted d (Mark u x s b a) cs is none = inl none
   noted d (Put u x s b a) cs is (h, inl none) = inl none
   noted Back (Put u x s b a) cs is (h, inr p) = inr (record {
@@ -59,14 +59,14 @@ module _ (old : Held) (sound : IsSound old.grove.spec) (was now : List Instance)
 
 module _ (old new : Held) (sound : IsSound old.grove.spec) (clip : Option Clip) (was now : List Instance) (d : Direction) where
   pub travelled : (r : Bool) → Went d old new was now r
-      → Did (travels old.grove.spec clip (state_of old) d (ahead d (state_of old))) (said_of r (chosen d message.NothingToUndo message.NothingToRedo)) new clip was now
+      → Did (travels old.grove.spec old.height clip (state_of old) d (ahead d (state_of old))) (said_of r (chosen d message.NothingToUndo message.NothingToRedo)) new clip was now
   travelled r went = by (ahead d (state_of old)) refl r went.nothing went.refused went.done went.evaluated
     where
       by : (ps : List Change) → ahead d (state_of old) ≡ ps → (r : Bool) → (r ≡ false) ↔ (ps ≡ [])
           → (r ≡ false → (new ≡ old) × (now ≡ was))
-          → (r ≡ true → state_of new ≡ gone d (state_of old))
+          → (r ≡ true → state_of new ≡ gone old.grove.spec old.height d (state_of old))
           → (r ≡ true → OfFirst ps (Gained d old.grove.spec (state_of old).term was now new.grove new.root))
-          → Did (travels old.grove.spec clip (state_of old) d ps) (said_of r (chosen d message.NothingToUndo message.NothingToRedo)) new clip was now
+          → Did (travels old.grove.spec old.height clip (state_of old) d ps) (said_of r (chosen d message.NothingToUndo message.NothingToRedo)) new clip was now
       by [] is false nothing refused done evaluated =
           refused_did old new clip was now (chosen d message.NothingToUndo message.NothingToRedo) (refused refl).0 (refused refl).1
       by [] is true nothing refused done evaluated = absurd (false≢true (sym (nothing.1 refl)))
@@ -77,24 +77,24 @@ module _ (old new : Held) (sound : IsSound old.grove.spec) (clip : Option Clip) 
         copied = refl;
         evaluated = subst (λ (st : State). GainedAll new.grove new.root st.term
             (Contains (evaluated_along d old.grove.spec (state_of old).term c)) was now)
-            (sym (ap (λ ps. gone_by d ps (state_of old)) is))
+            (sym (ap (λ ps. gone_by old.grove.spec old.height d ps (state_of old)) is))
             (gained old.grove.spec sound (state_of old).term was now new.grove new.root d c (evaluated refl));
       }
 
   pub travel_gave_up : state_of new ≡ state_of old → ahead d (state_of old) ≢ []
       → OfFirst (ahead d (state_of old)) (NotedAlong d old.grove old.root (state_of old).term was now)
-      → GaveUp old.grove.spec (travels old.grove.spec clip (state_of old) d (ahead d (state_of old))) old new clip clip was now
+      → GaveUp old.grove.spec (travels old.grove.spec old.height clip (state_of old) d (ahead d (state_of old))) old new clip clip was now
   travel_gave_up state some notes = by (ahead d (state_of old)) refl some notes
     where
       by : (ps : List Change) → ahead d (state_of old) ≡ ps → ps ≢ []
           → OfFirst ps (NotedAlong d old.grove old.root (state_of old).term was now)
-          → GaveUp old.grove.spec (travels old.grove.spec clip (state_of old) d ps) old new clip clip was now
+          → GaveUp old.grove.spec (travels old.grove.spec old.height clip (state_of old) d ps) old new clip clip was now
       by [] is some notes = absurd (some refl)
       by (c ∷ cs) is some notes = record {
         state = state;
         copied = refl;
         noted = subst (λ (z : State). (now ≡ was) ⊎ NotedOf old.grove.spec old z
             (evaluated_along d old.grove.spec (state_of old).term c) was now)
-            (sym (ap (λ ps. gone_by d ps (state_of old)) is))
+            (sym (ap (λ ps. gone_by old.grove.spec old.height d ps (state_of old)) is))
             (noted old sound was now d c cs is notes);
       }

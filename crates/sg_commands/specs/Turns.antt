@@ -1,5 +1,5 @@
 -- The table of commands in the current buffer: of each its refusals in their order, and what it does.
-use Rattle.std.specs.Prelude.{ℕ, Bool, true, false, not, nat_eq, nat_lt, ◌&&◌, List, [], ◌∷◌, Option, None, Some, option_map}
+use Rattle.std.specs.Prelude.{ℕ, suc, Bool, true, false, not, nat_eq, nat_lt, ◌&&◌, List, [], ◌∷◌, Option, None, Some, option_map, position, bytes_eq}
 use Rattle.std.specs.Option.{option_map_or}
 use Rattle.sg_kinds.specs.Values.{Bytes}
 use Rattle.sg_kinds.specs.Terms.{Term}
@@ -17,7 +17,7 @@ use Rattle.sg_script.specs.declared.command.Command.TheVariants as command
 use Rattle.sg_changes.specs.declared.spot.Selection.{Selection}
 use Rattle.sg_search.specs.Found.{is_known, found_behind}
 use Rattle.sg_states.specs.Selections.{path_to}
-use Rattle.sg_states.specs.States.{State, selected_place, moved, picked, marked, replaced, selected, extension, extended, shrunk, gone, typed, erased, pointed, ended}
+use Rattle.sg_states.specs.States.{State, selected_place, moved, picked, marked, replaced, selected, extension, extended, shrunk, shown_spec, viewed, gone, typed, erased, pointed, ended}
 use Rattle.sg_states.specs.declared.marks.Extended.{Extended}
 use Rattle.sg_states.specs.declared.marks.Extended.TheVariants.{Done, NotInList, NoPlace}
 use Rattle.sg_states.specs.declared.marks.Mark.{Mark}
@@ -34,7 +34,7 @@ use Rattle.sg_commands.specs.Turn.{Turn, Reads, says, becomes, refused_if, found
 abbrev pub count_here : State → ℕ
 count_here st = st.spot.selection.count
 
--- the selected term, of a run its first element's; the entry of its phylum; whether it may be typed in
+-- the selected term, of a run its first element's; the entry of its phylum; whether it may be typed in, in the view
 abbrev pub selected_term : State → Term
 selected_term st = part_of st.term (selected_place st)
 
@@ -42,17 +42,22 @@ abbrev pub entry_here : Spec → State → Option ℕ
 entry_here spec st = entry_at spec (phylum_in spec (selected_term st))
 
 abbrev pub is_editable_here : Spec → State → Bool
-is_editable_here spec st = is_editable spec (selected_term st)
+is_editable_here spec st = is_editable (shown_spec spec st) (selected_term st)
 
 -- what is evaluated where a way goes along a change
 abbrev pub evaluated_along : Direction → Spec → Term → Change → List (Reference Place)
 evaluated_along d spec t (Putting u old new before after) = evaluated spec t u (chosen d old new)
 evaluated_along d spec t (Marking u old new before after) = []
 
--- the first place behind the selected one that rests and at which a transformation of the name applies, selected
+-- the first place behind the selected one that rests in the view and at which a transformation of the name applies,
+-- selected
 abbrev pub found_next : Spec → ℕ → Bytes → State → Option State
 found_next spec height name st =
-    option_map (λ v. selected spec height v st) (found_behind spec name st.term (selected_place st))
+    option_map (λ u. selected spec height u st) (found_behind spec st.spot.view name st.term (selected_place st))
+
+-- the number of the view of a name, from 1 on
+abbrev pub view_named : Spec → Bytes → Option ℕ
+view_named spec name = option_map suc (position (bytes_eq name) spec.views.names)
 
 -- whether a command wants one node selected
 abbrev pub wants_one : Command → Bool
@@ -96,11 +101,6 @@ module _ (spec : Spec) (clip : Option Clip) (st : State) where
   enterable enters = refused_if clip st (not (is_editable_here spec st)) message.NotEditable
       (found_or clip st message.NoEntry enters (entry_here spec st))
 
-  -- the nearest of the changes that way gone along: the newest one undone, or the next one done again
-  abbrev pub travels : Direction → List Change → Turn
-  travels d [] = says clip (chosen d message.NothingToUndo message.NothingToRedo) st
-  travels d (c ∷ cs) = record (becomes clip (gone d st)) { set = evaluated_along d spec st.term c }
-
 -- what is copied
 abbrev pub copied_of : Spec → State → Clip
 copied_of spec st = clip_of spec st.term (selected_place st) (count_here st)
@@ -117,6 +117,20 @@ module _ (spec : Spec) (height : ℕ) (clip : Option Clip) (st : State) where
   abbrev pub finds : Bytes → Turn
   finds name = refused_if clip st (not (is_known spec name)) message.Unknown
       (found_or clip st message.NoMatch (becomes clip) (found_next spec height name st))
+
+  -- the nearest of the changes that way gone along: the newest one undone, or the next one done again
+  abbrev pub travels : Direction → List Change → Turn
+  travels d [] = says clip (chosen d message.NothingToUndo message.NothingToRedo) st
+  travels d (c ∷ cs) = record (becomes clip (gone spec height d st)) { set = evaluated_along d spec st.term c }
+
+  -- the view of a name, and that or the ordinary one
+  abbrev pub views_named : Bytes → Turn
+  views_named name =
+      found_or clip st message.Unknown (λ v. becomes clip (viewed spec height v st)) (view_named spec name)
+
+  abbrev pub views : Option Bytes → Turn
+  views None = becomes clip (viewed spec height 0 st)
+  views (Some name) = views_named name
 
   -- a mark turned
   abbrev pub marks : Mark → Turn
@@ -190,8 +204,9 @@ module _ (spec : Spec) (height : ℕ) (reads : Reads) (clip : Option Clip) (st :
   allowed_turn command.Abandon = says clip message.NotInText st
   allowed_turn command.Alternate = marks spec height clip st Alternate
   allowed_turn command.Elide = marks spec height clip st Elide
-  allowed_turn command.Undo = travels spec clip st Back st.past
-  allowed_turn command.Redo = travels spec clip st Forth st.future
+  allowed_turn command.Undo = travels spec height clip st Back st.past
+  allowed_turn command.Redo = travels spec height clip st Forth st.future
+  allowed_turn (command.View name) = views spec height clip st name
   allowed_turn other = becomes clip st
 
   -- while nothing is being typed

@@ -25,11 +25,12 @@ pub fn travel(
 ) -> Result<Message, NoMemory>
     requires tools { AreTools buffer.old.grove.spec tools.now }
     requires none { buffer.old.capture ≡ None }
-    ensures did { (clip : Option IsClipped) → IfOk result (λ m. Did (travels buffer.old.grove.spec clip
-        (state_of buffer.old) direction (ahead direction (state_of buffer.old))) m buffer.new clip
-        (now_of journal.old) (now_of journal.new)) }
+    ensures did { (clip : Option IsClipped) → IfOk result (λ m. Did (travels buffer.old.grove.spec
+        buffer.old.height clip (state_of buffer.old) direction (ahead direction (state_of buffer.old))) m buffer.new
+        clip (now_of journal.old) (now_of journal.new)) }
     ensures gave_up { (clip : Option IsClipped) → OnErr result (GaveUp buffer.old.grove.spec (travels
-        buffer.old.grove.spec clip (state_of buffer.old) direction (ahead direction (state_of buffer.old)))
+        buffer.old.grove.spec buffer.old.height clip (state_of buffer.old) direction
+        (ahead direction (state_of buffer.old)))
         buffer.old buffer.new clip clip (now_of journal.old) (now_of journal.new)) }
     ensures spec { buffer.new.grove.spec ≡ buffer.old.grove.spec }
     ensures height { buffer.new.height ≡ buffer.old.height }

@@ -12,7 +12,7 @@ ghost use Rattle.sg_commands.specs.Typing.{IsTyping};
 
 use crate::entering::{enter_typed, text};
 use crate::history::travel;
-use crate::moving::{copy, extend, find, go, pick, shrink, toggle};
+use crate::moving::{copy, extend, find, go, pick, shrink, toggle, view};
 use crate::replacing::{cut, delete, insert, paste, remove, replace_all, transform};
 use crate::tools::Tools;
 use crate::typing::{abandon, begin, erase, type_in};
@@ -80,7 +80,7 @@ fn allowed(
         Command::Goto(line, column) => pick(buffer, *line, *column),
         Command::Extend => Ok(extend(buffer)),
         Command::Shrink => Ok(shrink(buffer)),
-        Command::Find(name) => find(buffer, name.as_slice()),
+        Command::Find(name) => find(alloc, buffer, name.as_slice()),
         Command::Do(name) => transform(alloc, tools, buffer, name.as_slice(), journal),
         Command::ReplaceAll(name) => replace_all(alloc, tools, buffer, name.as_slice(), journal),
         Command::Delete => delete(alloc, tools, buffer, journal),
@@ -100,6 +100,7 @@ fn allowed(
         Command::Elide => toggle(buffer, Mark::Elide),
         Command::Undo => travel(tools, buffer, Direction::Back, journal),
         Command::Redo => travel(tools, buffer, Direction::Forth, journal),
+        Command::View(name) => view(buffer, name),
         Command::New(_)
         | Command::Load(_, _)
         | Command::Switch(_)
@@ -196,7 +197,8 @@ fn typing(
         | Command::Alternate
         | Command::Elide
         | Command::Undo
-        | Command::Redo => Ok(Message::InText),
+        | Command::Redo
+        | Command::View(_) => Ok(Message::InText),
     }
 }
 

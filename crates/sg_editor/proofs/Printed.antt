@@ -1,5 +1,5 @@
 -- What is printed of a buffer: its page is that of its term, by the nodes at the places.
-use Rattle.std.specs.Prelude.{◌≡◌, refl, ◌≤◌, ℕ, zero, suc, Bool, true, false, cond, ◌==◌, bytes_eq, List, [], ◌∷◌, map, Option, Some, None, option_map, unwrap_or}
+use Rattle.std.specs.Prelude.{◌≡◌, refl, ◌≤◌, ℕ, zero, suc, Bool, true, false, cond, ◌==◌, bytes_eq, List, [], ◌∷◌, map, Option, Some, None, MatchOption, option_map, unwrap_or}
 use Rattle.std.specs.Option.{option_map_or}
 use Rattle.std.specs.List.{AllByRecursion, slice_split}
 use Rattle.std.proofs.Common.{sym, ap, ◌∙◌, subst, arith, inl, inr}
@@ -11,7 +11,7 @@ use Rattle.sg_kinds.specs.FromScratch.{value_in}
 use Rattle.sg_kinds.proofs.Elementary.{bytes_is, bytes_itself, eq_is, eq_itself}
 use Rattle.sg_forest.specs.declared.node_id.NodeId.{NodeId}
 use Rattle.sg_forest.specs.Trees.{Climbs, IsLive}
-use Rattle.sg_groves.specs.Grove.{Grove, nodes, IsGrove}
+use Rattle.sg_groves.specs.Grove.{Grove, nodes, IsGrove, spec_shown}
 use Rattle.sg_groves.specs.Holds.{Holds, IsPlaced}
 use Rattle.sg_groves.proofs.Held.{node_held}
 use Rattle.sg_groves.proofs.Ways.{one_node, one_way}
@@ -63,10 +63,10 @@ module _ (g : Grove) (is : IsGrove g) (root : NodeId) (t : Term) (whole : IsWhol
   all_tell u n at (m ∷ marks) h = (tells u n at (place_of_mark m) h.0, all_tell u n at marks h.1)
 
   -- the region of a node
-  pub region_seen : (typed : Place → Option Bytes) (u : Place) (n : NodeId) → Climbs (nodes g) u n root → region_on (page_seen g root t typed) n ≡ region_of (marks_seen g.spec t typed) u
+  pub region_seen : (typed : Place → Option Bytes) (u : Place) (n : NodeId) → Climbs (nodes g) u n root → region_on (page_seen g root t typed) n ≡ region_of (marks_seen g.spec g.view t typed) u
   unfolding page_seen
   region_seen typed u n way =
-      region_told (node_along g root) n u (marks_seen g.spec t typed) (all_tell u n way (marks_seen g.spec t typed) (marks_there g.spec (value_in g.spec t) typed t))
+      region_told (node_along g root) n u (marks_seen g.spec g.view t typed) (all_tell u n way (marks_seen g.spec g.view t typed) (marks_there (spec_shown g) (value_in g.spec t) typed t))
 
 -- the bytes of a page, and whether it was cut
 bytes_same : (at : Place → NodeId) (cells : List Cell) → bytes_of (map (by_node at) cells) ≡ bytes_of cells
@@ -74,17 +74,26 @@ bytes_same at [] = refl
 bytes_same at (c ∷ cells) = ap (λ l. c.0 ∷ l) (bytes_same at cells)
 
 module _ (g : Grove) (root : NodeId) (t : Term) (typed : Place → Option Bytes) where
-  pub bytes_seen : bytes_of (page_seen g root t typed).cells ≡ bytes_of (cells_of (marks_seen g.spec t typed))
+  pub bytes_seen : bytes_of (page_seen g root t typed).cells ≡ bytes_of (cells_of (marks_seen g.spec g.view t typed))
   unfolding page_seen
-  bytes_seen = bytes_same (node_along g root) (cells_of (marks_seen g.spec t typed))
+  bytes_seen = bytes_same (node_along g root) (cells_of (marks_seen g.spec g.view t typed))
 
-  pub cut_seen : (page_seen g root t typed).more ≡ is_cut (marks_seen g.spec t typed)
+  pub cut_seen : (page_seen g root t typed).more ≡ is_cut (marks_seen g.spec g.view t typed)
   unfolding page_seen
   cut_seen = refl
 
 capture_seen : (h : Held) → h.capture ≡ (state_of h).capture
 unfolding state_of
 capture_seen h = refl
+
+pub view_seen : (h : Held) → h.grove.view ≡ (state_of h).spot.view
+unfolding state_of
+view_seen h = refl
+
+-- the name of the view that is told
+pub named_view : {X : Type 0} (res : Option X) (f : X → Bytes) (o p : Option Bytes) → MatchOption res (o ≡ None) (λ x. o ≡ Some (f x)) → o ≡ p → option_map f res ≡ p
+named_view None f o p told same = sym told ∙ same
+named_view (Some x) f o p told same = sym told ∙ same
 
 -- the lines of a buffer's page
 pub lines_seen : (spec : Spec) (b : Held) (page : Sheet) → b.grove.spec ≡ spec → page ≡ shown b
@@ -94,7 +103,7 @@ lines_seen spec b page same is =
     let typed = typed_by b.capture (selected_place (state_of b)) in
     ap (λ (p : Sheet). lines_of p.cells) is
     ∙ ap (slice_split is_newline) (bytes_seen b.grove b.root t typed)
-    ∙ (λ i. lines_of (cells_of (marks_seen (same i) t (typed_by (capture_seen b i) (selected_place (state_of b))))))
+    ∙ (λ i. lines_of (cells_of (marks_seen (same i) (view_seen b i) t (typed_by (capture_seen b i) (selected_place (state_of b))))))
 
 -- the regions of its nodes
 pub told_or : (o : Option Given) → told (unwrap_or o (record { line = 1; col = 1; end_line = 1; end_col = 1 })) ≡ unwrap_or (option_map told o) page_begin
@@ -107,7 +116,7 @@ regions_shown b stands page is u n way =
     let at = selected_place (state_of b) in
     ap (λ (p : Sheet). region_on p n) is
     ∙ region_seen b.grove stands.grove b.root t stands.whole (typed_by b.capture at) u n way
-    ∙ (λ i. region_of (marks_seen b.grove.spec t (typed_by (capture_seen b i) at)) u)
+    ∙ (λ i. region_of (marks_seen b.grove.spec (view_seen b i) t (typed_by (capture_seen b i) at)) u)
 
 -- of one place that is its region
 same_option : (o : Option RegionOf) → option_map_or Some None o ≡ o

@@ -22,7 +22,7 @@ use Rattle.sg_script.specs.declared.message.Message.{Message}
 use Rattle.sg_script.specs.declared.message.Message.TheVariants as message
 use Rattle.sg_script.specs.declared.command.Command.{Command}
 use Rattle.sg_script.specs.declared.command.Command.TheVariants as command
-use Rattle.sg_states.specs.States.{State, erased, extension, marked, moved, picked, pointed, selected_place, shrunk}
+use Rattle.sg_states.specs.States.{State, erased, extension, marked, moved, picked, pointed, selected_place, shrunk, viewed}
 use Rattle.sg_search.specs.Found.{is_known}
 use Rattle.sg_states.specs.declared.marks.Extended.{Extended}
 use Rattle.sg_states.specs.declared.marks.Extended.TheVariants.{Done, NotInList, NoPlace}
@@ -31,7 +31,7 @@ use Rattle.sg_states.specs.declared.marks.Mark.TheVariants.{Alternate, Elide}
 use Rattle.sg_states.specs.declared.marks.Move.{Move}
 use Rattle.sg_states.specs.declared.marks.Move.TheVariants.{Next, Prev, Up, First, Sibling}
 use Rattle.sg_commands.specs.Turn.{Reads, Turn, becomes, found_or, refused_if, says}
-use Rattle.sg_commands.specs.Turns.{allowed_turn, copied_of, count_here, enterable, enters, enters_typed, entry_here, extends, found_next, is_editable_here, plain_turn, puts, replaces, travels, turn, types_unless, typing_turn, wants_one}
+use Rattle.sg_commands.specs.Turns.{allowed_turn, copied_of, count_here, enterable, enters, enters_typed, entry_here, extends, found_next, is_editable_here, plain_turn, puts, replaces, travels, turn, types_unless, typing_turn, view_named, views, wants_one}
 use Rattle.sg_editor.specs.Ask.{Readers, Step, ask, barred, fetched, in_current, keeps, loads, longest_file, news, opened, opens, saved_form, saved_text, switches, taken, turned_at, turned_to}
 use Rattle.sg_editor.specs.Ask as asking
 use Rattle.sg_editor.specs.Refused.{IsPointed, Leaves, counted_by}
@@ -80,9 +80,13 @@ module _ (c : Command) (clip : Option Clip) (st : State) where
     puts_left : (choice : Choice) → Left c clip st (puts spec height clip st choice)
     puts_left choice = replaces_left clip (limited st.term choice)
 
-    travels_left : (d : Direction) (cs : List Change) → Left c clip st (travels spec clip st d cs)
+    travels_left : (d : Direction) (cs : List Change) → Left c clip st (travels spec height clip st d cs)
     travels_left d [] = said_left (chosen d message.NothingToUndo message.NothingToRedo)
     travels_left d (x ∷ cs) = inl refl
+
+    views_left : (name : Option Bytes) → Left c clip st (views spec height clip st name)
+    views_left None = inl refl
+    views_left (Some name) = found_left message.Unknown (λ v. becomes clip (viewed spec height v st)) (view_named spec name) (λ v. inl refl)
 
     enters_left : (x : Entered) → Left c clip st (enters spec height clip st x)
     enters_left (BadByte k) = said_left (message.ByteAt k)
@@ -139,6 +143,7 @@ module _ (spec : Spec) (height : ℕ) (reads : Reads) (clip : Option Clip) (st :
   allowed_left command.Elide = marks_left command.Elide clip st spec height Elide
   allowed_left command.Undo = travels_left command.Undo clip st spec height Back st.past
   allowed_left command.Redo = travels_left command.Redo clip st spec height Forth st.future
+  allowed_left (command.View name) = views_left (command.View name) clip st spec height name
   allowed_left other = inl refl
 
   plain_left : (c : Command) → Left c clip st (plain_turn spec height reads clip st c)

@@ -18,7 +18,7 @@ use Rattle.sg_editor.specs.declared.desk.Named.{Named}
 use Rattle.sg_editor.specs.Ask.{page_text, resting, whole_text}
 use Rattle.sg_editor.specs.Editing.{Kept, current_in, session_in, told}
 use Rattle.sg_editor.specs.Session.{current_of}
-use Rattle.sg_editor.proofs.Printed.{bytes_seen, cut_seen}
+use Rattle.sg_editor.proofs.Printed.{bytes_seen, cut_seen, view_seen}
 use Rattle.sg_editor.proofs.Told.{current_told}
 
 capture_held : (h : Held) → (state_of h).capture ≡ h.capture
@@ -54,10 +54,11 @@ passed_on P Q (Err e) m is q = subst Q (sym is) q
 
 -- the bytes of a page that shows a term where nothing is typed
 pub text_told : (spec : Spec) (b : Held) (page : Sheet) → b.grove.spec ≡ spec → b.capture ≡ None → page ≡ shown b
-    → page_text (marks_seen spec (state_of b).term nothing_typed) ≡ whole_text page
+    → page_text (marks_seen spec (state_of b).spot.view (state_of b).term nothing_typed) ≡ whole_text page
 text_told spec b page same none is =
     let t = (state_of b).term in
     let plain : page ≡ page_seen b.grove b.root t nothing_typed = is ∙ ap (λ (c : Option Captured). page_seen b.grove b.root t (typed_by c (selected_place (state_of b)))) none in
-    let cut : is_cut (marks_seen b.grove.spec t nothing_typed) ≡ page.more = sym (ap (λ (p : Sheet). p.more) plain ∙ cut_seen b.grove b.root t nothing_typed) in
-    let bytes : bytes_of (cells_of (marks_seen b.grove.spec t nothing_typed)) ≡ bytes_of page.cells = sym (ap (λ (p : Sheet). bytes_of p.cells) plain ∙ bytes_seen b.grove b.root t nothing_typed) in
-    ap (λ (sp : Spec). page_text (marks_seen sp t nothing_typed)) (sym same) ∙ (λ i. if cut i then Err message.Size else Ok (bytes i))
+    let cut : is_cut (marks_seen b.grove.spec b.grove.view t nothing_typed) ≡ page.more = sym (ap (λ (p : Sheet). p.more) plain ∙ cut_seen b.grove b.root t nothing_typed) in
+    let bytes : bytes_of (cells_of (marks_seen b.grove.spec b.grove.view t nothing_typed)) ≡ bytes_of page.cells = sym (ap (λ (p : Sheet). bytes_of p.cells) plain ∙ bytes_seen b.grove b.root t nothing_typed) in
+    ap (λ (sp : Spec). page_text (marks_seen sp (state_of b).spot.view t nothing_typed)) (sym same)
+    ∙ ap (λ v. page_text (marks_seen b.grove.spec v t nothing_typed)) (sym (view_seen b)) ∙ (λ i. if cut i then Err message.Size else Ok (bytes i))

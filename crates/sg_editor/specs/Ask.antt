@@ -114,7 +114,7 @@ module _ (spec : Spec) where
   saved_form s = resting (current_of s) (λ st. Ok (saved spec (value_of st.term)))
 
   abbrev pub saved_text : Session → Result Bytes Message
-  saved_text s = resting (current_of s) (λ st. page_text (marks_seen spec st.term nothing_typed))
+  saved_text s = resting (current_of s) (λ st. page_text (marks_seen spec st.spot.view st.term nothing_typed))
 
   -- a file that was fetched, opened
   abbrev pub opened : Bytes → Session → Opened → Step

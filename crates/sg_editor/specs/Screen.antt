@@ -1,5 +1,5 @@
 -- What is printed after a command.
-use Rattle.std.specs.Prelude.{◌≡◌, ℕ, zero, suc, List, [], ◌∷◌, Option, Some, None, unwrap_or}
+use Rattle.std.specs.Prelude.{◌≡◌, ℕ, zero, suc, List, [], ◌∷◌, Option, Some, None, slice_get, unwrap_or}
 use Rattle.std.specs.Option.{option_map_or}
 use Rattle.sg_kinds.specs.Places.{Place}
 use Rattle.sg_kinds.specs.Values.{Bytes}
@@ -51,15 +51,21 @@ region_of_run marks u n = record {
   last = (unwrap_or (last_region marks (run_from n u)) page_begin).last;
 }
 
+-- the name of a view, None of the ordinary one
+abbrev pub view_shown : Spec → ℕ → Option Bytes
+view_shown spec zero = None
+view_shown spec (suc v) = slice_get spec.views.names v
+
 module _ (spec : Spec) where
-  -- what a buffer shows, with the text that is typed at the selected node
+  -- what a buffer shows in its view, with the text that is typed at the selected node
   abbrev pub shown_in : State → List Mark
-  shown_in st = marks_seen spec st.term (typed_by st.capture (selected_place st))
+  shown_in st = marks_seen spec st.spot.view st.term (typed_by st.capture (selected_place st))
 
   -- what the header of a buffer tells
   abbrev pub header_of : Message → ℕ → Bytes → State → Head
   header_of m n name st = record {
     name = name;
+    view = view_shown spec st.spot.view;
     region = region_of_run (shown_in st) (selected_place st) st.spot.selection.count;
     phylum = phylum_name spec.phyla (phylum_in spec (selected_term st));
     count = st.spot.selection.count;

@@ -15,7 +15,7 @@ use sg_kinds::limits::FILE_BYTES;
 use sg_kinds::memory::NoMemory;
 use sg_outside::Shelf;
 use sg_replies::{Reply, fetched};
-use sg_saved_read::{OpenFault, read};
+use sg_saved::{OpenFault, read};
 use sg_script::{FileName, Message};
 use std::alloc::Global;
 

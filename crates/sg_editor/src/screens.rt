@@ -1,5 +1,5 @@
 // What is printed of a session.
-ghost use Rattle.std.specs.Prelude.{◌≡◌, ◌≤◌, List, ◌∷◌, option_map, IfOk};
+ghost use Rattle.std.specs.Prelude.{◌≡◌, ◌≤◌, List, ◌∷◌, None, Some, option_map, IfOk, MatchOption};
 ghost use Rattle.sg_kinds.specs.Places.{Place};
 ghost use Rattle.sg_kinds.specs.Terms.{Term};
 ghost use Rattle.sg_forest.specs.Trees.{Climbs, IsLive};
@@ -12,7 +12,7 @@ ghost use Rattle.sg_states.specs.States.{selected_place};
 ghost use Rattle.sg_screen.specs.Block.{head_of};
 ghost use Rattle.sg_buffer.specs.Held.{shown, state_of};
 ghost use Rattle.sg_editor.specs.Editing.{IsKept, IsOver, session_in};
-ghost use Rattle.sg_editor.specs.Screen.{header_of, last_region, region_of_run, run_from, screen, shown_in, TellsRegions};
+ghost use Rattle.sg_editor.specs.Screen.{header_of, last_region, region_of_run, run_from, screen, shown_in, view_shown, TellsRegions};
 
 use crate::base::Base;
 use crate::desk::{Desk, Named};
@@ -20,6 +20,7 @@ use sg_buffer::Buffer;
 use sg_forest::NodeId;
 use sg_kinds::memory::NoMemory;
 use sg_kinds::row::item;
+use sg_kinds::spec::Spec;
 use sg_screen::{Head, bare, block};
 use sg_script::Message;
 use sg_select::spine_of;
@@ -80,6 +81,14 @@ fn selected_region(buffer: &Buffer, page: &Page) -> Region
     }
 }
 
+// the name of a view, None of the ordinary one
+fn view_shown(spec: &Spec, v: u32) -> Option<&[u8]>
+    ensures { MatchOption result (view_shown spec.now v ≡ None) (λ name. view_shown spec.now v ≡ Some name.now) }
+{
+    let place = v.checked_sub(1)?;
+    Some(spec.views.names.place(place)?.as_slice())
+}
+
 // what the header of a buffer tells, by its page
 fn head<'a>(base: &'a Base, named: &'a Named, page: &Page, message: Message, ev: u64) -> Head<'a>
     requires over { IsOver base.now.contents.spec base.now.height named.now.buffer }
@@ -88,11 +97,14 @@ fn head<'a>(base: &'a Base, named: &'a Named, page: &Page, message: Message, ev:
 {
     let buffer = &named.buffer;
     buffer.facts();
-    let phylum = buffer.terms().phylum(buffer.selected());
+    let spec = base.spec();
+    let terms = buffer.terms();
+    let phylum = terms.phylum(buffer.selected());
     Head {
         name: named.name.as_slice(),
+        view: view_shown(spec, terms.view()),
         region: selected_region(buffer, page),
-        phylum: item(base.spec().phyla.as_slice(), phylum.number as usize)
+        phylum: item(spec.phyla.as_slice(), phylum.number as usize)
             .name
             .as_slice(),
         count: buffer.count(),

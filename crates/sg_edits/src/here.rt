@@ -6,7 +6,7 @@ ghost use Rattle.sg_kinds.specs.Terms.{Term};
 ghost use Rattle.sg_kinds.specs.Plain.{plain};
 ghost use Rattle.sg_kinds.specs.declared.spec.Spec.{Spec};
 ghost use Rattle.sg_forest.specs.Trees.{IsLive};
-ghost use Rattle.sg_groves.specs.Grove.{nodes};
+ghost use Rattle.sg_groves.specs.Grove.{nodes, spec_shown};
 ghost use Rattle.sg_groves.specs.Holds.{Holds};
 ghost use Rattle.sg_matching.specs.Refusal.{IsRefused};
 ghost use Rattle.sg_matching.specs.Transformation.{Given};
@@ -25,10 +25,10 @@ use sg_terms::Terms;
 use sg_unparse::current;
 use std::alloc::Global;
 
-/// Whether a node may be typed in: its current scheme is editable as text, or it is a leaf.
+/// Whether a node may be typed in: its current scheme in the view is editable as text, or it is a leaf.
 pub fn is_editable(terms: &Terms, n: NodeId) -> bool
     requires { IsLive (nodes terms.now) n }
-    ensures { (t : Term) → Holds terms.now n t → result ≡ is_editable terms.now.spec t }
+    ensures { (t : Term) → Holds terms.now n t → result ≡ is_editable (spec_shown terms.now) t }
 {
     terms.facts();
     match current(terms, n) {

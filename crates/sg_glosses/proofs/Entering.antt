@@ -19,7 +19,7 @@ use Rattle.sg_changes.specs.Captured.{Captured}
 use Rattle.sg_script.specs.declared.command.Command.{Command}
 use Rattle.sg_script.specs.declared.command.Command.TheVariants as command
 use Rattle.sg_script.specs.declared.message.Message.TheVariants as message
-use Rattle.sg_states.specs.States.{State, selected_place}
+use Rattle.sg_states.specs.States.{State, selected_place, shown_spec}
 use Rattle.sg_edits.specs.Choice.{Choice, Put, Refused, one}
 use Rattle.sg_edits.specs.Edits.{is_editable, phylum_in, typed as typed_in}
 use Rattle.sg_edits.specs.declared.clip.Clip.{Clip}
@@ -154,11 +154,11 @@ module _ (spec : Spec) (height : ℕ) (reads : Reads) (clip : Option Clip) (st :
         ∙ typed_fine
 
     -- `text` where nothing is being typed, no run is selected and the node is editable
-    pub text_fine : st.capture ≡ None → count_here st ≤ 1 → is_editable spec old ≡ true → (turn spec height reads clip st (command.Text text)).message ≡ message.Fine
+    pub text_fine : st.capture ≡ None → count_here st ≤ 1 → is_editable (shown_spec spec st) old ≡ true → (turn spec height reads clip st (command.Text text)).message ≡ message.Fine
     unfolding turn
     text_fine resting few editable =
         let low : nat_lt 1 (count_here st) ≡ false = grind (arith, nat_tests) in
-        let may : is_editable_here spec st ≡ true = ap (is_editable spec) (part_is old selected) ∙ editable in
+        let may : is_editable_here spec st ≡ true = ap (is_editable (shown_spec spec st)) (part_is old selected) ∙ editable in
         let enter = λ (entry : ℕ). enters spec height clip st (reads entry text) in
         ap (λ o. (option_map_or (λ cap. typing_turn spec height reads clip st cap (command.Text text)) o (plain_turn spec height reads clip st (command.Text text))).message) resting
         ∙ ap (λ b. (refused_if clip st (wants_one (command.Text text) && b) message.InRun (enterable spec clip st enter)).message) low
@@ -249,7 +249,7 @@ module _ (spec : Spec) (height : ℕ) (r : Readers) (s : Session) (got : List Re
             one = t.one;
             old = m.old;
             selected = m.selected;
-            editable = sym (ap (is_editable spec) (part_is spec height r.text s.clip st m.old m.selected)) ∙ t.editable;
+            editable = sym (ap (is_editable (shown_spec spec st)) (part_is spec height r.text s.clip st m.old m.selected)) ∙ t.editable;
             meaning = m.meaning;
           };
           new = made.state;

@@ -161,9 +161,9 @@ module _ (spec : Spec) (height : ℕ) (r : Readers) (s : Session) (got : List Re
 
   -- a command that goes along a change
   abbrev Going : Direction → Type 0
-  Going d = RefusedOr step (HasGone spec d s step)
+  Going d = RefusedOr step (HasGone spec height d s step)
 
-  gone_turn : (d : Direction) (c : Command) (o : IsTurnOf spec height r s c step) → Goes spec d o.buffer.1 (turn spec height r.text s.clip o.buffer.1 c) → HasGone spec d s step
+  gone_turn : (d : Direction) (c : Command) (o : IsTurnOf spec height r s c step) → Goes spec height d o.buffer.1 (turn spec height r.text s.clip o.buffer.1 c) → HasGone spec height d s step
   gone_turn d c o goes =
       let t = turn spec height r.text s.clip o.buffer.1 c in
       record {
@@ -178,12 +178,12 @@ module _ (spec : Spec) (height : ℕ) (r : Readers) (s : Session) (got : List Re
       }
 
   going : (d : Direction) (c : Command)
-      → ((st : State) → Refuses st (turn spec height r.text s.clip st c) ⊎ Goes spec d st (turn spec height r.text s.clip st c))
+      → ((st : State) → Refuses st (turn spec height r.text s.clip st c) ⊎ Goes spec height d st (turn spec height r.text s.clip st c))
       → IsInCurrent spec height r s c step → Going d
   going d c each (inl none) = inl (no_buffer none.said)
   going d c each (inr o) = by (each o.buffer.1)
     where
-      by : Refuses o.buffer.1 (turn spec height r.text s.clip o.buffer.1 c) ⊎ Goes spec d o.buffer.1 (turn spec height r.text s.clip o.buffer.1 c) → Going d
+      by : Refuses o.buffer.1 (turn spec height r.text s.clip o.buffer.1 c) ⊎ Goes spec height d o.buffer.1 (turn spec height r.text s.clip o.buffer.1 c) → Going d
       by (inl refused) = inl (refused_turn c o refused)
       by (inr goes) = inr (gone_turn d c o goes, ap (λ (x : Step). x.message) o.is ∙ goes.fine)
 
@@ -193,11 +193,11 @@ module _ (spec : Spec) (height : ℕ) (r : Readers) (s : Session) (got : List Re
   redoing : Comes (ask spec height r s command.Redo) got step → Going Forth
   redoing comes = going Forth command.Redo (λ st. redoes spec height s.clip st r.text) (comes_current spec height r s command.Redo got step refl comes)
 
-  pub has_undone : Comes (ask spec height r s command.Undo) got step → step.message ≡ message.Fine → HasGone spec Back s step
-  has_undone comes = done step (HasGone spec Back s step) (undoing comes)
+  pub has_undone : Comes (ask spec height r s command.Undo) got step → step.message ≡ message.Fine → HasGone spec height Back s step
+  has_undone comes = done step (HasGone spec height Back s step) (undoing comes)
 
-  pub has_redone : Comes (ask spec height r s command.Redo) got step → step.message ≡ message.Fine → HasGone spec Forth s step
-  has_redone comes = done step (HasGone spec Forth s step) (redoing comes)
+  pub has_redone : Comes (ask spec height r s command.Redo) got step → step.message ≡ message.Fine → HasGone spec height Forth s step
+  has_redone comes = done step (HasGone spec height Forth s step) (redoing comes)
 
   -- all others
   set_of : (told : Step) → step ≡ told → told.set ≡ [] → step.set ≡ []
@@ -227,8 +227,8 @@ module _ (spec : Spec) (height : ℕ) (r : Readers) (s : Session) (got : List Re
 
   -- a command that is not told as fine
   travel_unless : (c : Command) → IsTrue (is_travel c) → Comes (ask spec height r s c) got step → step.message ≢ message.Fine → step.set ≡ []
-  travel_unless command.Undo is comes = unless step (HasGone spec Back s step) (undoing comes)
-  travel_unless command.Redo is comes = unless step (HasGone spec Forth s step) (redoing comes)
+  travel_unless command.Undo is comes = unless step (HasGone spec height Back s step) (undoing comes)
+  travel_unless command.Redo is comes = unless step (HasGone spec height Forth s step) (redoing comes)
   travel_unless c is comes = absurd (false≢true is)
 
   pub refused_quiet : (c : Command) → Comes (ask spec height r s c) got step → step.message ≢ message.Fine → step.set ≡ []

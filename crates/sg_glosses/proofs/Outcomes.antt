@@ -25,7 +25,7 @@ use Rattle.sg_search.specs.ReplacedAll.{Replaced, replaced_all}
 use Rattle.sg_search.specs.ReplacedAll as replacement
 use Rattle.sg_search.specs.Found.{is_known}
 use Rattle.sg_select.specs.Paths.{spine_from}
-use Rattle.sg_states.specs.States.{State, ahead, erased, extension, gone, marked, moved, picked, pointed, replaced, selected_place, shrunk}
+use Rattle.sg_states.specs.States.{State, ahead, erased, extension, gone, marked, moved, picked, pointed, replaced, selected_place, shrunk, viewed}
 use Rattle.sg_states.specs.declared.marks.Extended.{Extended}
 use Rattle.sg_states.specs.declared.marks.Extended.TheVariants.{Done, NotInList, NoPlace}
 use Rattle.sg_states.specs.declared.marks.Mark.TheVariants.{Alternate, Elide}
@@ -35,7 +35,7 @@ use Rattle.sg_edits.specs.Edits.{at_spine, at_term, by_given, by_outcome, by_rep
 use Rattle.sg_edits.specs.declared.clip.Clip.{Clip}
 use Rattle.sg_input.specs.Entered.{Entered, BadByte, NoToken, Stopped, Faulted, Typed, bad_byte}
 use Rattle.sg_commands.specs.Turn.{Reads, Turn, becomes, found_or, refused_if, says}
-use Rattle.sg_commands.specs.Turns.{allowed_turn, copied_of, count_here, enters, enters_typed, entry_here, evaluated_along, extends, found_next, is_editable_here, plain_turn, puts, replaces, selection_of, travels, turn, types_unless, typing_turn, wants_one}
+use Rattle.sg_commands.specs.Turns.{allowed_turn, copied_of, count_here, enters, enters_typed, entry_here, evaluated_along, extends, found_next, is_editable_here, plain_turn, puts, replaces, selection_of, travels, turn, types_unless, typing_turn, wants_one, view_named}
 use Rattle.sg_glosses.specs.Evaluations.{evaluates_nothing, is_replacement}
 
 -- a choice that is refused is not told as fine
@@ -156,11 +156,11 @@ pub record Replaces (spec : Spec) (height : ℕ) (st : State) (t : Turn) : Type 
   pub fine : t.message ≡ message.Fine
 
 -- a way has gone along the nearest change
-pub record Goes (spec : Spec) (d : Direction) (st : State) (t : Turn) : Type 0 where
+pub record Goes (spec : Spec) (height : ℕ) (d : Direction) (st : State) (t : Turn) : Type 0 where
   pub change : Change
   pub others : List Change
   pub nearest : ahead d st ≡ change ∷ others
-  pub state : t.state ≡ gone d st
+  pub state : t.state ≡ gone spec height d st
   pub set : t.set ≡ evaluated_along d spec st.term change
   pub fine : t.message ≡ message.Fine
 
@@ -252,9 +252,9 @@ module _ (spec : Spec) (height : ℕ) (clip : Option Clip) (st : State) where
 
     -- a command that goes along a change, or is refused
     abbrev pub Going : Direction → Turn → Type 0
-    Going d t = Refuses st t ⊎ Goes spec d st t
+    Going d t = Refuses st t ⊎ Goes spec height d st t
 
-    travels_so : (d : Direction) (cs : List Change) → ahead d st ≡ cs → Going d (travels spec clip st d cs)
+    travels_so : (d : Direction) (cs : List Change) → ahead d st ≡ cs → Going d (travels spec height clip st d cs)
     travels_so d [] near = inl (nothing_there d, refl, inl refl)
     travels_so d (x ∷ xs) near = inr (record { change = x; others = xs; nearest = near; state = refl; set = refl; fine = refl })
 
@@ -323,6 +323,8 @@ module _ (clip : Option Clip) (st : State) where
         (found_quiet message.NoEntry types (entry_here spec st) (λ entry. types_quiet (bad_byte text) text))
     allowed_quiet command.Alternate is = state_quiet message.NoAlternate (marked spec height Alternate st)
     allowed_quiet command.Elide is = state_quiet message.NoAlternate (marked spec height Elide st)
+    allowed_quiet (command.View None) is = refl
+    allowed_quiet (command.View (Some name)) is = found_quiet message.Unknown (λ v. becomes clip (viewed spec height v st)) (view_named spec name) (λ v. refl)
     allowed_quiet command.Undo is = absurd (false≢true is)
     allowed_quiet command.Redo is = absurd (false≢true is)
     allowed_quiet c is = refl

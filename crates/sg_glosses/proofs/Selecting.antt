@@ -22,15 +22,17 @@ use Rattle.sg_select.proofs.Unparsing.{reached_unparsed}
 use Rattle.sg_unparse.specs.Page.{Region, region_of}
 use Rattle.sg_unparse.specs.Unparsed.{unparsed_places}
 use Rattle.sg_unparse.proofs.Spans.{regions_end}
-use Rattle.sg_states.specs.Seen.{marks_seen, seen}
-use Rattle.sg_states.specs.Selections.{alone, elements_at, is_selection, settled_selection}
-use Rattle.sg_states.specs.States.{State, begun, changed, ended, erased, extended, extension, gone, gone_by, marked, pointed, remarked, replaced, selected, selected_place, shrunk, taken_back, typed, undone}
+use Rattle.sg_states.specs.Seen.{is_seen, marks_seen, settled_spot}
+use Rattle.sg_states.specs.Selections.{alone, elements_at, is_selection}
+use Rattle.sg_states.specs.States.{State, begun, changed, ended, erased, extended, extension, gone, gone_by, marked, pointed, remarked, replaced, selected, selected_place, shown_spec, shrunk, taken_back, typed, undone, viewed}
 use Rattle.sg_states.specs.Turned.{turned_in}
 use Rattle.sg_states.specs.declared.marks.Extended.TheVariants.{Done, NotInList, NoPlace}
 use Rattle.sg_states.specs.declared.marks.Mark.{Mark}
-use Rattle.sg_states.proofs.Selecting.{alone_selected, selection_rests, settled_selected}
+use Rattle.sg_states.proofs.Selecting.{alone_selected, selection_rests}
+use Rattle.sg_states.proofs.Spotted.{selected_seen, settled_seen, spot_seen, spot_selects, spot_shows}
 use Rattle.sg_states.proofs.Undoing.{marked_goes_back, replaced_back}
 use Rattle.sg_buffer.specs.Held.{typed_by}
+use Rattle.sg_buffer.proofs.Begun.{begun_spot}
 use Rattle.sg_glosses.specs.Selected.{AllSelected, HasSelection, IsSelected}
 
 -- counts of elements, one more and one less
@@ -77,94 +79,102 @@ count_less e n not_one may = by (or_one (nat_eq n 1) (nat_lt 1 n && not (nat_lt 
         by_two (nat_eq n 2) refl (lt_is 1 n parts.0) (not_over parts.1)
 
 -- changes of which only the first are kept
-take_selected : (spec : Spec) (d : Direction) (n : ℕ) (t : Term) (cs : List Change) → AllSelected spec d t cs → AllSelected spec d t (take n cs)
-take_selected spec d zero t cs all = tt
-take_selected spec d (suc n) t [] all = tt
-take_selected spec d (suc n) t (c ∷ cs) all = (all.0, take_selected spec d n (term_along d t c) cs all.1)
+take_selected : (spec : Spec) (height : ℕ) (d : Direction) (n : ℕ) (t : Term) (cs : List Change) → AllSelected spec height d t cs → AllSelected spec height d t (take n cs)
+take_selected spec height d zero t cs all = tt
+take_selected spec height d (suc n) t [] all = tt
+take_selected spec height d (suc n) t (c ∷ cs) all = (all.0, take_selected spec height d n (term_along d t c) cs all.1)
 
-pub begun_selects : (spec : Spec) (t : Term) → HasSelection spec (begun t)
-begun_selects spec t = record { now = alone_selected spec t [] refl; past = tt; future = tt }
+pub begun_selects : (spec : Spec) (height : ℕ) (t : Term) → 0 < height → HasSelection spec height (begun t)
+begun_selects spec height t tall = record { now = begun_spot spec height t (omega (arith, tall)); past = tt; future = tt }
 
-module _ (spec : Spec) (height : ℕ) (st : State) (h : HasSelection spec st) where
+module _ (spec : Spec) (height : ℕ) (tall : 0 < height) (st : State) (h : HasSelection spec height st) where
   -- a resting place
-  pub selected_selects : (v : Place) → rests spec st.term v ≡ true → HasSelection spec (selected spec height v st)
-  selected_selects v rest = record { now = alone_selected spec st.term v rest; past = h.past; future = h.future }
+  pub selected_selects : (v : Place) → rests (shown_spec spec st) st.term v ≡ true → HasSelection spec height (selected spec height v st)
+  selected_selects v rest = record {
+    now = spot_seen spec height st.term st.spot.view (alone v) st.spot.top tall (alone_selected spec st.spot.view st.term v rest);
+    past = h.past;
+    future = h.future;
+  }
+
+  -- another view
+  pub viewed_selects : (v : ℕ) → HasSelection spec height (viewed spec height v st)
+  viewed_selects v = record { now = settled_seen spec height st.term v st.spot tall; past = h.past; future = h.future }
 
   -- a change
   module _ (t : Term) (change : Spot → Change) (select : Selection) where
     abbrev spot : Spot
-    spot = seen spec height t (settled_selection spec t select) st.spot.top
+    spot = settled_spot spec height st.spot.view t select st.spot.top
 
     abbrev it : Change
     it = change spot
 
     changed_selects : term_along Back t it ≡ st.term → term_along Forth st.term it ≡ t → spot_along Back it ≡ st.spot → spot_along Forth it ≡ spot
-        → HasSelection spec (changed spec height t change select st)
+        → HasSelection spec height (changed spec height t change select st)
     changed_selects back forth was is =
-        let here : IsSelected spec t spot = settled_selected spec t select in
-        let there : IsSelected spec (term_along Back t it) st.spot = subst (λ x. IsSelected spec x st.spot) (sym back) h.now in
+        let here : IsSelected spec height t spot = selected_seen spec height t st.spot.view select st.spot.top tall in
+        let there : IsSelected spec height (term_along Back t it) st.spot = subst (λ x. IsSelected spec height x st.spot) (sym back) h.now in
         record {
           now = here;
           past = (
             record {
               back = ap (λ x. term_along Forth x it) back ∙ forth;
-              here = subst (IsSelected spec t) (sym is) here;
-              there = subst (IsSelected spec (term_along Back t it)) (sym was) there;
+              here = subst (IsSelected spec height t) (sym is) here;
+              there = subst (IsSelected spec height (term_along Back t it)) (sym was) there;
             },
-            subst (λ x. AllSelected spec Back x (take 255 st.past)) (sym back) (take_selected spec Back 255 st.term st.past h.past),
+            subst (λ x. AllSelected spec height Back x (take 255 st.past)) (sym back) (take_selected spec height Back 255 st.term st.past h.past),
           );
           future = tt;
         }
 
-  pub replaced_selects : (u : Place) (s : Term) (select : Selection) → HasSelection spec (replaced spec height u s select st)
+  pub replaced_selects : (u : Place) (s : Term) (select : Selection) → HasSelection spec height (replaced spec height u s select st)
   replaced_selects u s select =
-      changed_selects (put st.term u s) (Put u (part_of st.term u) s st.spot) select (ap (λ (x : State). x.term) (replaced_back spec height u s select st)) refl refl refl
+      changed_selects (put st.term u s) (Put u (part_of st.term u) s st.spot) select (ap (λ (x : State). x.term) (replaced_back spec height u s select st h.now)) refl refl refl
 
-  pub marked_selects : (mark : Mark) (next : State) → marked spec height mark st ≡ Some next → HasSelection spec next
+  pub marked_selects : (mark : Mark) (next : State) → marked spec height mark st ≡ Some next → HasSelection spec height next
   marked_selects mark next is =
       let u = selected_place st in
       let x = part_of st.term u in
-      let m = option_map_some (λ new. remarked spec height (unwrap_or (marks_of x) new) new st) (turned_in spec mark x) next is in
-      let back = subst (λ n. undone n ≡ taken_back n st) (sym m.2) (marked_goes_back spec height mark st next is) in
-      subst (HasSelection spec) m.2
+      let m = option_map_some (λ new. remarked spec height (unwrap_or (marks_of x) new) new st) (turned_in (shown_spec spec st) mark x) next is in
+      let back = subst (λ n. undone spec height n ≡ taken_back n st) (sym m.2) (marked_goes_back spec height mark st next h.now is) in
+      subst (HasSelection spec height) m.2
       (changed_selects (marked_term st.term u m.0) (Marking u (unwrap_or (marks_of x) m.0) m.0 st.spot) (alone u) (ap (λ (n : State). n.term) back) refl refl refl)
 
   -- a way along a change
-  back_selects : (cs : List Change) → AllSelected spec Back st.term cs → HasSelection spec (gone_by Back cs st)
+  back_selects : (cs : List Change) → AllSelected spec height Back st.term cs → HasSelection spec height (gone_by spec height Back cs st)
   back_selects [] all = h
   back_selects (c ∷ cs) all =
       let g = all.0 in
       record {
-        now = g.there;
+        now = settled_seen spec height (term_along Back st.term c) st.spot.view (spot_along Back c) tall;
         past = all.1;
         future = (
           record {
             back = ap (λ x. term_along Back x c) g.back;
             here = g.there;
-            there = subst (λ x. IsSelected spec x (spot_along Forth c)) (sym g.back) g.here;
+            there = subst (λ x. IsSelected spec height x (spot_along Forth c)) (sym g.back) g.here;
           },
-          subst (λ x. AllSelected spec Forth x st.future) (sym g.back) h.future,
+          subst (λ x. AllSelected spec height Forth x st.future) (sym g.back) h.future,
         );
       }
 
-  forth_selects : (cs : List Change) → AllSelected spec Forth st.term cs → HasSelection spec (gone_by Forth cs st)
+  forth_selects : (cs : List Change) → AllSelected spec height Forth st.term cs → HasSelection spec height (gone_by spec height Forth cs st)
   forth_selects [] all = h
   forth_selects (c ∷ cs) all =
       let g = all.0 in
       record {
-        now = g.there;
+        now = settled_seen spec height (term_along Forth st.term c) st.spot.view (spot_along Forth c) tall;
         past = (
           record {
             back = ap (λ x. term_along Forth x c) g.back;
             here = g.there;
-            there = subst (λ x. IsSelected spec x (spot_along Back c)) (sym g.back) g.here;
+            there = subst (λ x. IsSelected spec height x (spot_along Back c)) (sym g.back) g.here;
           },
-          subst (λ x. AllSelected spec Back x st.past) (sym g.back) h.past,
+          subst (λ x. AllSelected spec height Back x st.past) (sym g.back) h.past,
         );
         future = all.1;
       }
 
-  pub gone_selects : (d : Direction) → HasSelection spec (gone d st)
+  pub gone_selects : (d : Direction) → HasSelection spec height (gone spec height d st)
   gone_selects Back = back_selects st.past h.past
   gone_selects Forth = forth_selects st.future h.future
 
@@ -175,33 +185,39 @@ module _ (spec : Spec) (height : ℕ) (st : State) (h : HasSelection spec st) wh
   abbrev n : ℕ
   n = st.spot.selection.count
 
-  counted : (k : ℕ) → may_count (elements_at spec st.term u) k ≡ true → is_selection spec st.term u k ≡ true
-  counted k may = and_true (rests spec st.term u) (may_count (elements_at spec st.term u) k) (selection_rests spec st.term u n h.now) may
+  selects : is_selection spec st.spot.view st.term u n ≡ true
+  selects = spot_selects spec height st.term st.spot h.now
 
-  pub extended_selects : extension spec st ≡ Done → HasSelection spec (extended st)
+  counted : (k : ℕ) → may_count (elements_at spec st.term u) k ≡ true → IsSelected spec height st.term (record st.spot { selection = record st.spot.selection { count = k } })
+  counted k may =
+      and_true (is_selection spec st.spot.view st.term u k) (is_seen spec height st.spot.view st.term u st.spot.top)
+      (and_true (rests (shown_spec spec st) st.term u) (may_count (elements_at spec st.term u) k) (selection_rests spec st.spot.view st.term u n selects) may)
+      (spot_shows spec height st.term st.spot h.now)
+
+  pub extended_selects : extension spec st ≡ Done → HasSelection spec height (extended st)
   extended_selects more = by (is_some (spine_from spec st.term u)) (nat_lt n (elements_at spec st.term u)) refl more
     where
-      by : (a b : Bool) → nat_lt n (elements_at spec st.term u) ≡ b → (if a then (if b then Done else NoPlace) else NotInList) ≡ Done → HasSelection spec (extended st)
+      by : (a b : Bool) → nat_lt n (elements_at spec st.term u) ≡ b → (if a then (if b then Done else NoPlace) else NotInList) ≡ Done → HasSelection spec height (extended st)
       by true true low e = record { now = counted (n + 1) (count_more (elements_at spec st.term u) n (lt_is n (elements_at spec st.term u) low)); past = h.past; future = h.future }
       by true false low e = absurd (let f = e in cc)
       by false b low e = absurd (let f = e in cc)
 
-  pub shrunk_selects : nat_eq n 1 ≡ false → HasSelection spec (shrunk st)
+  pub shrunk_selects : nat_eq n 1 ≡ false → HasSelection spec height (shrunk st)
   shrunk_selects many =
-      let may = (and_parts (rests spec st.term u) (may_count (elements_at spec st.term u) n) h.now).1 in
+      let may = (and_parts (rests (shown_spec spec st) st.term u) (may_count (elements_at spec st.term u) n) selects).1 in
       record { now = counted (n - 1) (count_less (elements_at spec st.term u) n many may); past = h.past; future = h.future }
 
   -- what is typed
-  pub typed_selects : (bytes : Bytes) → HasSelection spec (typed bytes st)
+  pub typed_selects : (bytes : Bytes) → HasSelection spec height (typed bytes st)
   typed_selects bytes = record { now = h.now; past = h.past; future = h.future }
 
-  pub erased_selects : HasSelection spec (erased st)
+  pub erased_selects : HasSelection spec height (erased st)
   erased_selects = record { now = h.now; past = h.past; future = h.future }
 
-  pub pointed_selects : (k : ℕ) → HasSelection spec (pointed k st)
+  pub pointed_selects : (k : ℕ) → HasSelection spec height (pointed k st)
   pointed_selects k = record { now = h.now; past = h.past; future = h.future }
 
-  pub ended_selects : HasSelection spec (ended st)
+  pub ended_selects : HasSelection spec height (ended st)
   ended_selects = record { now = h.now; past = h.past; future = h.future }
 
 -- a resting place is there, and can be reached
@@ -248,12 +264,13 @@ any_there u (v ∷ us) has = by (contains_either v us u has) (any_there u us)
     by (inr rest) any = or_right (bytes_eq u v) (list_any (bytes_eq u) us) (any rest)
 
 -- so it has a region, also where a text is typed in its place
-pub selected_region : (spec : Spec) (st : State) → IsSelected spec st.term st.spot → (r : Region) × (region_of (marks_seen spec st.term (typed_by st.capture (selected_place st))) (selected_place st) ≡ Some r)
-selected_region spec st now =
+pub selected_region : (spec : Spec) (height : ℕ) (st : State) → IsSelected spec height st.term st.spot → (r : Region) × (region_of (marks_seen spec st.spot.view st.term (typed_by st.capture (selected_place st))) (selected_place st) ≡ Some r)
+selected_region spec height st now =
+    let shown = shown_spec spec st in
     let u = selected_place st in
     let typed = typed_by st.capture u in
-    let rest = selection_rests spec st.term u st.spot.selection.count now in
-    let x = rests_there spec st.term u rest in
-    let has = reached_unparsed spec typed st.term x.0 u x.1 (rests_open spec st.term u rest) (quiet_above st.capture u) in
-    some_there (region_of (marks_seen spec st.term typed) u)
-    (regions_end spec (value_in spec st.term) typed [] st.term 0 u ∙ any_there u (unparsed_places spec typed [] st.term) has)
+    let rest = selection_rests spec st.spot.view st.term u st.spot.selection.count (spot_selects spec height st.term st.spot now) in
+    let x = rests_there shown st.term u rest in
+    let has = reached_unparsed shown typed st.term x.0 u x.1 (rests_open shown st.term u rest) (quiet_above st.capture u) in
+    some_there (region_of (marks_seen spec st.spot.view st.term typed) u)
+    (regions_end shown (value_in spec st.term) typed [] st.term 0 u ∙ any_there u (unparsed_places shown typed [] st.term) has)

@@ -7,7 +7,7 @@ use Rattle.sg_kinds.specs.Plain.{plain}
 use Rattle.sg_kinds.specs.Sound.{IsSmall}
 use Rattle.sg_kinds.specs.declared.spec.Spec.{Spec}
 use Rattle.sg_changes.specs.Captured.{Captured}
-use Rattle.sg_states.specs.States.{State, selected_place}
+use Rattle.sg_states.specs.States.{State, selected_place, shown_spec}
 use Rattle.sg_edits.specs.Edits.{is_editable, phylum_in}
 use Rattle.sg_input.specs.Entered.{Gives, IsFault, entry_at}
 use Rattle.sg_commands.specs.Turns.{count_here}
@@ -34,7 +34,7 @@ pub record CanText (spec : Spec) (s : Session) (text : Bytes) : Type 0 where
   pub one : count_here state ≤ 1
   pub old : Term
   pub selected : sub state.term (selected_place state) ≡ Some old
-  pub editable : is_editable spec old ≡ true
+  pub editable : is_editable (shown_spec spec state) old ≡ true
   pub meaning : HasMeaning spec state old text
 
 -- `enter` may be done: there is a current buffer in which a text is being typed, and it has a meaning where it is typed

@@ -1,5 +1,5 @@
 -- Which commands evaluate something, and what.
-use Rattle.std.specs.Prelude.{◌≡◌, Bool, true, false, not, ◌||◌, List, ◌∷◌, Some, slice_get}
+use Rattle.std.specs.Prelude.{◌≡◌, ℕ, Bool, true, false, not, ◌||◌, List, ◌∷◌, Some, slice_get}
 use Rattle.sg_kinds.specs.Values.{Bytes}
 use Rattle.sg_kinds.specs.Terms.{Term}
 use Rattle.sg_kinds.specs.Places.{Place, put}
@@ -77,12 +77,12 @@ pub record HasReplaced (spec : Spec) (s : Session) (step : Step) : Type 0 where
 
 -- a step has gone along the nearest change that way, and evaluates what the exchange of its subterms does; of marks
 -- nothing
-pub record HasGone (spec : Spec) (d : Direction) (s : Session) (step : Step) : Type 0 where
+pub record HasGone (spec : Spec) (height : ℕ) (d : Direction) (s : Session) (step : Step) : Type 0 where
   pub name : Bytes
   pub old : State
   pub change : Change
   pub others : List Change
   pub before : current_of s ≡ Some (name, old)
   pub nearest : ahead d old ≡ change ∷ others
-  pub after : current_of step.session ≡ Some (name, gone d old)
+  pub after : current_of step.session ≡ Some (name, gone spec height d old)
   pub set : step.set ≡ evaluated_along d spec old.term change

@@ -1,5 +1,5 @@
 //! What a session does, in sentences, each as the contract of a function without code.
-ghost use Rattle.std.specs.Prelude.{◌≡◌, ◌≢◌, ◌≤◌, ℕ, IsTrue, List, [], ◌∷◌, None, Some, length};
+ghost use Rattle.std.specs.Prelude.{◌≡◌, ◌≢◌, ◌<◌, ◌≤◌, ℕ, IsTrue, List, [], ◌∷◌, None, Some, length};
 ghost use Rattle.sg_kinds.specs.Fits.{Fits};
 ghost use Rattle.sg_kinds.specs.Plain.{plain};
 ghost use Rattle.sg_kinds.specs.Sound.{IsSmall, IsSound};
@@ -59,10 +59,10 @@ pub fn replacements_evaluate_what_they_change()
 pub fn ways_evaluate_what_they_change()
     ensures undo { (spec : Spec) (height : ℕ) (r : Readers) (s : Session) (got : List Reply) (step : Step)
         → Comes (ask spec height r s command.Undo) got step → step.message ≡ message.Fine
-        → HasGone spec direction.Back s step }
+        → HasGone spec height direction.Back s step }
     ensures redo { (spec : Spec) (height : ℕ) (r : Readers) (s : Session) (got : List Reply) (step : Step)
         → Comes (ask spec height r s command.Redo) got step → step.message ≡ message.Fine
-        → HasGone spec direction.Forth s step }
+        → HasGone spec height direction.Forth s step }
 {}
 
 /// Where texts are read right, `text` is told as fine only where selection, entry, derivation, no fault and limits
@@ -94,17 +94,20 @@ pub fn typed_texts_are_entered_where_they_may()
 {}
 
 /// `undo` right after a change is done, and header, window and lines are printed as they were before the change, but for
-/// what is said and counted. Right after `enter` they are printed as after `abandon`.
+/// what is said and counted. Right after `enter` they are printed as after `abandon`. Something is selected in each
+/// buffer, as it is in each session.
 pub fn undo_prints_what_was()
     ensures done { (spec : Spec) (height : ℕ) (r : Readers) (s : Session) (got later : List Reply) (step back : Step)
         (c : Command) → IsTrue (changes c) → Comes (ask spec height r s c) got step → step.message ≡ message.Fine
         → Comes (ask spec height r step.session command.Undo) later back → back.message ≡ message.Fine }
     ensures printed { (spec : Spec) (height : ℕ) (r : Readers) (s : Session) (got later : List Reply) (step back : Step)
-        (c : Command) → IsTrue (changes c) → Comes (ask spec height r s c) got step → step.message ≡ message.Fine
-        → Comes (ask spec height r step.session command.Undo) later back → (width : ℕ) (m : Message) (n : ℕ)
+        (c : Command) → HaveSelections spec height s → IsTrue (changes c) → Comes (ask spec height r s c) got step
+        → step.message ≡ message.Fine → Comes (ask spec height r step.session command.Undo) later back
+        → (width : ℕ) (m : Message) (n : ℕ)
         → screen spec width height back.session m n ≡ screen spec width height s m n }
     ensures entered { (spec : Spec) (height : ℕ) (r : Readers) (s : Session) (got later : List Reply) (step back : Step)
-        → Comes (ask spec height r s command.Enter) got step → step.message ≡ message.Fine
+        → HaveSelections spec height s → Comes (ask spec height r s command.Enter) got step
+        → step.message ≡ message.Fine
         → Comes (ask spec height r step.session command.Undo) later back → (other : List Reply) (left : Step)
         → Comes (ask spec height r s command.Abandon) other left → (width : ℕ) (m : Message) (n : ℕ)
         → screen spec width height back.session m n ≡ screen spec width height left.session m n }
@@ -126,13 +129,14 @@ pub fn saved_values_are_loaded()
         → step ≡ opens spec name (plain spec (value_of b.1.term) spec.root) (with_load later) }
 {}
 
-/// In each session something is selected in each buffer, and each command keeps it so: a resting place, or as many
-/// elements of a list from there on as there are, also wherever undo and redo lead. It has a region.
+/// In each session something is selected in each buffer, and each command keeps it so: a resting place in the view, or
+/// as many elements of a list from there on as there are, also wherever undo and redo lead; its first line is in the
+/// window. It has a region.
 pub fn selected_nodes_have_regions()
-    ensures begins { (spec : Spec) → HaveSelections spec start }
+    ensures begins { (spec : Spec) (height : ℕ) → HaveSelections spec height start }
     ensures stays { (spec : Spec) (height : ℕ) (r : Readers) (s : Session) (got : List Reply) (step : Step)
-        (c : Command) → HaveSelections spec s → Comes (ask spec height r s c) got step
-        → HaveSelections spec step.session }
-    ensures region { (spec : Spec) (s : Session) (b : Bytes × State) → HaveSelections spec s → current_of s ≡ Some b
-        → (region : Region) × (region_of (shown_in spec b.1) (selected_place b.1) ≡ Some region) }
+        (c : Command) → 0 < height → HaveSelections spec height s → Comes (ask spec height r s c) got step
+        → HaveSelections spec height step.session }
+    ensures region { (spec : Spec) (height : ℕ) (s : Session) (b : Bytes × State) → HaveSelections spec height s
+        → current_of s ≡ Some b → (region : Region) × (region_of (shown_in spec b.1) (selected_place b.1) ≡ Some region) }
 {}

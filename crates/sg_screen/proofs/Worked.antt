@@ -1,5 +1,5 @@
 -- Worked examples: blocks as they are printed.
-use Rattle.std.specs.Prelude.{◌≡◌, refl, ℕ, List, [], ◌∷◌, ◌++◌, codes}
+use Rattle.std.specs.Prelude.{◌≡◌, refl, ℕ, List, [], ◌∷◌, ◌++◌, codes, Option, Some, None}
 use Rattle.std.specs.List.{slice_split}
 use Rattle.std.specs.Fmt.{digits}
 use Rattle.sg_kinds.specs.Values.{Bytes}
@@ -14,12 +14,12 @@ use Rattle.sg_screen.specs.Block.{Head, block, bare}
 abbrev from_to : (line column last_line last_column : ℕ) → Region
 from_to a b c d = record { first = record { line = a; column = b }; last = record { line = c; column = d } }
 
-abbrev head_with : (name : Bytes) → Region → (phylum : Bytes) → (count top ev : ℕ) → Message → Head
-head_with name region phylum count top ev message =
-    record { name = name; region = region; phylum = phylum; count = count; top = top; ev = ev; message = message }
+abbrev head_with : (name : Bytes) → (view : Option Bytes) → Region → (phylum : Bytes) → (count top ev : ℕ) → Message → Head
+head_with name view region phylum count top ev message =
+    record { name = name; view = view; region = region; phylum = phylum; count = count; top = top; ev = ev; message = message }
 
 abbrev head : (name : Bytes) → Region → (phylum : Bytes) → (top ev : ℕ) → Message → Head
-head name region phylum top ev message = head_with name region phylum 1 top ev message
+head name region phylum top ev message = head_with name None region phylum 1 top ev message
 
 abbrev lines : Bytes → List Bytes
 lines page = slice_split is_newline page
@@ -52,10 +52,16 @@ unfolding digits
 last_newline = refl
 
 -- two elements of a list
-run_block : block (head_with (codes "p") (from_to 1 1 2 13) (codes "stmt") 2 1 0 Fine) (lines (codes "let a = 5\nprint a  -- 5")) 80 24 ≡ printed
+run_block : block (head_with (codes "p") None (from_to 1 1 2 13) (codes "stmt") 2 1 0 Fine) (lines (codes "let a = 5\nprint a  -- 5")) 80 24 ≡ printed
     (codes "= p 1:1-2:13 stmt*2 top 1 ev 0 ok" ∷ codes "|let a = 5" ∷ codes "|print a  -- 5" ∷ [])
 unfolding digits
 run_block = refl
+
+-- a view that is not the ordinary one
+view_block : block (head_with (codes "a") (Some (codes "post")) (from_to 1 1 2 9) (codes "calc") 1 1 0 Fine) (lines (codes "1 2 +\nVALUE = 3")) 80 24 ≡ printed
+    (codes "= a/post 1:1-2:9 calc top 1 ev 0 ok" ∷ codes "|1 2 +" ∷ codes "|VALUE = 3" ∷ [])
+unfolding digits
+view_block = refl
 
 -- a refusal with a number, and one with a reason
 refused_block : block (head (codes "a") (from_to 1 2 1 2) (codes "exp") 1 0 (ParseAt 2)) (lines (codes "(0 + <exp>)\nVALUE = 0")) 80 24 ≡ printed

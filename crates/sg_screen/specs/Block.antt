@@ -1,5 +1,5 @@
 -- What a command prints: a header, and the lines of a page that stand in the window.
-use Rattle.std.specs.Prelude.{ℕ, ◌-◌, nat_eq, if◌then◌else◌, ◌++◌, List, take, drop, flat_map, codes}
+use Rattle.std.specs.Prelude.{ℕ, ◌-◌, nat_eq, if◌then◌else◌, ◌++◌, List, take, drop, flat_map, codes, Option, Some, None, option_map}
 use Rattle.std.specs.Fmt.{decimal}
 use Rattle.sg_kinds.specs.Values.{Bytes}
 use Rattle.sg_unparse.specs.Page.{Position, Region}
@@ -8,10 +8,12 @@ use Rattle.sg_script.specs.declared.message.Message.{Message}
 use Rattle.sg_screen.specs.declared.blocks.Head.{Head as Given}
 use Rattle.sg_script.specs.Message.{message_text}
 
--- what a header tells: the buffer's name, the region of what is selected, its phylum's name and how many elements of a
--- list are selected, or 1; the first line in the window, how many equations were evaluated, and the message
+-- what a header tells: the buffer's name and that of the view in which it is shown, where that is not the ordinary one;
+-- the region of what is selected, its phylum's name and how many elements of a list are selected, or 1; the first line in
+-- the window, how many equations were evaluated, and the message
 pub record Head : Type 0 where
   pub name : Bytes
+  pub view : Option Bytes
   pub region : Region
   pub phylum : Bytes
   pub count : ℕ
@@ -23,6 +25,7 @@ pub record Head : Type 0 where
 abbrev pub head_of : Given → Head
 head_of h = record {
   name = h.name.now;
+  view = option_map (λ v. v.now) h.view;
   region = told h.region;
   phylum = h.phylum.now;
   count = h.count;
@@ -43,10 +46,15 @@ region_text r = position_text r.first ++ codes "-" ++ position_text r.last
 abbrev pub phylum_text : (phylum : Bytes) → (count : ℕ) → Bytes
 phylum_text phylum count = if nat_eq count 1 then phylum else phylum ++ codes "*" ++ decimal count
 
+-- `B`, and in a view `B/VIEW`
+abbrev pub name_text : (name : Bytes) → (view : Option Bytes) → Bytes
+name_text name None = name
+name_text name (Some view) = name ++ codes "/" ++ view
+
 -- `= B L:C-L:C PHYLUM top T ev N MESSAGE`, in three parts
 abbrev pub selected_text : Head → Bytes
 selected_text h =
-    codes "= " ++ h.name ++ codes " " ++ region_text h.region ++ codes " " ++ phylum_text h.phylum h.count
+    codes "= " ++ name_text h.name h.view ++ codes " " ++ region_text h.region ++ codes " " ++ phylum_text h.phylum h.count
 
 abbrev pub counts_text : (top ev : ℕ) → Bytes
 counts_text top ev = codes " top " ++ decimal top ++ codes " ev " ++ decimal ev

@@ -2,7 +2,7 @@
 ghost use Rattle.std.specs.Prelude.{◌≡◌, ◌++◌, ◌-◌, take, IfOk, OnOk};
 ghost use Rattle.sg_unparse.specs.Page.{lines_of};
 ghost use Rattle.sg_unparse.specs.Sheet.{told};
-ghost use Rattle.sg_screen.specs.Block.{head_of, position_text, region_text, phylum_text, selected_text, counts_text, ending, header, shown_line, shown_lines, block, bare};
+ghost use Rattle.sg_screen.specs.Block.{head_of, position_text, region_text, phylum_text, name_text, selected_text, counts_text, ending, header, shown_line, shown_lines, block, bare};
 
 use sg_kinds::decimal::write_number;
 use sg_kinds::memory::NoMemory;
@@ -10,12 +10,13 @@ use sg_script::{Message, write_message};
 use sg_unparse::{Page, Region};
 use std::alloc::Global;
 
-/// What a header tells: the buffer's name, the region of what is selected, the phylum's name of its first node and how
-/// many elements of a list it has, or 1; the page's first line in the window, counted from 1, how many equations were
-/// evaluated, and the message.
+/// What a header tells: the buffer's name and that of the view in which it is shown, None for the ordinary one; the
+/// region of what is selected, the phylum's name of its first node and how many elements of a list it has, or 1; the
+/// page's first line in the window, counted from 1, how many equations were evaluated, and the message.
 #[derive(Clone, Copy)]
 pub struct Head<'a> {
     pub name: &'a [u8],
+    pub view: Option<&'a [u8]>,
     pub region: Region,
     pub phylum: &'a [u8],
     pub count: usize,
@@ -59,12 +60,26 @@ fn write_phylum(
     write_number(alloc, out, count as u64)
 }
 
+// writes the buffer's name, and that of the view
+fn write_name(out: &mut Vec<u8>, head: &Head) -> Result<(), NoMemory>
+    ensures { OnOk result (out.new.items
+        ≡ out.old.items ++ name_text (head_of head.now).name (head_of head.now).view) }
+{
+    out.extend_from_slice(head.name)?;
+    let Some(view) = head.view else {
+        return Ok(());
+    };
+    out.push(b'/')?;
+    out.extend_from_slice(view)?;
+    Ok(())
+}
+
 // writes the buffer's name, and the region and phylum of what is selected
 fn write_selected(alloc: Global, out: &mut Vec<u8>, head: &Head) -> Result<(), NoMemory>
     ensures { OnOk result (out.new.items ≡ out.old.items ++ selected_text (head_of head.now)) }
 {
     out.extend_from_slice(b"= ")?;
-    out.extend_from_slice(head.name)?;
+    write_name(out, head)?;
     out.push(b' ')?;
     write_region(alloc, out, head.region)?;
     out.push(b' ')?;

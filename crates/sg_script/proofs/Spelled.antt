@@ -9,12 +9,14 @@ use Rattle.std.proofs.Math.Seq.{take-append_seam, drop-append_seam, take-length,
 use Rattle.std.proofs.lemmas.Bool.{and_parts}
 use Rattle.std.proofs.lemmas.Fmt.{decimal-digits_of}
 use Rattle.std.proofs.lemmas.Int.Digits.{all_below_base_digits_of, first_digits_of, length-digits_of-le, number_digits_of}
+use Rattle.sg_text.specs.Bytes as text
 use Rattle.sg_text.specs.Bytes.{newline, carriage_return, space, double_quote}
 use Rattle.sg_text.specs.Strings.{unescaped}
+use Rattle.sg_text.specs.Forms as token
 use Rattle.sg_text.specs.Forms.{value_of}
 use Rattle.sg_kinds.proofs.Elementary.{and_true, eq_is, eq_false, le_is, le_true, lt_is, not_true}
-use Rattle.sg_script.specs.Words.{is_space, word_len, spaces_at, word_at, behind_spaces, next_word, closing, next_string, last_of}
-use Rattle.sg_script.specs.Forms.{is_name_byte, is_name, name_of, is_graphic, is_file_name, file_name_of, is_count, count_of, has_length}
+use Rattle.sg_script.specs.Words.{is_space, word_len, spaces_at, word_at, behind_spaces, next_word, closing, next_string, last_of, is_end}
+use Rattle.sg_script.specs.Forms.{is_name_byte, is_name, name_of, is_view_name, view_name_of, is_graphic, is_file_name, file_name_of, is_count, count_of, has_length}
 use Rattle.sg_script.specs.Spelled.{escaped, string_of, is_position, is_text}
 
 -- what holds of each byte, where something stronger does
@@ -90,6 +92,19 @@ pub first_word : (w rest : List ℕ) → list_all no_space w ≡ true → 0 < le
 first_word w rest h l =
     ap (option_map word_at) (behind_one (w ++ space ∷ rest) (no_spaces_before w (space ∷ rest) h l)) ∙ ap Some (word_stops w rest h)
 
+-- a name as in a specification holds letters, digits and _ alone, and no space stands in front of it
+name_bytes : (name : List ℕ) → token.is_name name ≡ true → list_all text.is_name_byte name ≡ true
+name_bytes [] h = refl
+name_bytes (b ∷ bs) h =
+    let p = and_parts (text.is_letter b) (list_all text.is_name_byte bs) h in
+    and_true (text.is_name_byte b) (list_all text.is_name_byte bs) (ap (λ t. t || is_ascii_digit b) p.0) p.1
+
+name_speaks : (name : List ℕ) → token.is_name name ≡ true → is_end name ≡ false
+name_speaks [] h = absurd cc
+name_speaks (b ∷ bs) h =
+    let p = and_parts (text.is_letter b) (list_all text.is_name_byte bs) h in
+    ap (λ t. t && is_end bs) (not_true (is_space b) (apart text.is_letter space refl b p.0))
+
 -- the name of a buffer
 module _ (name : List ℕ) (h : is_name name ≡ true) where
   parts : (has_length name ≡ true) × (list_all is_name_byte name ≡ true)
@@ -109,6 +124,26 @@ module _ (name : List ℕ) (h : is_name name ≡ true) where
 
   pub name_last : last_of (next_word (space ∷ name)) ≡ Some name
   name_last = last_word name name_word
+
+-- the name of a view
+module _ (view : List ℕ) (h : is_view_name view ≡ true) where
+  is_token : token.is_name view ≡ true
+  is_token = (and_parts (has_length view) (token.is_name view) h).1
+
+  pub view_bytes : list_all text.is_name_byte view ≡ true
+  view_bytes = name_bytes view is_token
+
+  pub view_plain : list_all is_plain view ≡ true
+  view_plain = plain_in text.is_name_byte refl refl view view_bytes
+
+  pub view_is : view_name_of view ≡ Some view
+  view_is = ap (λ t. if t then Some view else None) h
+
+  pub view_last : last_of (next_word (space ∷ view)) ≡ Some view
+  view_last = last_word view (weaker text.is_name_byte no_space (apart text.is_name_byte space refl) view view_bytes)
+
+  pub view_there : is_end (space ∷ view) ≡ false
+  view_there = name_speaks view is_token
 
 -- the name of a file
 module _ (file : List ℕ) (h : is_file_name file ≡ true) where

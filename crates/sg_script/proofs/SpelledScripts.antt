@@ -12,17 +12,25 @@ use Rattle.sg_text.specs.Bytes.{newline, space}
 use Rattle.sg_text.specs.Strings.{unescaped}
 use Rattle.sg_kinds.proofs.Elementary.{and_true, eq_false, le_is, not_true}
 use Rattle.sg_script.specs.declared.command.Command.{Command}
-use Rattle.sg_script.specs.declared.command.Command.TheVariants.{New, Load, Switch, Show, Next, Prev, Up, First, Sibling, Goto, Extend, Shrink, Find, Do, ReplaceAll, Delete, Remove, InsertBefore, InsertAfter, Cut as CutOut, Copy, Paste, Text, TypeIn, Erase, Enter, Abandon, Alternate, Elide, Undo, Redo, Save, SaveText}
+use Rattle.sg_script.specs.declared.command.Command.TheVariants.{New, Load, Switch, Show, Next, Prev, Up, First, Sibling, Goto, Extend, Shrink, Find, Do, ReplaceAll, Delete, Remove, InsertBefore, InsertAfter, Cut as CutOut, Copy, Paste, Text, TypeIn, Erase, Enter, Abandon, Alternate, Elide, Undo, Redo, View, Save, SaveText}
 use Rattle.sg_script.specs.declared.lines.Said.TheVariants as said
 use Rattle.sg_script.specs.declared.fault.ScriptFault.TheVariants.{Long, Line, Many}
-use Rattle.sg_script.specs.Forms.{is_name, name_of, is_file_name, file_name_of, count_of}
-use Rattle.sg_script.specs.Commands.{one_name, one_file, one_count, one_string, loaded, placed, command_of, rows, edit_rows, text_rows, is_word}
+use Rattle.sg_script.specs.Forms.{is_name, name_of, is_view_name, view_name_of, is_file_name, file_name_of, count_of}
+use Rattle.sg_script.specs.Commands.{one_name, one_view, viewed, one_file, one_count, one_string, loaded, placed, command_of, rows, edit_rows, text_rows, is_word}
 use Rattle.sg_script.specs.Script.{says_nothing, meaning_of, commands_said, commands_in, is_unknown, bad_line, fault_in, verdict, script_of}
 use Rattle.sg_script.specs.Spelled.{string_of, line_of, is_position, is_text, has_forms, text_of, is_script}
-use Rattle.sg_script.proofs.Spelled.{is_plain, first_word, name_word, name_plain, name_there, name_is, name_last, file_plain, file_is, file_last, place_word, place_plain, place_there, place_is, place_last, unescaped_escaped, string_last, plain_append, string_plain}
+use Rattle.sg_script.proofs.Spelled.{is_plain, first_word, name_word, name_plain, name_there, name_is, name_last, view_plain, view_is, view_last, view_there, file_plain, file_is, file_last, place_word, place_plain, place_there, place_is, place_last, unescaped_escaped, string_last, plain_append, string_plain}
 
 one_name_is : (b : List ℕ) → is_name b ≡ true → one_name (space ∷ b) ≡ Some b
 one_name_is b h = ap (option_and_then name_of) (name_last b h) ∙ name_is b h
+
+one_view_is : (v : List ℕ) → is_view_name v ≡ true → one_view (space ∷ v) ≡ Some v
+one_view_is v h = ap (option_and_then view_name_of) (view_last v h) ∙ view_is v h
+
+viewed_is : (v : List ℕ) → is_view_name v ≡ true → viewed (space ∷ v) ≡ Some (View (Some v))
+viewed_is v h =
+    ap (λ t. if t then Some (View None) else option_map (λ name. View (Some name)) (one_view (space ∷ v))) (view_there v h)
+    ∙ ap (option_map (λ name. View (Some name))) (one_view_is v h)
 
 one_file_is : (f : List ℕ) → is_file_name f ≡ true → one_file (space ∷ f) ≡ Some f
 one_file_is f h = ap (option_and_then file_name_of) (file_last f h) ∙ file_is f h
@@ -79,6 +87,8 @@ spelled Alternate h = refl
 spelled Elide h = refl
 spelled Undo h = refl
 spelled Redo h = refl
+spelled (View None) h = refl
+spelled (View (Some v)) h = viewed_is v h
 spelled (Save f) h = ap (option_map Save) (one_file_is f h)
 spelled (SaveText f) h = ap (option_map SaveText) (one_file_is f h)
 
@@ -96,6 +106,7 @@ line_plain (Do t) h = string_plain t h
 line_plain (ReplaceAll t) h = string_plain t h
 line_plain (Text t) h = string_plain t h
 line_plain (TypeIn t) h = string_plain t h
+line_plain (View (Some v)) h = view_plain v h
 line_plain (Save f) h = file_plain f h
 line_plain (SaveText f) h = file_plain f h
 line_plain _ h = refl
@@ -110,6 +121,7 @@ line_speaks (Do t) = refl
 line_speaks (ReplaceAll t) = refl
 line_speaks (Text t) = refl
 line_speaks (TypeIn t) = refl
+line_speaks (View (Some v)) = refl
 line_speaks (Save f) = refl
 line_speaks (SaveText f) = refl
 line_speaks _ = refl

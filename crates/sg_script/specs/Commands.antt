@@ -5,11 +5,14 @@ use Rattle.sg_text.specs.Strings.{unescaped}
 use Rattle.sg_script.specs.declared.command.Command.{Command}
 use Rattle.sg_script.specs.declared.command.Command.TheVariants as command
 use Rattle.sg_script.specs.Words.{word_at, next_word, is_end, last_word, last_string}
-use Rattle.sg_script.specs.Forms.{name_of, file_name_of, count_of}
+use Rattle.sg_script.specs.Forms.{name_of, view_name_of, file_name_of, count_of}
 
 -- the one word or the one string that stands behind the command's own
 abbrev pub one_name : List ℕ → Option (List ℕ)
 one_name rest = option_and_then name_of (last_word rest)
+
+abbrev pub one_view : List ℕ → Option (List ℕ)
+one_view rest = option_and_then view_name_of (last_word rest)
 
 abbrev pub one_file : List ℕ → Option (List ℕ)
 one_file rest = option_and_then file_name_of (last_word rest)
@@ -45,11 +48,16 @@ placed rest =
     option_and_then (λ c. option_and_then (λ line. option_map (command.Goto line) (one_count c.1)) (count_of c.0))
     (next_word rest)
 
+-- nothing more, or the name of a view
+abbrev pub viewed : List ℕ → Option Command
+viewed rest =
+    if is_end rest then Some (command.View None) else option_map (λ name. command.View (Some name)) (one_view rest)
+
 -- a row of the table of commands: the word of one, and how the rest of its line is read
 abbrev pub Row : Type 0
 Row = List ℕ × (List ℕ → Option Command)
 
--- the table: texts, the way back and files; before them what an edit is; before these buffers and moves
+-- the table: texts, the way back, views and files; before them what an edit is; before these buffers and moves
 unfoldable pub text_rows : List Row
 text_rows =
     (codes "text", quoted command.Text)
@@ -61,6 +69,7 @@ text_rows =
     ∷ (codes "elide", alone command.Elide)
     ∷ (codes "undo", alone command.Undo)
     ∷ (codes "redo", alone command.Redo)
+    ∷ (codes "view", viewed)
     ∷ (codes "save", filed command.Save)
     ∷ (codes "save-text", filed command.SaveText)
     ∷ []

@@ -1,8 +1,9 @@
--- The forms of words: names of buffers, names of files, lines and columns.
+-- The forms of words: names of buffers, of views and of files, lines and columns.
 use Rattle.std.specs.Prelude.{ℕ, Bool, false, not, ◌&&◌, ◌||◌, ◌==◌, nat_le, if◌then◌else◌, List, [], ◌∷◌, length, Option, Some, None}
 use Rattle.std.specs.List.{list_all}
 use Rattle.std.specs.Char.{is_ascii_digit}
 use Rattle.sg_text.specs.Bytes as text
+use Rattle.sg_text.specs.Forms as token
 use Rattle.sg_text.specs.Forms.{value_of}
 
 -- a name has 1 to 64 bytes
@@ -18,6 +19,13 @@ is_name bytes = has_length bytes && list_all is_name_byte bytes
 
 abbrev pub name_of : List ℕ → Option (List ℕ)
 name_of bytes = if is_name bytes then Some bytes else None
+
+-- the name of a view: a name as in a specification, of 1 to 64 bytes
+abbrev pub is_view_name : List ℕ → Bool
+is_view_name bytes = has_length bytes && token.is_name bytes
+
+abbrev pub view_name_of : List ℕ → Option (List ℕ)
+view_name_of bytes = if is_view_name bytes then Some bytes else None
 
 -- the name of a file: bytes from 33 to 126
 abbrev pub is_graphic : ℕ → Bool

@@ -1,11 +1,11 @@
 -- How a command is spelled, and a script of such lines.
-use Rattle.std.specs.Prelude.{ℕ, Bool, true, not, ◌&&◌, ◌||◌, ◌==◌, nat_le, nat_lt, if◌then◌else◌, List, [], ◌∷◌, ◌++◌, length, map, codes}
+use Rattle.std.specs.Prelude.{ℕ, Bool, true, not, ◌&&◌, ◌||◌, ◌==◌, nat_le, nat_lt, if◌then◌else◌, List, [], ◌∷◌, ◌++◌, length, Some, None, map, codes}
 use Rattle.std.specs.List.{list_all, join_with_byte}
 use Rattle.std.specs.Fmt.{decimal}
 use Rattle.sg_text.specs.Bytes.{newline, carriage_return, space, double_quote, backslash, letter_n}
 use Rattle.sg_script.specs.declared.command.Command.{Command}
-use Rattle.sg_script.specs.declared.command.Command.TheVariants.{New, Load, Switch, Show, Next, Prev, Up, First, Sibling, Goto, Extend, Shrink, Find, Do, ReplaceAll, Delete, Remove, InsertBefore, InsertAfter, Cut as CutOut, Copy, Paste, Text, TypeIn, Erase, Enter, Abandon, Alternate, Elide, Undo, Redo, Save, SaveText}
-use Rattle.sg_script.specs.Forms.{is_name, is_file_name}
+use Rattle.sg_script.specs.declared.command.Command.TheVariants.{New, Load, Switch, Show, Next, Prev, Up, First, Sibling, Goto, Extend, Shrink, Find, Do, ReplaceAll, Delete, Remove, InsertBefore, InsertAfter, Cut as CutOut, Copy, Paste, Text, TypeIn, Erase, Enter, Abandon, Alternate, Elide, Undo, Redo, View, Save, SaveText}
+use Rattle.sg_script.specs.Forms.{is_name, is_view_name, is_file_name}
 
 -- a text between quotes, with the escapes
 abbrev pub escaped : List ℕ → List ℕ
@@ -50,6 +50,8 @@ line_of Alternate = codes "alternate"
 line_of Elide = codes "elide"
 line_of Undo = codes "undo"
 line_of Redo = codes "redo"
+line_of (View None) = codes "view"
+line_of (View (Some view)) = codes "view " ++ view
 line_of (Save file) = codes "save " ++ file
 line_of (SaveText file) = codes "save-text " ++ file
 
@@ -71,6 +73,7 @@ has_forms (Do text) = is_text text
 has_forms (ReplaceAll text) = is_text text
 has_forms (Text text) = is_text text
 has_forms (TypeIn text) = is_text text
+has_forms (View (Some view)) = is_view_name view
 has_forms (Save file) = is_file_name file
 has_forms (SaveText file) = is_file_name file
 has_forms _ = true

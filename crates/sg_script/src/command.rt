@@ -46,8 +46,8 @@ impl FileName {
     }
 }
 
-/// A command of a script, with its words: the name of a buffer, the name of a file, a line and a column from 1, or what
-/// a string stands for.
+/// A command of a script, with its words: the name of a buffer, the name of a file, a line and a column from 1, what a
+/// string stands for, or the name of a view, where that is not the ordinary one.
 #[derive(Drop)]
 pub enum Command {
     New(Text),
@@ -81,6 +81,7 @@ pub enum Command {
     Elide,
     Undo,
     Redo,
+    View(Option<Text>),
     Save(FileName),
     SaveText(FileName),
 }

@@ -3,7 +3,9 @@ ghost use Rattle.std.specs.Prelude.{◌≡◌, ◌<◌, IfOk, IsTrue};
 ghost use Rattle.std.specs.Char.{is_ascii_digit};
 ghost use Rattle.std.specs.List.{list_all};
 ghost use Rattle.sg_text.specs.Forms.{value_of};
-ghost use Rattle.sg_script.specs.Forms.{has_length, is_name_byte, is_name, name_of, is_graphic, is_file_name, is_count, count_of};
+ghost use Rattle.sg_text.specs.Bytes as text;
+ghost use Rattle.sg_text.specs.Forms as token;
+ghost use Rattle.sg_script.specs.Forms.{has_length, is_name_byte, is_name, name_of, is_view_name, view_name_of, is_graphic, is_file_name, is_count, count_of};
 
 use sg_kinds::memory::NoMemory;
 use sg_kinds::text::Text;
@@ -42,6 +44,47 @@ pub fn name_of(alloc: Global, bytes: &[u8]) -> Result<Option<Text>, NoMemory>
     ensures { IfOk result (λ o. o ≡ name_of bytes.now) }
 {
     if !is_name(bytes) {
+        return Ok(None);
+    }
+    Ok(Some(Text::from_slice(alloc, bytes)?))
+}
+
+// whether it may begin the name of a view
+fn is_letter(b: u8) -> bool
+    ensures { result ≡ text.is_letter b }
+{
+    b.is_ascii_alphabetic() || b == b'_'
+}
+
+// whether all may stand in the name of a view
+fn are_view_bytes(bytes: &[u8]) -> bool
+    ensures { result ≡ list_all text.is_name_byte bytes.now }
+{
+    bytes.iter().all(|b| is_letter(*b) || b.is_ascii_digit())
+}
+
+// whether it is a letter or `_`, then letters, digits and `_`
+fn is_plain_name(bytes: &[u8]) -> bool
+    ensures { result ≡ token.is_name bytes.now }
+{
+    match bytes {
+        [] => false,
+        [first, others @ ..] => is_letter(*first) && are_view_bytes(others),
+    }
+}
+
+// whether it is the name of a view
+fn is_view_name(bytes: &[u8]) -> bool
+    ensures { result ≡ is_view_name bytes.now }
+{
+    has_length(bytes) && is_plain_name(bytes)
+}
+
+/// The name of a view.
+pub fn view_name_of(alloc: Global, bytes: &[u8]) -> Result<Option<Text>, NoMemory>
+    ensures { IfOk result (λ o. o ≡ view_name_of bytes.now) }
+{
+    if !is_view_name(bytes) {
         return Ok(None);
     }
     Ok(Some(Text::from_slice(alloc, bytes)?))

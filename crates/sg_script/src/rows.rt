@@ -1,10 +1,10 @@
 // The command of a line, by the table of commands.
 ghost use Rattle.std.specs.Prelude.{◌≡◌, IfOk};
 ghost use Rattle.sg_script.specs.declared.command.Command.TheVariants as spec;
-ghost use Rattle.sg_script.specs.Commands.{one_name, one_file, one_string, alone, named, filed, quoted, loaded, placed, is_word, text_rows, edit_rows, rows, read_by, command_of};
+ghost use Rattle.sg_script.specs.Commands.{one_name, one_file, one_string, alone, named, filed, quoted, loaded, placed, one_view, viewed, is_word, text_rows, edit_rows, rows, read_by, command_of};
 
 use crate::command::{Command, FileName};
-use crate::forms::{count_of, name_of};
+use crate::forms::{count_of, name_of, view_name_of};
 use crate::words::{Cut, is_end, last_string, last_word, next_word, word_at};
 use sg_kinds::memory::NoMemory;
 use sg_kinds::text::Text;
@@ -17,6 +17,16 @@ fn one_name(alloc: Global, rest: &[u8]) -> Result<Option<Text>, NoMemory>
 {
     match last_word(rest) {
         Some(word) => name_of(alloc, word),
+        None => Ok(None),
+    }
+}
+
+// the name of a view, and nothing else
+fn one_view(alloc: Global, rest: &[u8]) -> Result<Option<Text>, NoMemory>
+    ensures { IfOk result (λ o. o ≡ one_view rest.now) }
+{
+    match last_word(rest) {
+        Some(word) => view_name_of(alloc, word),
         None => Ok(None),
     }
 }
@@ -127,6 +137,16 @@ fn save_text_of(alloc: Global, rest: &[u8]) -> Result<Option<Command>, NoMemory>
     Ok(one_file(alloc, rest)?.map(|file| Command::SaveText(file)))
 }
 
+// nothing more, or the name of a view
+fn viewed(alloc: Global, rest: &[u8]) -> Result<Option<Command>, NoMemory>
+    ensures { IfOk result (λ o. o ≡ viewed rest.now) }
+{
+    if is_end(rest) {
+        return Ok(Some(Command::View(None)));
+    }
+    Ok(one_view(alloc, rest)?.map(|name| Command::View(Some(name))))
+}
+
 // a command that is its word alone
 fn alone(command: Command, rest: &[u8]) -> Option<Command>
     ensures { result ≡ alone command rest.now }
@@ -142,7 +162,7 @@ fn is_word(word: &[u8], name: &[u8]) -> bool
     word == name
 }
 
-// the command of a word and of the rest of its line: texts, the way back and files
+// the command of a word and of the rest of its line: texts, the way back, views and files
 #[tactic(auto, unfolding(crate::specs::Commands::text_rows))]
 fn text_command(alloc: Global, word: &[u8], rest: &[u8]) -> Result<Option<Command>, NoMemory>
     ensures { IfOk result (λ o. o ≡ read_by text_rows word.now rest.now) }
@@ -157,6 +177,7 @@ fn text_command(alloc: Global, word: &[u8], rest: &[u8]) -> Result<Option<Comman
         _ if is_word(word, b"elide") => Ok(alone(Command::Elide, rest)),
         _ if is_word(word, b"undo") => Ok(alone(Command::Undo, rest)),
         _ if is_word(word, b"redo") => Ok(alone(Command::Redo, rest)),
+        _ if is_word(word, b"view") => viewed(alloc, rest),
         _ if is_word(word, b"save") => save_of(alloc, rest),
         _ if is_word(word, b"save-text") => save_text_of(alloc, rest),
         _ => Ok(None),

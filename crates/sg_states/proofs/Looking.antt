@@ -10,11 +10,12 @@ use Rattle.sg_kinds.specs.Values.{Bytes}
 use Rattle.sg_kinds.specs.Terms.{Term}
 use Rattle.sg_kinds.specs.Places.{Place, place_of, sub}
 use Rattle.sg_kinds.specs.FromScratch.{value_in}
+use Rattle.sg_kinds.specs.InView.{in_view}
 use Rattle.sg_kinds.specs.declared.spec.Spec.{Spec}
 use Rattle.sg_kinds.proofs.Elementary.{bytes_is, bytes_itself, eq_is, eq_itself}
 use Rattle.sg_forest.specs.declared.node_id.NodeId.{NodeId}
 use Rattle.sg_forest.specs.Trees.{Climbs, IsRoot}
-use Rattle.sg_groves.specs.Grove.{Grove, nodes, IsGrove}
+use Rattle.sg_groves.specs.Grove.{Grove, nodes, spec_shown, IsGrove}
 use Rattle.sg_groves.specs.Holds.{Holds, IsPlaced}
 use Rattle.sg_groves.proofs.Held.{held_fits, node_held, part_held}
 use Rattle.sg_groves.proofs.Ways.{one_node, one_way}
@@ -33,8 +34,8 @@ use Rattle.sg_unparse.specs.Owned.{place_of_mark}
 use Rattle.sg_unparse.specs.Sheet.{Sheet, region_on}
 use Rattle.sg_unparse.specs.Written.{sheet_of}
 use Rattle.sg_unparse.proofs.Placed.{climbs_along}
-use Rattle.sg_states.specs.Selections.{elements_at, is_selection, settled_count, settled_selection, path_to, place_in}
-use Rattle.sg_states.specs.Seen.{first_line, marks_seen, nothing_typed, typed_at, seen}
+use Rattle.sg_states.specs.Selections.{elements_at, is_selection, settled_count, path_to, place_in}
+use Rattle.sg_states.specs.Seen.{first_line, marks_seen, nothing_typed, typed_at, settled_spot}
 use Rattle.sg_states.specs.Beginnings.{Begins}
 use Rattle.sg_states.specs.declared.looks.Found.{Found}
 use Rattle.sg_states.specs.Paged.{IsWhole, IsFound, IsLook, page_seen}
@@ -42,26 +43,27 @@ use Rattle.sg_states.proofs.Righted.{stored_marks}
 use Rattle.sg_states.proofs.Selecting.{path_there, path_back}
 use Rattle.sg_states.proofs.Sheeted.{IsOf, MarkOf, Tells, marks_there, region_told}
 
-abbrev spot : List ℕ → ℕ → ℕ → Spot
-spot path count top = record { selection = record { path = path; count = count }; top = top }
+abbrev spot : List ℕ → ℕ → ℕ → ℕ → Spot
+spot path count top view = record { selection = record { path = path; count = count }; top = top; view = view }
 
 -- a run of elements by the numbers of the code
 run_is : (count e most n : ℕ) → 1 < count → count ≤ most → n ≡ min e most → nat_le count n ≡ (nat_eq count 1 || (nat_lt 1 count && not (nat_lt e count)))
 run_is count e most n some few is = grind (arith, nat_tests)
 
-pub run_told : (spec : Spec) (t : Term) (u : Place) (count n most : ℕ) → rests spec t u ≡ true → 1 < count → count ≤ most → n ≡ min (elements_at spec t u) most → nat_le count n ≡ is_selection spec t u count
-run_told spec t u count n most rest some few is =
+pub run_told : (spec : Spec) (v : ℕ) (t : Term) (u : Place) (count n most : ℕ) → rests (in_view spec v) t u ≡ true → 1 < count → count ≤ most → n ≡ min (elements_at spec t u) most
+    → nat_le count n ≡ is_selection spec v t u count
+run_told spec v t u count n most rest some few is =
     run_is count (elements_at spec t u) most n some few is
     ∙ sym (ap (λ b. b && (nat_eq count 1 || (nat_lt 1 count && not (nat_lt (elements_at spec t u) count)))) rest)
 
 -- the count of a settled selection
-pub count_told : (spec : Spec) (t : Term) (path : List ℕ) (count r : ℕ) (v : Place) (a b : Bool) → IsTrue a ↔ (v ≡ place_of path) → b ≡ is_selection spec t v count → r ≡ cond (a && b) count 1
-    → r ≡ settled_count spec t (place_of path) v count
-count_told spec t path count r v a b leads selected is = is ∙ ap (λ z. cond (a && z) count 1) selected ∙ ap (λ z. cond (z && is_selection spec t v count) count 1) (by a leads)
+pub count_told : (spec : Spec) (v : ℕ) (t : Term) (path : List ℕ) (count r : ℕ) (u : Place) (a b : Bool) → IsTrue a ↔ (u ≡ place_of path) → b ≡ is_selection spec v t u count → r ≡ cond (a && b) count 1
+    → r ≡ settled_count spec v t (place_of path) u count
+count_told spec v t path count r u a b leads selected is = is ∙ ap (λ z. cond (a && z) count 1) selected ∙ ap (λ z. cond (z && is_selection spec v t u count) count 1) (by a leads)
   where
-    by : (a : Bool) → IsTrue a ↔ (v ≡ place_of path) → a ≡ bytes_eq v (place_of path)
+    by : (a : Bool) → IsTrue a ↔ (u ≡ place_of path) → a ≡ bytes_eq u (place_of path)
     by true h = sym (ap (λ z. bytes_eq z (place_of path)) (h.0 refl) ∙ bytes_itself (place_of path))
-    by false h = sym (differ v (place_of path) (λ e. false≢true (h.1 e)))
+    by false h = sym (differ u (place_of path) (λ e. false≢true (h.1 e)))
 
 -- no run is settled to none, and one node to one
 none_settled : (n : ℕ) (a b : Bool) → n ≡ cond (a && (b && false)) 0 n
@@ -73,10 +75,10 @@ one_settled : (n : ℕ) (a : Bool) → n ≡ cond a n n
 one_settled n true = refl
 one_settled n false = refl
 
-pub few_settled : (spec : Spec) (t : Term) (u v : Place) (n : ℕ) → n ≤ 1 → 1 ≡ settled_count spec t u v n
-few_settled spec t u v zero few = none_settled 1 (bytes_eq v u) (rests spec t v)
-few_settled spec t u v (suc zero) few = one_settled 1 (bytes_eq v u && is_selection spec t v 1)
-few_settled spec t u v (suc (suc n)) few = absurd (omega (arith, few))
+pub few_settled : (spec : Spec) (v : ℕ) (t : Term) (u w : Place) (n : ℕ) → n ≤ 1 → 1 ≡ settled_count spec v t u w n
+few_settled spec v t u w zero few = none_settled 1 (bytes_eq w u) (rests (in_view spec v) t w)
+few_settled spec v t u w (suc zero) few = one_settled 1 (bytes_eq w u && is_selection spec v t w 1)
+few_settled spec v t u w (suc (suc n)) few = absurd (omega (arith, few))
 
 module _ (g : Grove) (is : IsGrove g) (root : NodeId) (t : Term) where
   -- a node of the tree is told by its place
@@ -103,30 +105,30 @@ module _ (g : Grove) (is : IsGrove g) (root : NodeId) (t : Term) where
     pub placed_at : (u : Place) (n : NodeId) → Climbs (nodes g) u n root → IsPlaced g root t u n
     placed_at u n way = record { top = whole.top; holds = whole.holds; way = way }
 
-    marks_told : (typed others : Place → Option Bytes) → ((u : Place) (x : Term) → sub t u ≡ Some x → typed u ≡ others u) → marks_of g.spec (stored g root) typed t ≡ marks_seen g.spec t others
+    marks_told : (typed others : Place → Option Bytes) → ((u : Place) (x : Term) → sub t u ≡ Some x → typed u ≡ others u) → marks_of (spec_shown g) (stored g root) typed t ≡ marks_seen g.spec g.view t others
     marks_told typed others alike =
         stored_marks g is root t whole.top whole.holds whole.right whole.top.node.label.phylum (held_fits g is root whole.top.node t whole.top.found whole.holds) whole.free typed others alike
 
-    pub plain_page : (text : Bytes) → sheet_of (node_along g root) (marks_of g.spec (stored g root) (typed_in g root None text) t) ≡ page_seen g root t nothing_typed
+    pub plain_page : (text : Bytes) → sheet_of (node_along g root) (marks_of (spec_shown g) (stored g root) (typed_in g root None text) t) ≡ page_seen g root t nothing_typed
     unfolding page_seen
     plain_page text = ap (sheet_of (node_along g root)) (marks_told (typed_in g root None text) nothing_typed (λ u x at. refl))
 
     pub typed_page : (u : Place) (n : NodeId) (text : Bytes) → Climbs (nodes g) u n root
-        → sheet_of (node_along g root) (marks_of g.spec (stored g root) (typed_in g root (Some n) text) t) ≡ page_seen g root t (typed_at u text)
+        → sheet_of (node_along g root) (marks_of (spec_shown g) (stored g root) (typed_in g root (Some n) text) t) ≡ page_seen g root t (typed_at u text)
     unfolding page_seen
     typed_page u n text way = ap (sheet_of (node_along g root)) (marks_told (typed_in g root (Some n) text) (typed_at u text)
         (λ v x at. ap (λ b. if b then Some text else None) (tells u n (placed_at u n way) v (x, at))))
 
     pub line_seen : (u : Place) (n : NodeId) (p : Sheet) → Climbs (nodes g) u n root → p ≡ page_seen g root t nothing_typed
-        → option_map_or (λ r. r.first.line) (region_on p n) 1 ≡ first_line g.spec t u
+        → option_map_or (λ r. r.first.line) (region_on p n) 1 ≡ first_line g.spec g.view t u
     unfolding page_seen first_line
     line_seen u n p way page =
         ap (λ (z : Sheet). option_map_or (λ r. r.first.line) (region_on z n) 1) page
         ∙ ap (λ o. option_map_or (λ r. r.first.line) o 1)
-        (region_told (node_along g root) n u (marks_seen g.spec t nothing_typed) (all_tell u n (placed_at u n way) (marks_seen g.spec t nothing_typed) (marks_there g.spec (value_in g.spec t) nothing_typed t)))
+        (region_told (node_along g root) n u (marks_seen g.spec g.view t nothing_typed) (all_tell u n (placed_at u n way) (marks_seen g.spec g.view t nothing_typed) (marks_there (spec_shown g) (value_in g.spec t) nothing_typed t)))
 
     pub top_seen : (height line top r : ℕ) (u : Place) (n : NodeId) (p : Sheet) → Climbs (nodes g) u n root → p ≡ page_seen g root t nothing_typed
-        → line ≡ option_map_or (λ r. r.first.line) (region_on p n) 1 → r ≡ topped height line top → r ≡ topped height (first_line g.spec t u) top
+        → line ≡ option_map_or (λ r. r.first.line) (region_on p n) 1 → r ≡ topped height line top → r ≡ topped height (first_line g.spec g.view t u) top
     top_seen height line top r u n p way page told is = is ∙ ap (λ l. topped height l top) (told ∙ line_seen u n p way page)
 
   -- elements
@@ -171,24 +173,25 @@ module _ (g : Grove) (is : IsGrove g) (root : NodeId) (t : Term) where
   path_climbed n u (Err e) h placed = tt
   path_climbed n u (Ok p) h placed = h root t u placed
 
-  pub looked : (s : Selection) (height top first : ℕ) (path kept : List ℕ) (count : ℕ) (m : NodeId) (f : Found) → kept ≡ path → IsWhole g root t → Climbs (nodes g) (settled g.spec t (place_in s)) m root
+  pub looked : (s : Selection) (height top first : ℕ) (path kept : List ℕ) (count view : ℕ) (m : NodeId) (f : Found) → kept ≡ path → view ≡ g.view → IsWhole g root t → Climbs (nodes g) (settled (spec_shown g) t (place_in s)) m root
       → ((u : Place) → IsPlaced g root t u m → place_of path ≡ u)
-      → ((v : Place) → IsPlaced g root t v m → rests g.spec t v ≡ true → count ≡ settled_count g.spec t (place_in s) v s.count)
+      → ((v : Place) → IsPlaced g root t v m → rests (spec_shown g) t v ≡ true → count ≡ settled_count g.spec g.view t (place_in s) v s.count)
       → ((u : Place) → Climbs (nodes g) u m root → IsFound g root t u f) → first ≡ topped height f.line top
-      → IsLook g root t (seen g.spec height t (settled_selection g.spec t s) top) (record { selected = m; spot = record { selection = record { path = path; count = count }; top = first }; way = kept; page = f.page; begins = f.begins })
-  looked s height top first path kept count m f same whole way named counted found topped_at =
-      let v = settled g.spec t (place_in s) in
+      → IsLook g root t (settled_spot g.spec height g.view t s top) (record { selected = m; spot = spot path count first view; way = kept; page = f.page; begins = f.begins })
+  looked s height top first path kept count view m f same shown whole way named counted found topped_at =
+      let v = settled (spec_shown g) t (place_in s) in
       let back = sym (path_there v) in
       let path_is : path ≡ path_to v = sym (path_back path) ∙ ap path_to (named v (placed_at whole v m way)) in
-      let count_is = counted v (placed_at whole v m way) (settled_rests g.spec t (place_in s)) in
+      let count_is = counted v (placed_at whole v m way) (settled_rests (spec_shown g) t (place_in s)) in
       let is_found = found v way in
-      let top_is = topped_at ∙ ap (λ l. topped height l top) is_found.line ∙ ap (λ z. topped height (first_line g.spec t z) top) back in
+      let top_is = topped_at ∙ ap (λ l. topped height l top) is_found.line ∙ ap (λ z. topped height (first_line g.spec g.view t z) top) back in
       record {
         selected = subst (λ z. Climbs (nodes g) z m root) back way;
         spot_is =
-            ap (λ p. spot p count first) path_is ∙ ap (λ n. spot (path_to v) n first) count_is
-            ∙ ap (λ n. spot (path_to v) (settled_count g.spec t (place_in s) v s.count) n) top_is;
+            ap (λ p. spot p count first view) path_is ∙ ap (λ n. spot (path_to v) n first view) count_is
+            ∙ ap (λ n. spot (path_to v) (settled_count g.spec g.view t (place_in s) v s.count) n view) top_is
+            ∙ ap (spot (path_to v) (settled_count g.spec g.view t (place_in s) v s.count) (topped height (first_line g.spec g.view t (place_of (path_to v))) top)) shown;
         way = same ∙ path_is;
         page = is_found.page;
-        begins = subst (λ z. IfSome f.begins (Begins g.spec t z)) back is_found.begins;
+        begins = subst (λ z. IfSome f.begins (Begins g.spec g.view t z)) back is_found.begins;
       }

@@ -17,6 +17,7 @@ use Rattle.sg_kinds.specs.declared.marks.FaultKind.TheVariants.{Fuel}
 use Rattle.sg_orders.specs.Keys.{operation, operator_in}
 use Rattle.sg_kinds.specs.Specification.{args_of, attrs_of, locals_of, phylum_of, is_inherited, is_way_inherited, rules_of}
 use Rattle.sg_kinds.specs.Typing.{slot_type, slots_there, attr_types}
+use Rattle.sg_kinds.proofs.InView.{schemes_in_views, slot_type_in_view}
 use Rattle.sg_kinds.specs.declared.spec.Spec.{Spec}
 use Rattle.sg_kinds.specs.declared.spec.Attr.{Attr}
 use Rattle.sg_kinds.specs.declared.spec.Local.{Local}
@@ -25,7 +26,7 @@ use Rattle.sg_forest.specs.Trees.{IsRoot}
 use Rattle.sg_forest.specs.Node as forest
 use Rattle.sg_groves.specs.declared.kind.Kind.{Kind}
 use Rattle.sg_groves.specs.declared.part.Part.{Part}
-use Rattle.sg_groves.specs.Grove.{Grove, nodes, IsGrove, IsLeaf, IsOperation}
+use Rattle.sg_groves.specs.Grove.{Grove, nodes, spec_shown, IsGrove, IsLeaf, IsOperation}
 use Rattle.sg_groves.specs.Holds.{Holds, IsPlaced}
 use Rattle.sg_groves.specs.IsRight.{IsRight}
 use Rattle.sg_groves.specs.Stored.{number_at, value_there}
@@ -194,11 +195,17 @@ module _ (g : Grove) (is : IsGrove g) where
                 some None e h = absurd (none-some p h)
                 some (Some Y) e h = (Y, e)
 
+    -- also in the view of the grove
+    seen_right : (u : Place) (op n : ℕ) (elided : Bool) (ts : Terms) → sub t u ≡ Some (Node op n elided ts) → ShowsSame (spec_shown g) (stored g root) (value_in g.spec t) u op
+    seen_right u op n elided ts at o p has = shown_right u op n elided ts at o p (sym (slot_type_in_view g.spec g.view op o.at o.slot) ∙ has)
+
     -- so the page of the stored values is that of the from-scratch values
     pub stored_marks : (typed others : Place → Option Bytes) → ((u : Place) (x : Term) → sub t u ≡ Some x → typed u ≡ others u)
-        → marks_of g.spec (stored g root) typed t ≡ marks_of g.spec (value_in g.spec t) others t
-    stored_marks typed others alike = marks_alike g.spec is.sound.schemes (stored g root) (value_in g.spec t) typed others t alike shown_right
+        → marks_of (spec_shown g) (stored g root) typed t ≡ marks_of (spec_shown g) (value_in g.spec t) others t
+    stored_marks typed others alike =
+        marks_alike (spec_shown g) (schemes_in_views g.spec g.view is.sound.schemes) (stored g root) (value_in g.spec t) typed others t alike seen_right
 
     -- and what a node writes alone
-    pub stored_alone : (p : Place) (x : Term) → sub t p ≡ Some x → unparsed g.spec (stored g root) none_typed p x 0 ≡ unparsed g.spec (value_in g.spec t) none_typed p x 0
-    stored_alone p x at = unparsed_same g.spec is.sound.schemes (stored g root) (value_in g.spec t) none_typed none_typed t (λ u y there. refl) shown_right p x at 0
+    pub stored_alone : (p : Place) (x : Term) → sub t p ≡ Some x → unparsed (spec_shown g) (stored g root) none_typed p x 0 ≡ unparsed (spec_shown g) (value_in g.spec t) none_typed p x 0
+    stored_alone p x at =
+        unparsed_same (spec_shown g) (schemes_in_views g.spec g.view is.sound.schemes) (stored g root) (value_in g.spec t) none_typed none_typed t (λ u y there. refl) seen_right p x at 0

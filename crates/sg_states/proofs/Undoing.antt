@@ -1,5 +1,5 @@
 -- States to which an undo leads, and those to which a redo leads from there.
-use Rattle.std.specs.Prelude.{◌≡◌, refl, ℕ, zero, suc, List, [], ◌∷◌, take, Option, None, Some, slice_get, option_and_then, unwrap_or}
+use Rattle.std.specs.Prelude.{◌≡◌, refl, ℕ, zero, suc, ◌<◌, true, List, [], ◌∷◌, take, Option, None, Some, slice_get, option_and_then, unwrap_or}
 use Rattle.std.proofs.Common.{sym, ap, ◌∙◌, subst}
 use Rattle.sg_kinds.specs.Terms.{Term, Terms, Leaf, Node, NoTerm, AndTerm, terms_of}
 use Rattle.sg_kinds.specs.Places.{Place, child, put, sub, with_child, with_kid}
@@ -17,9 +17,11 @@ use Rattle.sg_changes.specs.declared.step.Marks.{Marks}
 use Rattle.sg_changes.proofs.Chained.{there_and_back}
 use Rattle.sg_changes.proofs.Marking.{part_put}
 use Rattle.sg_states.specs.Selections.{alone}
-use Rattle.sg_states.specs.States.{State, changed, gone_by, marked, redone, remarked, replaced, selected_place, taken_back, undone}
+use Rattle.sg_states.specs.Seen.{is_spot, respotted}
+use Rattle.sg_states.specs.States.{State, changed, gone_by, marked, redone, remarked, replaced, selected_place, shown_spec, taken_back, undone, viewed}
 use Rattle.sg_states.specs.Turned.{turned_in}
 use Rattle.sg_states.specs.declared.marks.Mark.{Mark}
+use Rattle.sg_states.proofs.Spotted.{selected_seen, settled_seen, spot_stays, spot_stays_in}
 
 -- what is put where there is no place changes nothing
 with_kid_none : (ts : Terms) (k : ℕ) (s : Term) → slice_get (terms_of ts) k ≡ None → with_kid ts k s ≡ ts
@@ -83,50 +85,81 @@ module _ (spec : Spec) (height : ℕ) (t : Term) (change : Spot → Change) (sel
   abbrev it : Change
   it = change next.spot
 
-  change_back : before t it ≡ st.term → before_of it ≡ st.spot → undone next ≡ taken_back next st
-  change_back e b = ap (λ x. state (take 255 st.past) (it ∷ []) None x (before_of it)) e ∙ ap (state (take 255 st.past) (it ∷ []) None st.term) b
+  abbrev settled : Term → Spot → Spot
+  settled = respotted spec height st.spot.view
 
-  change_forth : before t it ≡ st.term → behind st.term it ≡ t → after_of it ≡ next.spot → redone (undone next) ≡ next
-  change_forth e f a = ap (λ x. state (it ∷ take 255 st.past) [] None (behind x it) (after_of it)) e ∙ ap (λ x. state (it ∷ take 255 st.past) [] None x (after_of it)) f ∙ ap (state (it ∷ take 255 st.past) [] None t) a
+  change_back : is_spot spec height st.term st.spot ≡ true → before t it ≡ st.term → before_of it ≡ st.spot → undone spec height next ≡ taken_back next st
+  change_back is e b =
+      ap (λ x. state (take 255 st.past) (it ∷ []) None x (settled x (before_of it))) e
+      ∙ ap (λ s. state (take 255 st.past) (it ∷ []) None st.term (settled st.term s)) b
+      ∙ ap (state (take 255 st.past) (it ∷ []) None st.term) (spot_stays spec height st.term st.spot is)
+
+  change_forth : 0 < height → before t it ≡ st.term → behind st.term it ≡ t → after_of it ≡ next.spot → redone spec height (undone spec height next) ≡ next
+  change_forth tall e f a =
+      ap (λ x. state (it ∷ take 255 st.past) [] None (behind x it) (settled (behind x it) (after_of it))) e
+      ∙ ap (λ x. state (it ∷ take 255 st.past) [] None x (settled x (after_of it))) f
+      ∙ ap (λ s. state (it ∷ take 255 st.past) [] None t (settled t s)) a
+      ∙ ap (state (it ∷ take 255 st.past) [] None t) (spot_stays spec height t next.spot (selected_seen spec height t st.spot.view select st.spot.top tall))
 
 module _ (spec : Spec) (height : ℕ) where
-  pub replaced_back : (u : Place) (s : Term) (select : Selection) (st : State) → undone (replaced spec height u s select st) ≡ taken_back (replaced spec height u s select st) st
-  replaced_back u s select st = change_back spec height (put st.term u s) (Put u (part_of st.term u) s st.spot) select st (put_back st.term u s) refl
+  pub replaced_back : (u : Place) (s : Term) (select : Selection) (st : State) → is_spot spec height st.term st.spot ≡ true
+      → undone spec height (replaced spec height u s select st) ≡ taken_back (replaced spec height u s select st) st
+  replaced_back u s select st is = change_back spec height (put st.term u s) (Put u (part_of st.term u) s st.spot) select st is (put_back st.term u s) refl
 
-  pub replaced_forth : (u : Place) (s : Term) (select : Selection) (st : State) → redone (undone (replaced spec height u s select st)) ≡ replaced spec height u s select st
-  replaced_forth u s select st = change_forth spec height (put st.term u s) (Put u (part_of st.term u) s st.spot) select st (put_back st.term u s) refl refl
+  pub replaced_forth : (u : Place) (s : Term) (select : Selection) (st : State) → 0 < height
+      → redone spec height (undone spec height (replaced spec height u s select st)) ≡ replaced spec height u s select st
+  replaced_forth u s select st tall = change_forth spec height (put st.term u s) (Put u (part_of st.term u) s st.spot) select st tall (put_back st.term u s) refl refl
 
-  module _ (mark : Mark) (st next : State) (is : marked spec height mark st ≡ Some next) where
+  module _ (mark : Mark) (st next : State) where
     abbrev u : Place
     u = selected_place st
-
-    turned : (m : Marks) × (turned_in spec mark (part_of st.term u) ≡ Some m) × (remarked spec height (unwrap_or (marks_of (part_of st.term u)) m) m st ≡ next)
-    turned = option_map_some (λ m. remarked spec height (unwrap_or (marks_of (part_of st.term u)) m) m st) (turned_in spec mark (part_of st.term u)) next is
 
     abbrev was : Marks → Marks
     was m = unwrap_or (marks_of (part_of st.term u)) m
 
-    pub marked_goes_back : undone next ≡ taken_back next st
-    marked_goes_back =
-        let m = turned.0 in
-        subst (λ n. undone n ≡ taken_back n st) turned.2
-        (change_back spec height (marked_term st.term u m) (Marking u (was m) m st.spot) (alone u) st (marked_back st.term u m) refl)
+    turned : marked spec height mark st ≡ Some next → (m : Marks) × (turned_in (shown_spec spec st) mark (part_of st.term u) ≡ Some m) × (remarked spec height (was m) m st ≡ next)
+    turned is = option_map_some (λ m. remarked spec height (was m) m st) (turned_in (shown_spec spec st) mark (part_of st.term u)) next is
 
-    pub marked_goes_forth : redone (undone next) ≡ next
-    marked_goes_forth =
-        let m = turned.0 in
-        subst (λ n. redone (undone n) ≡ n) turned.2
-        (change_forth spec height (marked_term st.term u m) (Marking u (was m) m st.spot) (alone u) st (marked_back st.term u m) refl refl)
+    pub marked_goes_back : is_spot spec height st.term st.spot ≡ true → marked spec height mark st ≡ Some next → undone spec height next ≡ taken_back next st
+    marked_goes_back seen is =
+        let made = turned is in
+        let m = made.0 in
+        subst (λ n. undone spec height n ≡ taken_back n st) made.2
+        (change_back spec height (marked_term st.term u m) (Marking u (was m) m st.spot) (alone u) st seen (marked_back st.term u m) refl)
 
--- the newest change undone and done again, and the next one done and undone
-pub redone_back : (st : State) (c : Change) (past : List Change) → st.past ≡ c ∷ past → HasNew st.term c → redone (undone st) ≡ state st.past st.future st.capture st.term (after_of c)
-redone_back st c past e new =
-    ap (λ p. redone (gone_by Back p st)) e
-    ∙ ap (λ t. state (c ∷ past) st.future st.capture t (after_of c)) (there_and_back Back st.term c new)
-    ∙ ap (λ p. state p st.future st.capture st.term (after_of c)) (sym e)
+    pub marked_goes_forth : 0 < height → marked spec height mark st ≡ Some next → redone spec height (undone spec height next) ≡ next
+    marked_goes_forth tall is =
+        let made = turned is in
+        let m = made.0 in
+        subst (λ n. redone spec height (undone spec height n) ≡ n) made.2
+        (change_forth spec height (marked_term st.term u m) (Marking u (was m) m st.spot) (alone u) st tall (marked_back st.term u m) refl refl)
 
-pub undone_back : (st : State) (c : Change) (future : List Change) → st.future ≡ c ∷ future → HasOld st.term c → undone (redone st) ≡ state st.past st.future st.capture st.term (before_of c)
-undone_back st c future e old =
-    ap (λ p. undone (gone_by Forth p st)) e
-    ∙ ap (λ t. state st.past (c ∷ future) st.capture t (before_of c)) (there_and_back Forth st.term c old)
-    ∙ ap (λ p. state st.past p st.capture st.term (before_of c)) (sym e)
+  -- the newest change undone and done again, and the next one done and undone
+  pub redone_back : (st : State) (c : Change) (past : List Change) → st.past ≡ c ∷ past → HasNew st.term c
+      → redone spec height (undone spec height st) ≡ state st.past st.future st.capture st.term (respotted spec height st.spot.view st.term (after_of c))
+  redone_back st c past e new =
+      ap (λ p. redone spec height (gone_by spec height Back p st)) e
+      ∙ ap (λ t. state (c ∷ past) st.future st.capture t (respotted spec height st.spot.view t (after_of c))) (there_and_back Back st.term c new)
+      ∙ ap (λ p. state p st.future st.capture st.term (respotted spec height st.spot.view st.term (after_of c))) (sym e)
+
+  pub undone_back : (st : State) (c : Change) (future : List Change) → st.future ≡ c ∷ future → HasOld st.term c
+      → undone spec height (redone spec height st) ≡ state st.past st.future st.capture st.term (respotted spec height st.spot.view st.term (before_of c))
+  undone_back st c future e old =
+      ap (λ p. undone spec height (gone_by spec height Forth p st)) e
+      ∙ ap (λ t. state st.past (c ∷ future) st.capture t (respotted spec height st.spot.view t (before_of c))) (there_and_back Forth st.term c old)
+      ∙ ap (λ p. state st.past p st.capture st.term (respotted spec height st.spot.view st.term (before_of c))) (sym e)
+
+  -- a kept spot is back in its own view
+  pub kept_back : (st : State) (c : Change) (past : List Change) → st.past ≡ c ∷ past → is_spot spec height (before st.term c) (before_of c) ≡ true → (before_of c).view ≡ st.spot.view
+      → (undone spec height st).spot ≡ before_of c
+  kept_back st c past e is same = ap (λ p. (gone_by spec height Back p st).spot) e ∙ spot_stays_in spec height (before st.term c) (before_of c) st.spot.view same is
+
+  pub kept_forth : (st : State) (c : Change) (future : List Change) → st.future ≡ c ∷ future → is_spot spec height (behind st.term c) (after_of c) ≡ true → (after_of c).view ≡ st.spot.view
+      → (redone spec height st).spot ≡ after_of c
+  kept_forth st c future e is same = ap (λ p. (gone_by spec height Forth p st).spot) e ∙ spot_stays_in spec height (behind st.term c) (after_of c) st.spot.view same is
+
+  -- shown in one view twice
+  pub viewed_twice : (v : ℕ) (st : State) → 0 < height → viewed spec height v (viewed spec height v st) ≡ viewed spec height v st
+  viewed_twice v st tall =
+      let s = respotted spec height v st.term st.spot in
+      ap (state st.past st.future st.capture st.term) (spot_stays spec height st.term s (settled_seen spec height st.term v st.spot tall))

@@ -1,4 +1,4 @@
--- What is seen of the term that a root holds.
+-- What is seen of the term that a root holds, in the view of its grove.
 use Rattle.std.specs.Prelude.{◌≡◌, ℕ, false, true, IfSome, Option}
 use Rattle.sg_kinds.specs.Values.{Bytes}
 use Rattle.sg_kinds.specs.Terms.{Term}
@@ -7,7 +7,7 @@ use Rattle.sg_kinds.specs.Specification.{is_inherited}
 use Rattle.sg_changes.specs.declared.spot.Spot.{Spot}
 use Rattle.sg_forest.specs.declared.node_id.NodeId.{NodeId}
 use Rattle.sg_forest.specs.Trees.{Climbs, IsRoot}
-use Rattle.sg_groves.specs.Grove.{Grove, nodes}
+use Rattle.sg_groves.specs.Grove.{Grove, nodes, spec_shown}
 use Rattle.sg_groves.specs.Holds.{Holds}
 use Rattle.sg_groves.specs.IsRight.{IsRight}
 use Rattle.sg_select.specs.RestingPlaces.{is_open}
@@ -30,7 +30,7 @@ pub record IsWhole (g : Grove) (root : NodeId) (t : Term) : Type 0 where
 
 -- its page with its from-scratch values, by the numbers of its nodes, and with a text typed at a place
 unfoldable pub page_seen : Grove → NodeId → Term → (Place → Option Bytes) → Sheet
-page_seen g root t typed = sheet_of (node_along g root) (marks_seen g.spec t typed)
+page_seen g root t typed = sheet_of (node_along g root) (marks_seen g.spec g.view t typed)
 
 -- a spot, its node and the path of that, and where it begins and the page without a typed text, where these are told
 pub record IsLook (g : Grove) (root : NodeId) (t : Term) (spot : Spot) (l : Look) : Type 0 where
@@ -38,13 +38,13 @@ pub record IsLook (g : Grove) (root : NodeId) (t : Term) (spot : Spot) (l : Look
   pub spot_is : l.spot ≡ spot
   pub way : l.way ≡ spot.selection.path
   pub page : IfSome l.page (λ p. p ≡ page_seen g root t nothing_typed)
-  pub begins : IfSome l.begins (Begins g.spec t (place_in spot.selection))
+  pub begins : IfSome l.begins (Begins g.spec g.view t (place_in spot.selection))
 
 -- the line in which the node at a place begins, and where it begins and the page, where these are told
 pub record IsFound (g : Grove) (root : NodeId) (t : Term) (u : Place) (f : Found) : Type 0 where
-  pub line : f.line ≡ first_line g.spec t u
+  pub line : f.line ≡ first_line g.spec g.view t u
   pub page : IfSome f.page (λ p. p ≡ page_seen g root t nothing_typed)
-  pub begins : IfSome f.begins (Begins g.spec t u)
+  pub begins : IfSome f.begins (Begins g.spec g.view t u)
 
 -- what was told before a change holds of the term that the root holds now, where the node above can be reached
 pub record IsForetold (g : Grove) (root : NodeId) (b : Before) : Type 0 where
@@ -52,5 +52,5 @@ pub record IsForetold (g : Grove) (root : NodeId) (b : Before) : Type 0 where
   pub place : Place
   pub whole : IsWhole g root term
   pub way : Climbs (nodes g) place b.above root
-  pub reached : is_open g.spec term place ≡ true
-  pub tells : Foretells g.spec term place b
+  pub reached : is_open (spec_shown g) term place ≡ true
+  pub tells : Foretells g.spec g.view term place b

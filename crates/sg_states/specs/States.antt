@@ -4,6 +4,7 @@ use Rattle.std.specs.Option.{is_some}
 use Rattle.sg_kinds.specs.Values.{Bytes}
 use Rattle.sg_kinds.specs.Terms.{Term}
 use Rattle.sg_kinds.specs.Places.{Place, put}
+use Rattle.sg_kinds.specs.InView.{in_view}
 use Rattle.sg_kinds.specs.declared.spec.Spec.{Spec}
 use Rattle.sg_changes.specs.Captured.{Captured, captured, put_in, taken_out}
 use Rattle.sg_changes.specs.Changes.{Change, Put, Mark as Marking, chosen, part_of, marks_of, marked as marked_term, spot_along, term_along}
@@ -15,8 +16,8 @@ use Rattle.sg_changes.specs.declared.step.Marks.{Marks}
 use Rattle.sg_select.specs.RestingPlaces.{settled, next_from, prev_from, up_from, first_from, sibling_from}
 use Rattle.sg_unparse.specs.Page.{cells_of, owner_at}
 use Rattle.sg_select.specs.Paths.{spine_from}
-use Rattle.sg_states.specs.Selections.{alone, place_in, elements_at, settled_selection}
-use Rattle.sg_states.specs.Seen.{nothing_typed, marks_seen, seen}
+use Rattle.sg_states.specs.Selections.{alone, place_in, elements_at}
+use Rattle.sg_states.specs.Seen.{nothing_typed, marks_seen, respotted, seen, settled_spot}
 use Rattle.sg_states.specs.Turned.{turned_in}
 use Rattle.sg_states.specs.declared.marks.Extended.{Extended}
 use Rattle.sg_states.specs.declared.marks.Extended.TheVariants.{Done, NotInList, NoPlace}
@@ -37,9 +38,19 @@ pub record State : Type 0 where
 abbrev pub selected_place : State → Place
 selected_place st = place_in st.spot.selection
 
--- the state of a new buffer, whose root is selected
+-- the state of a new buffer, whose root is selected, in the ordinary view
 abbrev pub begun : Term → State
-begun t = record { term = t; spot = record { selection = alone []; top = 1 }; past = []; future = []; capture = None }
+begun t = record {
+  term = t;
+  spot = record { selection = alone []; top = 1; view = 0 };
+  past = [];
+  future = [];
+  capture = None;
+}
+
+-- the specification as it is seen in the view of a state
+abbrev pub shown_spec : Spec → State → Spec
+shown_spec spec st = in_view spec st.spot.view
 
 -- the resting place to which a move leads
 abbrev pub target : Move → Spec → Term → Place → Option Place
@@ -49,11 +60,15 @@ target Up = up_from
 target First = first_from
 target Sibling = sibling_from
 
+-- the changes that lie that way, the nearest first
+abbrev pub ahead : Direction → State → List Change
+ahead d st = chosen d st.past st.future
+
 module _ (spec : Spec) (height : ℕ) where
   -- a change makes a term, in which this is selected then, and is the newest of the past, which keeps 256
   abbrev pub changed : Term → (Spot → Change) → Selection → State → State
   changed t change select st =
-      let spot = seen spec height t (settled_selection spec t select) st.spot.top in
+      let spot = settled_spot spec height st.spot.view t select st.spot.top in
       record { term = t; spot = spot; past = take 256 (change spot ∷ st.past); future = []; capture = None }
 
   -- another subterm at a place
@@ -70,44 +85,45 @@ module _ (spec : Spec) (height : ℕ) where
   abbrev pub marked : Mark → State → Option State
   marked mark st =
       let x = part_of st.term (selected_place st) in
-      option_map (λ new. remarked (unwrap_or (marks_of x) new) new st) (turned_in spec mark x)
+      option_map (λ new. remarked (unwrap_or (marks_of x) new) new st) (turned_in (shown_spec spec st) mark x)
 
   -- a resting place selected
   abbrev pub selected : Place → State → State
-  selected u st = record st { spot = seen spec height st.term (alone u) st.spot.top }
+  selected u st = record st { spot = seen spec height st.spot.view st.term (alone u) st.spot.top }
 
   -- where a move leads, or the cell of a line and a column; None where it leads to no place
   abbrev pub moved : Move → State → Option State
-  moved move st = option_map (λ v. selected v st) (target move spec st.term (selected_place st))
+  moved move st = option_map (λ u. selected u st) (target move (shown_spec spec st) st.term (selected_place st))
 
   abbrev pub picked : ℕ → ℕ → State → Option State
-  picked line column st = option_map (λ v. selected (settled spec st.term v) st)
-      (owner_at (cells_of (marks_seen spec st.term nothing_typed)) line column)
+  picked line column st = option_map (λ u. selected (settled (shown_spec spec st) st.term u) st)
+      (owner_at (cells_of (marks_seen spec st.spot.view st.term nothing_typed)) line column)
 
--- the changes that lie that way, the nearest first
-abbrev pub ahead : Direction → State → List Change
-ahead d st = chosen d st.past st.future
+  -- the same state in another view: the selection is settled there, and the top follows it
+  abbrev pub viewed : ℕ → State → State
+  viewed v st = record st { spot = respotted spec height v st.term st.spot }
 
--- the first of these changes gone along, with what was selected and seen there; it is the nearest one behind then
-abbrev pub gone_by : Direction → List Change → State → State
-gone_by d [] st = st
-gone_by d (c ∷ cs) st = record st {
-  term = term_along d st.term c;
-  spot = spot_along d c;
-  past = chosen d cs (c ∷ st.past);
-  future = chosen d (c ∷ st.future) cs;
-}
+  -- the first of some changes gone along, with what was selected and seen there, settled in the present view; it is the
+  -- nearest one behind then
+  abbrev pub gone_by : Direction → List Change → State → State
+  gone_by d [] st = st
+  gone_by d (c ∷ cs) st = record st {
+    term = term_along d st.term c;
+    spot = respotted spec height st.spot.view (term_along d st.term c) (spot_along d c);
+    past = chosen d cs (c ∷ st.past);
+    future = chosen d (c ∷ st.future) cs;
+  }
 
--- one change along that way
-abbrev pub gone : Direction → State → State
-gone d st = gone_by d (ahead d st) st
+  -- one change along that way
+  abbrev pub gone : Direction → State → State
+  gone d st = gone_by d (ahead d st) st
 
--- the newest change undone, and the next one done again
-abbrev pub undone : State → State
-undone = gone Back
+  -- the newest change undone, and the next one done again
+  abbrev pub undone : State → State
+  undone = gone Back
 
-abbrev pub redone : State → State
-redone = gone Forth
+  abbrev pub redone : State → State
+  redone = gone Forth
 
 -- a state as it was before a change that led to another one and was taken back: the newest 255 changes before it are
 -- kept, it comes next, and nothing is being typed

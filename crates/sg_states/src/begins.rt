@@ -1,10 +1,10 @@
 //! Where nodes begin in what is seen of a held term, found from the page of a part where that is enough.
-ghost use Rattle.std.specs.Prelude.{◌≡◌, ◌<◌, ◌≤◌, ◌*◌, Some, IfOk, IfSome};
+ghost use Rattle.std.specs.Prelude.{◌≡◌, ◌<◌, ◌≤◌, ◌*◌, min, Some, IfOk, IfSome};
 ghost use Rattle.sg_kinds.specs.Places.{Place, sub};
 ghost use Rattle.sg_kinds.specs.Terms.{Term, nodes_of};
 ghost use Rattle.sg_forest.specs.Trees.{Climbs, IsLive};
 ghost use Rattle.sg_groves.specs.Evaluated.{IsAtOrBelow};
-ghost use Rattle.sg_groves.specs.Grove.{nodes};
+ghost use Rattle.sg_groves.specs.Grove.{nodes, spec_shown};
 ghost use Rattle.sg_unparse.specs.Begins.{begins_on};
 ghost use Rattle.sg_unparse.specs.Margins.{ons_of};
 ghost use Rattle.sg_states.specs.Beginnings.{Begins, BeginsAlone, WillForetell, foretold as foretold_from};
@@ -45,7 +45,7 @@ fn told(page: &Page, n: NodeId) -> Option<Beginning>
 /// Where a node begins, by the page of the term where nothing is typed; None where the page does not tell.
 pub fn begins_here(terms: &Terms, page: &Page, n: NodeId) -> Option<Beginning>
     ensures { (root : _) (t : Term) (u : Place) → IsWhole terms.now root t → Climbs (nodes terms.now) u n root
-        → page.now ≡ page_seen terms.now root t nothing_typed → IfSome result (Begins terms.now.spec t u) }
+        → page.now ≡ page_seen terms.now root t nothing_typed → IfSome result (Begins terms.now.spec terms.now.view t u) }
 {
     terms.facts();
     told(page, n)
@@ -59,20 +59,27 @@ fn begins_alone(
     n: NodeId,
 ) -> Result<Option<Beginning>, NoMemory>
     requires { IsLive (nodes terms.now) above }
-    ensures { (root : _) (t x : Term) (p v : Place) → IsWhole terms.now root t
-        → Climbs (nodes terms.now) p above root → Climbs (nodes terms.now) v n root → sub t p ≡ Some x
-        → IfOk result (λ r. IfSome r (BeginsAlone terms.now.spec t p x v)) }
+    ensures { (root : _) (t x : Term) (p u : Place) → IsWhole terms.now root t
+        → Climbs (nodes terms.now) p above root → Climbs (nodes terms.now) u n root → sub t p ≡ Some x
+        → IfOk result (λ r. IfSome r (BeginsAlone terms.now.spec terms.now.view t p x u)) }
 {
     terms.facts();
     let page = part(alloc, terms, above)?;
     Ok(told(&page, n))
 }
 
+// by how much the schemes of the present view widen the margin at most
+fn ons_here(terms: &Terms) -> usize
+    ensures { result ≡ min (ons_of (spec_shown terms.now)) usize.MAX }
+{
+    ons(terms.spec(), terms.view())
+}
+
 // the most blanks of a margin in a term of so many nodes; None where they are no usize
 fn margin(terms: &Terms, count: usize) -> Option<usize>
-    ensures { IfSome result (λ m. m ≡ 2 * ons_of terms.now.spec * count) }
+    ensures { IfSome result (λ m. m ≡ 2 * ons_of (spec_shown terms.now) * count) }
 {
-    ons(terms.spec()).checked_mul(2)?.checked_mul(count)
+    ons_here(terms).checked_mul(2)?.checked_mul(count)
 }
 
 /// Tells before a change strictly below a node, from where the selected node begins, what is needed after it. The term
@@ -86,9 +93,10 @@ pub fn foretell(
     count: usize,
 ) -> Result<Option<Before>, NoMemory>
     requires { IsLive (nodes terms.now) above }
-    ensures { (root : _) (t : Term) (p v : Place) → IsWhole terms.now root t → Climbs (nodes terms.now) p above root
-        → Climbs (nodes terms.now) v selected root → Begins terms.now.spec t v begins → count ≡ nodes_of t
-        → IfOk result (λ r. IfSome r (λ b. (b.above ≡ above) × IsAtOrBelow v p × WillForetell terms.now.spec t p b)) }
+    ensures { (root : _) (t : Term) (p u : Place) → IsWhole terms.now root t → Climbs (nodes terms.now) p above root
+        → Climbs (nodes terms.now) u selected root → Begins terms.now.spec terms.now.view t u begins → count ≡ nodes_of t
+        → IfOk result (λ r. IfSome r (λ b. (b.above ≡ above) × IsAtOrBelow u p
+        × WillForetell terms.now.spec terms.now.view t p b)) }
 {
     terms.facts();
     let Some(from) = begins_alone(alloc, terms, above, selected)? else {
@@ -133,7 +141,7 @@ pub(crate) fn begins_after(
 ) -> Result<Option<Beginning>, NoMemory>
     requires { IfSome before (IsForetold terms.now root) }
     ensures begins { (t : Term) (u : Place) → IsWhole terms.now root t → Climbs (nodes terms.now) u n root
-        → IfOk result (λ r. IfSome r (Begins terms.now.spec t u)) }
+        → IfOk result (λ r. IfSome r (Begins terms.now.spec terms.now.view t u)) }
     ensures few { IfOk result (λ r. IfSome r (λ b. (b.cells ≤ 1048576) × (b.newlines ≤ 1048576))) }
 {
     terms.facts();

@@ -4,14 +4,14 @@ ghost use Rattle.std.specs.Option.{option_map_or};
 ghost use Rattle.sg_kinds.specs.Places.{Place, place_of};
 ghost use Rattle.sg_kinds.specs.Terms.{Term};
 ghost use Rattle.sg_forest.specs.Trees.{Climbs, IsLive, IsRoot};
-ghost use Rattle.sg_groves.specs.Grove.{nodes};
+ghost use Rattle.sg_groves.specs.Grove.{nodes, spec_shown};
 ghost use Rattle.sg_groves.specs.Holds.{Holds, IsPlaced};
 ghost use Rattle.sg_changes.specs.Top.{topped};
 ghost use Rattle.sg_select.specs.Leads.{LeadsTo};
 ghost use Rattle.sg_select.specs.RestingPlaces.{rests};
 ghost use Rattle.sg_unparse.specs.Sheet.{region_on};
-ghost use Rattle.sg_states.specs.Selections.{elements_at as elements_there, is_selection as is_selection_there, settled_count, settled_selection};
-ghost use Rattle.sg_states.specs.Seen.{first_line as line_of, nothing_typed, seen, typed_at};
+ghost use Rattle.sg_states.specs.Selections.{elements_at as elements_there, is_selection as is_selection_there, settled_count};
+ghost use Rattle.sg_states.specs.Seen.{first_line as line_of, nothing_typed, settled_spot, typed_at};
 ghost use Rattle.sg_states.specs.States.{target as target_from};
 ghost use Rattle.sg_states.specs.Paged.{IsForetold, IsFound, IsLook, IsWhole, page_seen};
 
@@ -76,8 +76,8 @@ pub fn elements_at(terms: &Terms, n: NodeId) -> usize
 // whether a resting place with a count is a selection
 fn is_selection(terms: &Terms, n: NodeId, count: usize) -> bool
     requires { IsLive (nodes terms.now) n }
-    ensures { (root : _) (t : Term) (u : Place) → IsPlaced terms.now root t u n → rests terms.now.spec t u ≡ true
-        → result ≡ is_selection_there terms.now.spec t u count }
+    ensures { (root : _) (t : Term) (u : Place) → IsPlaced terms.now root t u n → rests (spec_shown terms.now) t u ≡ true
+        → result ≡ is_selection_there terms.now.spec terms.now.view t u count }
 {
     count == 1 || (count > 1 && count <= elements_at(terms, n))
 }
@@ -99,8 +99,8 @@ fn leads_to(terms: &Terms, root: NodeId, path: &[u32], n: NodeId) -> bool
 fn count_at(terms: &Terms, root: NodeId, path: &[u32], count: usize, n: NodeId) -> usize
     requires root { IsRoot (nodes terms.now) root }
     requires node { IsLive (nodes terms.now) n }
-    ensures { (t : Term) (v : Place) → IsPlaced terms.now root t v n → rests terms.now.spec t v ≡ true
-        → result ≡ settled_count terms.now.spec t (place_of path.now) v count }
+    ensures { (t : Term) (v : Place) → IsPlaced terms.now root t v n → rests (spec_shown terms.now) t v ≡ true
+        → result ≡ settled_count terms.now.spec terms.now.view t (place_of path.now) v count }
 {
     if count <= 1 {
         return 1;
@@ -117,8 +117,8 @@ pub fn target(terms: &Terms, n: NodeId, to: Move) -> Option<NodeId>
     requires { IsLive (nodes terms.now) n }
     ensures live { IfSome result (IsLive (nodes terms.now)) }
     ensures leads { (root : _) (t : Term) (u : Place) → IsPlaced terms.now root t u n
-        → rests terms.now.spec t u ≡ true
-        → LeadsTo terms.now root (target_from to terms.now.spec t u) result }
+        → rests (spec_shown terms.now) t u ≡ true
+        → LeadsTo terms.now root (target_from to (spec_shown terms.now) t u) result }
 {
     match to {
         Move::Next => next(terms, n),
@@ -160,7 +160,7 @@ pub fn top_at(terms: &Terms, page: &Page, n: NodeId, height: usize, top: usize) 
     requires { 0 < height }
     ensures { (root : _) (t : Term) (u : Place) → IsWhole terms.now root t → Climbs (nodes terms.now) u n root
         → page.now ≡ page_seen terms.now root t nothing_typed
-        → result ≡ topped height (line_of terms.now.spec t u) top }
+        → result ≡ topped height (line_of terms.now.spec terms.now.view t u) top }
 {
     terms.facts();
     topped(height, line_on(page, n), top)
@@ -244,7 +244,7 @@ pub fn look_after(
     requires tall { 0 < height }
     requires before { IfSome before (IsForetold terms.now root) }
     ensures { (t : Term) → IsWhole terms.now root t → IfOk result (IsLook terms.now root t
-        (seen terms.now.spec height t (settled_selection terms.now.spec t select.now) top)) }
+        (settled_spot terms.now.spec height terms.now.view t select.now top)) }
 {
     terms.facts();
     let way = select.path.as_slice();
@@ -255,7 +255,12 @@ pub fn look_after(
     let count = count_at(terms, root, way, select.count, selected);
     let top = topped(height, found.line, top);
     let selection = Selection { path, count };
-    let spot = Spot { selection, top };
+    let view = terms.view();
+    let spot = Spot {
+        selection,
+        top,
+        view,
+    };
     Ok(Look {
         selected,
         spot,
@@ -278,7 +283,7 @@ pub fn look_at(
     requires root { IsRoot (nodes terms.now) root }
     requires tall { 0 < height }
     ensures { (t : Term) → IsWhole terms.now root t → IfOk result (IsLook terms.now root t
-        (seen terms.now.spec height t (settled_selection terms.now.spec t select.now) top)) }
+        (settled_spot terms.now.spec height terms.now.view t select.now top)) }
 {
     look_after(alloc, terms, root, root, &[], select, height, top, None)
 }

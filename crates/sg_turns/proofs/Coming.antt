@@ -36,10 +36,10 @@ module _ (old mid : Grove) (is : IsGrove old) (at d : NodeId) (ex : IsExchanged 
   TheNode = forest.Node Kind Part
 
   abbrev moved : Grove
-  moved = record { spec = old.spec; trees = mid.trees; pool = old.pool }
+  moved = record { spec = old.spec; trees = mid.trees; pool = old.pool; view = old.view }
 
   by_moved : (P : Grove → Type 0) → P moved → P mid
-  by_moved P p = subst P (λ i. record { spec = sym ex.spec i; trees = mid.trees; pool = sym ex.pool i }) p
+  by_moved P p = subst P (λ i. record { spec = sym ex.spec i; trees = mid.trees; pool = sym ex.pool i; view = sym ex.view i }) p
 
   same_nodes : IsRoot (nodes old) at → nodes mid ≡ nodes old
   same_nodes top = λ i n. ex.unchanged top n i
@@ -53,23 +53,23 @@ module _ (old mid : Grove) (is : IsGrove old) (at d : NodeId) (ex : IsExchanged 
       (λ (k : Kind). k.arity) (λ (k : Kind). 0) (λ (k : Kind) (i : ℕ). 0) is.forest (λ x y a b. refl)
 
   grove_same : IsRoot (nodes old) at → IsGrove moved
-  grove_same top = IsGrove-after old.spec old.trees mid.trees old.pool old.pool (grown_itself old.pool) is trees each
+  grove_same top = IsGrove-after old.spec old.view old.trees mid.trees old.pool old.pool (grown_itself old.pool) is trees each
     where
-      kinds : KeepsKinds old.spec old.trees mid.trees old.pool old.pool
+      kinds : KeepsKinds old.spec old.view old.trees mid.trees old.pool old.pool
       kinds n x y there then =
           ap (λ (z : TheNode). z.label) (same_Some y x (sym then ∙ ex.unchanged top n ∙ there))
 
       each : (n : NodeId) (y : TheNode) → nodes mid n ≡ Some y → IsNode moved y
       each n y then =
           let there = sym (ex.unchanged top n) ∙ then in
-          node_after old.spec old.trees mid.trees old.pool old.pool (grown_itself old.pool) is n y y there refl refl
-          (kids_fit old.spec old.trees mid.trees old.pool old.pool (grown_itself old.pool) is kinds n y there)
+          node_after old.spec old.view old.trees mid.trees old.pool old.pool (grown_itself old.pool) is n y y there refl refl
+          (kids_fit old.spec old.view old.trees mid.trees old.pool old.pool (grown_itself old.pool) is kinds n y there)
 
   moved_grove : IsGrove moved
   moved_grove = elim (root_or_child (nodes old) at ex.live) [
     | inl top ↦ grove_same top
     | inr up ↦
-        IsGrove-swapped old.spec old.trees mid.trees old.pool old.pool (grown_itself old.pool) is at d up.0 up.1 up.2
+        IsGrove-swapped old.spec old.view old.trees mid.trees old.pool old.pool (grown_itself old.pool) is at d up.0 up.1 up.2
         (record { node = ex.root.node; found = ex.root.found }) ex.phyla (ex.swapped up.0 up.1 up.2) keeps trees
   ]
 
@@ -90,7 +90,7 @@ module _ (old mid : Grove) (is : IsGrove old) (at d : NodeId) (ex : IsExchanged 
           term = comes.term;
         }
         by (k ∷ w) up =
-            Holds-replaced old.spec old.trees mid.trees old.pool is at d
+            Holds-replaced old.spec old.view old.trees mid.trees old.pool is at d
             (ReplacesTrees-swap (nodes old) (nodes mid) at d is.forest.linked ex.live ex.root ex.apart ex.swapped same_nodes)
             k w root t s up holds comes
 

@@ -17,18 +17,21 @@ use Rattle.sg_turns.proofs.Trees.{kept_still, kept_twice}
 pub drops_none : (g : Grove) → Drops g g []
 drops_none g = record {
   spec = refl;
+  view = refl;
   pool = refl;
   keeps = λ n top unlisted. kept_still g n;
   roots = λ n. ((λ top. (top, refl)), (λ both. both.0));
 }
 
 pub drops_one : (old new : Grove) (r : NodeId) → IsGrove old → IsRoot (nodes old) r → IsDropped (nodes old) (nodes new) r → ((n : NodeId) → IsRoot (nodes new) n ↔ (IsRoot (nodes old) n × (n ≢ r)))
-    → new.spec ≡ old.spec → new.pool ≡ old.pool → Drops old new (r ∷ [])
-drops_one old new r is root dropped roots spec pool = record {
+    → new.spec ≡ old.spec → new.view ≡ old.view → new.pool ≡ old.pool → Drops old new (r ∷ [])
+drops_one old new r is root dropped roots spec view pool = record {
   spec = spec;
+  view = view;
   pool = pool;
   keeps = λ n top unlisted. record {
     spec = spec;
+    view = view;
     pool = grown_same old.pool new.pool pool;
     nodes = λ m inside. dropped.others m (λ below. other n unlisted (one_way old is inside.path below.path m n r top root inside.climbs below.climbs).1);
   };
@@ -44,6 +47,7 @@ drops_one old new r is root dropped roots spec pool = record {
 pub drops_twice : (old mid new : Grove) (xs ys : List NodeId) → Drops old mid xs → Drops mid new ys → Drops old new (xs ++ ys)
 drops_twice old mid new xs ys one two = record {
   spec = two.spec ∙ one.spec;
+  view = two.view ∙ one.view;
   pool = two.pool ∙ one.pool;
   keeps = λ n top unlisted.
       let e = times_append n xs ys in

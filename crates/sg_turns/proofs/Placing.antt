@@ -25,8 +25,7 @@ use Rattle.sg_build.specs.Grown.{GrewBy}
 use Rattle.sg_build.proofs.Framed.{grew_outside, grew_root, not_there, there_or_not}
 use Rattle.sg_build.proofs.Roots.{one_phylum}
 use Rattle.sg_changes.specs.declared.spot.Selection.{Selection}
-use Rattle.sg_states.specs.Selections.{settled_selection}
-use Rattle.sg_states.specs.Seen.{seen}
+use Rattle.sg_states.specs.Seen.{settled_spot}
 use Rattle.sg_states.specs.Paged.{IsLook, IsWhole}
 use Rattle.sg_turns.specs.Noted.{NotedPut}
 use Rattle.sg_turns.specs.Puts.{MayPut, IsPut}
@@ -35,6 +34,7 @@ use Rattle.sg_turns.specs.Turns.{MayTurn, IsTurned, Notes, NotesSome}
 use Rattle.sg_turns.specs.declared.turns.Turned.{Turned}
 use Rattle.sg_turns.specs.declared.turns.What.TheVariants.{Tree}
 use Rattle.sg_turns.proofs.Hanging.{roots_alike, times_swap}
+use Rattle.sg_turns.proofs.Putting.{seen_as}
 use Rattle.sg_turns.proofs.Times.{grown_roots}
 use Rattle.sg_turns.proofs.Trees.{climbs_back, climbs_on, whole_kept}
 
@@ -53,6 +53,7 @@ module _ (old mid : Grove) (is : IsGrove old) (on : IsGrove mid) (root at d : No
   root_tree : KeepsTree old mid root
   root_tree = record {
     spec = grew.spec;
+    view = grew.view;
     pool = grew.pool;
     nodes = λ n inside. grew.before n (inside_live old root n (root_is_live (nodes old) root may.whole.top) inside);
   }
@@ -83,13 +84,13 @@ module _ (old mid : Grove) (is : IsGrove old) (on : IsGrove mid) (root at d : No
   comes : term_at mid d ≡ s
   comes = held_at mid on d s held
 
-  module _ (new : Grove) (spec : new.spec ≡ mid.spec) (height : ℕ) (select : Selection) (top : ℕ) (r : Turned) (turned : IsTurned mid new root at (Tree d) t u r.root)
-      (looks : (w : Term) → IsWhole new r.root w → IsLook new r.root w (seen new.spec height w (settled_selection new.spec w select) top) r.look) where
+  module _ (new : Grove) (spec : new.spec ≡ mid.spec) (view : new.view ≡ mid.view) (height : ℕ) (select : Selection) (top : ℕ) (r : Turned) (turned : IsTurned mid new root at (Tree d) t u r.root)
+      (looks : (w : Term) → IsWhole new r.root w → IsLook new r.root w (settled_spot new.spec height new.view w select top) r.look) where
     put_as_built : IsPut old new root at t u (term_at mid d) height select top r
     put_as_built = record {
       whole = turned.whole;
       fits = subst (λ (z : Spec). Fits z (put t u (term_at mid d)) z.root) grew.spec turned.fits;
-      look = subst (λ (z : Spec). IsLook new r.root (put t u (term_at mid d)) (seen z height (put t u (term_at mid d)) (settled_selection z (put t u (term_at mid d)) select) top) r.look) (spec ∙ grew.spec) (looks (put t u (term_at mid d)) turned.whole);
+      look = seen_as old new r.root (put t u (term_at mid d)) (spec ∙ grew.spec) (view ∙ grew.view) height select top r.look (looks (put t u (term_at mid d)) turned.whole);
       hanging = λ n x top apart holds. turned.hanging n x (grew_root old mid (d ∷ []) grew n top) apart (d_new n (root_is_live (nodes old) n top)) (terms n x holds);
       out = turned.out;
       roots = λ rest were. turned.roots rest (roots_alike mid (d ∷ (root ∷ rest)) (root ∷ (d ∷ rest)) (λ n. times_swap n root d rest) (grown_roots old mid d grew (root ∷ rest) were));

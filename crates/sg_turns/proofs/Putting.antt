@@ -35,8 +35,7 @@ use Rattle.sg_changes.specs.Changes.{marked, with_marks}
 use Rattle.sg_changes.specs.declared.spot.Selection.{Selection}
 use Rattle.sg_changes.specs.declared.step.Marks.{Marks}
 use Rattle.sg_changes.proofs.Marking.{part_is}
-use Rattle.sg_states.specs.Selections.{settled_selection}
-use Rattle.sg_states.specs.Seen.{seen}
+use Rattle.sg_states.specs.Seen.{settled_spot}
 use Rattle.sg_states.specs.Paged.{IsWhole, IsLook}
 use Rattle.sg_states.specs.declared.looks.Look.{Look}
 use Rattle.sg_turns.specs.Turns.{MayTurn, IsSeen, IsTurned}
@@ -46,6 +45,13 @@ use Rattle.sg_turns.proofs.Values.{net_marked, value_marked}
 
 abbrev TheNode : Type 0
 TheNode = forest.Node Kind Part
+
+-- what is seen in a grove of the same specification and view
+pub seen_as : (old new : Grove) (root : NodeId) (t : Term) → new.spec ≡ old.spec → new.view ≡ old.view → (height : ℕ) (select : Selection) (top : ℕ) (look : Look)
+    → IsLook new root t (settled_spot new.spec height new.view t select top) look → IsLook new root t (settled_spot old.spec height old.view t select top) look
+seen_as old new root t spec view height select top look is =
+    subst (λ v. IsLook new root t (settled_spot old.spec height v t select top) look) view
+    (subst (λ (s : Spec). IsLook new root t (settled_spot s height new.view t select top) look) spec is)
 
 -- two writes of one part
 module _ (old mid new : Grove) (n : NodeId) (k : ℕ) (on : Bool) where
@@ -155,11 +161,11 @@ module _ (old : Grove) (is : IsGrove old) (root at : NodeId) (m : Marks) (t : Te
       };
     }
 
-    pub marked_seen : (height : ℕ) (select : Selection) (top : ℕ) (look : Look) → ((r : Term) → IsWhole new root r → IsLook new root r (seen new.spec height r (settled_selection new.spec r select) top) look)
+    pub marked_seen : new.view ≡ old.view → (height : ℕ) (select : Selection) (top : ℕ) (look : Look) → ((r : Term) → IsWhole new root r → IsLook new root r (settled_spot new.spec height new.view r select top) look)
         → IsSeen old new root at (Shown m) t u height select top (record { root = root; look = look })
-    marked_seen height select top look looks = record {
+    marked_seen view height select top look looks = record {
       turned = marked_turn;
-      look = subst (λ z. IsLook new root (marked t u m) (seen z height (marked t u m) (settled_selection z (marked t u m) select) top) look) spec (looks (marked t u m) marked_whole);
+      look = seen_as old new root (marked t u m) spec view height select top look (looks (marked t u m) marked_whole);
     }
 
 -- marks that are put back

@@ -1,10 +1,11 @@
 -- Steps along which a way goes.
-use Rattle.std.specs.Prelude.{◌≡◌, ◌≢◌, refl, ℕ, ◌+◌, ◌-◌, ◌^◌, ◌<◌, ◌≤◌, min, List, [], ◌∷◌, Option, None, Some, IsSome, option_map, option_and_then, unwrap_or, false, true}
+use Rattle.std.specs.Prelude.{◌≡◌, ◌≢◌, refl, ℕ, ◌+◌, ◌-◌, ◌^◌, ◌<◌, ◌≤◌, min, List, [], ◌∷◌, Option, None, Some, IsSome, option_map, option_and_then, unwrap_or, false, true, Result, Ok, Err, IfOk, OnErr}
 use Rattle.std.proofs.Common.{sym, ap, ◌∙◌, subst, arith, inl}
 use Rattle.std.proofs.lemmas.Bool.{and_parts, false≢true}
 use Rattle.std.proofs.lemmas.Option.{none-some}
 use Rattle.sg_kinds.specs.Terms.{Term, Leaf, Node, nodes_of}
 use Rattle.sg_kinds.specs.Fits.{Fits}
+use Rattle.sg_kinds.specs.InView.{in_view}
 use Rattle.sg_kinds.specs.Sound.{IsSmall}
 use Rattle.sg_kinds.specs.Places.{Place, place_of, put, sub}
 use Rattle.sg_kinds.specs.declared.spec.Spec.{Spec}
@@ -31,6 +32,7 @@ use Rattle.sg_changes.specs.Changes.{marked, marks_at, marks_of, part_of, spot_a
 use Rattle.sg_changes.specs.Told.{HoldsPart, change_along, hanging, hung}
 use Rattle.sg_changes.specs.declared.direction.Direction.{Direction}
 use Rattle.sg_changes.specs.declared.direction.Direction.TheVariants.{Back, Forth}
+use Rattle.sg_changes.specs.declared.spot.Selection.{Selection}
 use Rattle.sg_changes.specs.declared.spot.Spot.{Spot}
 use Rattle.sg_changes.specs.declared.step.Marks.{Marks}
 use Rattle.sg_changes.specs.declared.step.Step.{Step}
@@ -38,12 +40,18 @@ use Rattle.sg_changes.specs.declared.step.Step.TheVariants.{Replaced, Marked}
 use Rattle.sg_select.specs.Leads.{LeadsTo}
 use Rattle.sg_select.specs.Paths.{there}
 use Rattle.sg_select.specs.RestingPlaces.{is_open, rests, rests_under, stands_resting}
-use Rattle.sg_states.specs.Paged.{IsWhole}
+use Rattle.sg_states.specs.Paged.{IsLook, IsWhole}
+use Rattle.sg_states.specs.Seen.{is_spot, settled_spot}
 use Rattle.sg_states.specs.Selections.{place_in}
-use Rattle.sg_turns.specs.Stepped.{MayStep, coming, seen_along, step_path, step_place}
-use Rattle.sg_turns.specs.Turns.{MayTurn, NotesSome, comes_out, ComesOut, goes_in, made}
+use Rattle.sg_states.proofs.Selecting.{selection_rests}
+use Rattle.sg_states.proofs.Spotted.{spot_selects, spot_stays_in}
+use Rattle.sg_turns.specs.Stepped.{IsStepped, MayStep, coming, seen_along, settled_then, step_path, step_place}
+use Rattle.sg_turns.specs.Turns.{IsSeen, IsTurned, MayTurn, NotesSome, comes_out, ComesOut, goes_in, made}
+use Rattle.sg_turns.specs.declared.stepped.Stepped.{Stepped}
+use Rattle.sg_turns.specs.declared.turns.Turned.{Turned}
 use Rattle.sg_turns.specs.declared.turns.What.{What}
 use Rattle.sg_turns.specs.declared.turns.What.TheVariants.{Tree, Shown}
+use Rattle.sg_turns.proofs.Putting.{seen_as}
 use Rattle.sg_turns.proofs.Trees.{holds_at}
 use Rattle.sg_turns.proofs.Values.{nodes_marked}
 
@@ -85,12 +93,67 @@ pub the_node : (g : Grove) (root m : NodeId) (t x : Term) (u : Place) (o : Optio
 the_node g root m t x u o at leads same = subst (LeadsTo g root (Some u)) same (leads_by g root t x u o at leads)
 
 -- the node at the place of a step
-module _ (g : Grove) (is : IsGrove g) (root : NodeId) (t : Term) (u : Place) (what : What) (spot : Spot) (count : ℕ) (may : MayStep g root t u what spot count) where
+module _ (g : Grove) (is : IsGrove g) (root : NodeId) (t : Term) (u : Place) (what : What) (height : ℕ) (spot : Spot) (count : ℕ) (may : MayStep g root t u what height spot count) where
   pub place_there : (s : Term) × (x : Term) × Holds g root s × (sub s u ≡ Some x)
   place_there = (let part = part_held g is u may.at root t may.may.way may.may.whole.holds in (t, part.0, may.may.whole.holds, part.2))
 
   pub may_here : (n : NodeId) → Climbs (nodes g) u n root → MayTurn g root n what t u
   may_here n way = subst (λ m. MayTurn g root m what t u) (one_node g is u may.at n root may.may.way way) may.may
+
+  -- what is selected then has a place
+  pub place_then : HasPlace (made (term_at g) t u what) (place_in spot.selection)
+  place_then =
+      let now = made (term_at g) t u what in
+      let v = place_in spot.selection in
+      rests_there (in_view g.spec spot.view) now v (selection_rests g.spec spot.view now v spot.selection.count (spot_selects g.spec height now spot may.rests))
+
+-- in its own view the spot stays
+pub same_then : (g : Grove) (root : NodeId) (t : Term) (u : Place) (what : What) (height : ℕ) (spot : Spot) (count : ℕ) → MayStep g root t u what height spot count → spot.view ≡ g.view → settled_then g t u what height spot ≡ spot
+same_then g root t u what height spot count may same = spot_stays_in g.spec height (made (term_at g) t u what) spot g.view same may.rests
+
+-- what holds of each value, or whatever comes
+pub all_ok : {A E : Type 0} (P : A → Type 0) (r : Result A E) → ((a : A) → P a) → IfOk r P
+all_ok P (Ok a) h = h a
+all_ok P (Err e) h = tt
+
+pub all_err : {A E : Type 0} (P : Type 0) (r : Result A E) → P → OnErr r P
+all_err P (Ok a) h = tt
+all_err P (Err e) h = h
+
+-- what came is looked at
+pub seen_then : (old new : Grove) (root at : NodeId) (what : What) (t : Term) (u : Place) (height : ℕ) (select : Selection) (top : ℕ) (r : Turned) → new.spec ≡ old.spec → new.view ≡ old.view → IsTurned old new root at what t u r.root
+    → ((w : Term) → IsWhole new r.root w → IsLook new r.root w (settled_spot new.spec height new.view w select top) r.look) → IsSeen old new root at what t u height select top r
+seen_then old new root at what t u height select top r spec view turned looks =
+    let now = made (term_at old) t u what in
+    record { turned = turned; look = seen_as old new r.root now spec view height select top r.look (looks now turned.whole) }
+
+-- so the step is gone along
+abbrev pub gone_to : NodeId → ℕ → Turned → Stepped
+gone_to out count r = record {
+  out = out;
+  nodes = count;
+  root = r.root;
+  selected = r.look.selected;
+  way = r.look.way;
+  count = r.look.spot.selection.count;
+  top = r.look.spot.top;
+  page = r.look.page;
+  begins = r.look.begins;
+}
+
+pub stepped_to : (old new : Grove) (root out : NodeId) (what : What) (t : Term) (u : Place) (height count : ℕ) (spot : Spot) (r : Turned) → Climbs (nodes old) u out root → count ≡ nodes_of (made (term_at old) t u what)
+    → IsSeen old new root out what t u height spot.selection spot.top r → IsStepped old new root t u what (settled_then old t u what height spot) (gone_to out count r)
+stepped_to old new root out what t u height count spot r way counted seen = record {
+  way = way;
+  turned = seen.turned;
+  counted = counted;
+  selected = seen.look.selected;
+  path = seen.look.way;
+  count = ap (λ (s : Spot). s.selection.count) seen.look.spot_is;
+  top = ap (λ (s : Spot). s.top) seen.look.spot_is;
+  page = seen.look.page;
+  begins = seen.look.begins;
+}
 
 -- nothing is noted before anything is done
 pub noted_none : (g : Grove) (root : NodeId) (t : Term) (u : Place) (what : What) (was : List Instance) → NotesSome g root t u what was was
@@ -128,9 +191,9 @@ module _ (g : Grove) (is : IsGrove g) (root at : NodeId) (t : Term) (u : Place) 
       counted ∙ sym (nodes_marked t u part.0 m part.2)
 
 -- a tree may come for a subterm, and marks for others
-module _ (g : Grove) (is : IsGrove g) (root : NodeId) (t : Term) (u : Place) (spot : Spot) (count : ℕ) (whole : IsWhole g root t) (fits : Fits g.spec t g.spec.root) (counted : count ≡ nodes_of t) (small : IsSmall t) where
-  pub may_swap : (d : NodeId) (x : Term) (p : ℕ) → IsRoot (nodes g) d → d ≢ root → sub t u ≡ Some x → Fits g.spec x p → Fits g.spec (term_at g d) p → IsSmall (put t u (term_at g d)) → HasPlace (put t u (term_at g d)) (place_in spot.selection) → MayStep g root t u (Tree d) spot count
-  may_swap d x p top apart at stood comes after there =
+module _ (g : Grove) (is : IsGrove g) (root : NodeId) (t : Term) (u : Place) (height : ℕ) (spot : Spot) (count : ℕ) (whole : IsWhole g root t) (fits : Fits g.spec t g.spec.root) (counted : count ≡ nodes_of t) (small : IsSmall t) where
+  pub may_swap : (d : NodeId) (x : Term) (p : ℕ) → IsRoot (nodes g) d → d ≢ root → sub t u ≡ Some x → Fits g.spec x p → Fits g.spec (term_at g d) p → IsSmall (put t u (term_at g d)) → is_spot g.spec height (put t u (term_at g d)) spot ≡ true → MayStep g root t u (Tree d) height spot count
+  may_swap d x p top apart at stood comes after rests =
       let node = node_held g is u root t x whole.holds at in
       record {
         at = node.0;
@@ -149,7 +212,7 @@ module _ (g : Grove) (is : IsGrove g) (root : NodeId) (t : Term) (u : Place) (sp
         counted = counted;
         small = small;
         after = after;
-        there = there;
+        rests = rests;
       }
 
   marks_there : (was : Marks) → marks_at t u ≡ Some was → (x : Term) × (sub t u ≡ Some x) × (marks_of x ≡ Some was)
@@ -163,8 +226,8 @@ module _ (g : Grove) (is : IsGrove g) (root : NodeId) (t : Term) (u : Place) (sp
   an_operator (Leaf p v) was at none = none-some was at
   an_operator (Node op scheme elided ts) was at none = none-some op (sym none)
 
-  pub may_mark : (was m : Marks) → marks_at t u ≡ Some was → m.scheme < 16 → IsSmall (marked t u m) → HasPlace (marked t u m) (place_in spot.selection) → MayStep g root t u (Shown m) spot count
-  may_mark was m at low after there =
+  pub may_mark : (was m : Marks) → marks_at t u ≡ Some was → m.scheme < 16 → IsSmall (marked t u m) → is_spot g.spec height (marked t u m) spot ≡ true → MayStep g root t u (Shown m) height spot count
+  may_mark was m at low after rests =
       let old = marks_there was at in
       let node = node_held g is u root t old.0 whole.holds old.1 in
       record {
@@ -178,7 +241,7 @@ module _ (g : Grove) (is : IsGrove g) (root : NodeId) (t : Term) (u : Place) (sp
         counted = counted;
         small = small;
         after = after;
-        there = there;
+        rests = rests;
       }
 
 -- what comes where a way goes along a step, and what is seen there

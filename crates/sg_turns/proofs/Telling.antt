@@ -12,7 +12,7 @@ use Rattle.sg_forest.specs.Trees.{Climbs, IsChild, IsRoot}
 use Rattle.sg_forest.proofs.Laws.{ways_over}
 use Rattle.sg_forest.proofs.Paths.{one_parent, root_is_no_child}
 use Rattle.sg_groves.specs.Evaluated.{IsAtOrBelow}
-use Rattle.sg_groves.specs.Grove.{Grove, nodes, IsGrove}
+use Rattle.sg_groves.specs.Grove.{Grove, nodes, spec_shown, IsGrove}
 use Rattle.sg_groves.specs.TermAt.{term_at}
 use Rattle.sg_groves.specs.Unchanged.{OnlyStored}
 use Rattle.sg_groves.proofs.Frames.{only_climbs}
@@ -44,30 +44,30 @@ nat_cases (suc m) zero = inr (omega arith)
 nat_cases (suc m) (suc n) = elim (nat_cases m n) [ inl h ↦ inl (omega (arith, h)) | inr h ↦ inr (omega (arith, h)) ]
 
 module _ (g : Grove) (is : IsGrove g) (root at : NodeId) where
-  if_told : {E : Type 0} (t : Term) (p v : Place) (above : NodeId) (r : Result (Option Before) E) → rests g.spec t v ≡ true → IfOk r (λ o. IfSome o (λ b. (b.above ≡ above) × IsAtOrBelow v p × WillForetell g.spec t p b))
-      → IfOk r (λ o. IfSome o (λ b. (is_open g.spec t p ≡ true) × WillForetell g.spec t p b))
+  if_told : {E : Type 0} (t : Term) (p v : Place) (above : NodeId) (r : Result (Option Before) E) → rests (spec_shown g) t v ≡ true → IfOk r (λ o. IfSome o (λ b. (b.above ≡ above) × IsAtOrBelow v p × WillForetell g.spec g.view t p b))
+      → IfOk r (λ o. IfSome o (λ b. (is_open (spec_shown g) t p ≡ true) × WillForetell g.spec g.view t p b))
   if_told t p v above (Err e) rest h = tt
-  if_told t p v above (Ok o) rest h = if_some (λ (b : Before). (b.above ≡ above) × IsAtOrBelow v p × WillForetell g.spec t p b) (λ b. (is_open g.spec t p ≡ true) × WillForetell g.spec t p b) o
-      (λ b h. (above_rests g.spec t v p h.1 rest, h.2)) h
+  if_told t p v above (Ok o) rest h = if_some (λ (b : Before). (b.above ≡ above) × IsAtOrBelow v p × WillForetell g.spec g.view t p b) (λ b. (is_open (spec_shown g) t p ≡ true) × WillForetell g.spec g.view t p b) o
+      (λ b h. (above_rests (spec_shown g) t v p h.1 rest, h.2)) h
 
   -- before
   pub told_first : {E : Type 0} (k : Known) (t : Term) (u : Place) (above : NodeId) (j : ℕ) (r : Result (Option Before) E) → IsKnown g root k → IsWhole g root t → Climbs (nodes g) u at root → IsChild (nodes g) at above j
-      → ((y : Term) (p v : Place) → IsWhole g root y → Climbs (nodes g) p above root → Climbs (nodes g) v k.selected root → Begins g.spec y v k.begins → k.count ≡ nodes_of y → IfOk r (λ o. IfSome o (λ b. (b.above ≡ above) × IsAtOrBelow v p × WillForetell g.spec y p b)))
-      → IfOk r (λ o. IfSome o (WillTell g.spec t u))
+      → ((y : Term) (p v : Place) → IsWhole g root y → Climbs (nodes g) p above root → Climbs (nodes g) v k.selected root → Begins g.spec g.view y v k.begins → k.count ≡ nodes_of y → IfOk r (λ o. IfSome o (λ b. (b.above ≡ above) × IsAtOrBelow v p × WillForetell g.spec g.view y p b)))
+      → IfOk r (λ o. IfSome o (WillTell g.spec g.view t u))
   told_first k t [] above j r known whole same child tells = absurd (root_is_no_child (nodes g) at above j (subst (IsRoot (nodes g)) (sym same) whole.top) child)
   told_first k t (i ∷ p) above j r known whole climbs child tells =
       let one = one_parent (nodes g) at above climbs.0 j i child climbs.1 in
       let same : known.term ≡ t = one_term g root known.term t known.whole.holds whole.holds in
-      if_told t p known.place above r (subst (λ z. rests g.spec z known.place ≡ true) same known.rests)
-      (tells t p known.place whole (subst (λ z. Climbs (nodes g) p z root) (sym one.0) climbs.2) known.way (subst (λ z. Begins g.spec z known.place k.begins) same known.begins) (known.counted ∙ ap nodes_of same))
+      if_told t p known.place above r (subst (λ z. rests (spec_shown g) z known.place ≡ true) same known.rests)
+      (tells t p known.place whole (subst (λ z. Climbs (nodes g) p z root) (sym one.0) climbs.2) known.way (subst (λ z. Begins g.spec g.view z known.place k.begins) same known.begins) (known.counted ∙ ap nodes_of same))
 
   -- and after
-  pub told_then : (b : Before) (t s : Term) (u : Place) (above : NodeId) (j : ℕ) (reach : NodeId) → IsWhole g root (put t u s) → Climbs (nodes g) u at root → Reaches g.spec g root t u s reach → WillTell g.spec t u b → IsChild (nodes g) at above j
+  pub told_then : (b : Before) (t s : Term) (u : Place) (above : NodeId) (j : ℕ) (reach : NodeId) → IsWhole g root (put t u s) → Climbs (nodes g) u at root → Reaches g.spec g root t u s reach → WillTell g.spec g.view t u b → IsChild (nodes g) at above j
       → IsNear g at above reach → IsForetold g root (record { above = above; old = b.old; from = b.from; margin = b.margin })
   told_then b t s [] above j reach whole same reaches tells child near = absurd tells
   told_then b t s (k ∷ p) above j reach whole climbs reaches tells child near =
       let told = tells.1 (k ∷ []) s (λ e. cc) (elim near [ inl is_at ↦ alike_at is_at | inr is_above ↦ alike_above is_above.0 is_above.1 ]) in
-      record { term = (put t (k ∷ p) s); place = p; whole = whole; way = to; reached = open_above g.spec t k p s ∙ tells.0; tells = record { tells = told.tells } }
+      record { term = (put t (k ∷ p) s); place = p; whole = whole; way = to; reached = open_above (spec_shown g) t k p s ∙ tells.0; tells = record { tells = told.tells } }
     where
       one : (above ≡ climbs.0) × (j ≡ k)
       one = one_parent (nodes g) at above climbs.0 j k child climbs.1

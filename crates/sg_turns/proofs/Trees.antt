@@ -38,7 +38,7 @@ pub holds_at : (g : Grove) → IsGrove g → (n : NodeId) → IsLive (nodes g) n
 holds_at g is n live = (let h = live_holds g is n live in subst (Holds g n) (sym (held_at g is n h.0 h.1)) h.1)
 
 pub kept_still : (g : Grove) (root : NodeId) → KeepsTree g g root
-kept_still g root = record { spec = refl; pool = grown_same g.pool g.pool refl; nodes = λ n inside. refl }
+kept_still g root = record { spec = refl; view = refl; pool = grown_same g.pool g.pool refl; nodes = λ n inside. refl }
 
 module _ (old new : Grove) (root : NodeId) (k : KeepsTree old new root) where
   pub climbs_on : (u : Place) (n : NodeId) → Climbs (nodes old) u n root → Climbs (nodes new) u n root
@@ -144,12 +144,14 @@ module _ (old new : Grove) (root : NodeId) (k : KeepsTree old new root) where
     pub page_on : (t : Term) (typed : Place → Option Bytes) → page_seen new root t typed ≡ page_seen old root t typed
     unfolding page_seen
     page_on t typed =
-        ap (λ (s : Spec). sheet_of (node_along new root) (marks_seen s t typed)) k.spec
-        ∙ (let same : node_along new root ≡ node_along old root = λ i u. along_on u i in ap (λ f. sheet_of f (marks_seen old.spec t typed)) same)
+        ap (λ (s : Spec). sheet_of (node_along new root) (marks_seen s new.view t typed)) k.spec
+        ∙ ap (λ v. sheet_of (node_along new root) (marks_seen old.spec v t typed)) k.view
+        ∙ (let same : node_along new root ≡ node_along old root = λ i u. along_on u i in ap (λ f. sheet_of f (marks_seen old.spec old.view t typed)) same)
 
 pub kept_twice : (old mid new : Grove) (root : NodeId) → KeepsTree old mid root → KeepsTree mid new root → KeepsTree old new root
 kept_twice old mid new root one two = record {
   spec = two.spec ∙ one.spec;
+  view = two.view ∙ one.view;
   pool = grown_twice old.pool mid.pool new.pool one.pool two.pool;
   nodes = λ n inside. two.nodes n (record { path = inside.path; climbs = climbs_on old mid root one inside.path n inside.climbs }) ∙ one.nodes n inside;
 }

@@ -6,12 +6,13 @@ use Rattle.sg_kinds.specs.Terms.{Term, Leaf, Node}
 use Rattle.sg_kinds.specs.declared.spec.Operator.{Operator}
 use Rattle.sg_kinds.specs.declared.spec.Spec.{Spec}
 use Rattle.sg_kinds.proofs.Elementary.{lt_is, lt_true, slice_get-All}
+use Rattle.sg_kinds.proofs.InView.{few_in_views}
 use Rattle.sg_forest.specs.declared.node_id.NodeId.{NodeId}
 use Rattle.sg_forest.specs.Node as forest
 use Rattle.sg_forest.specs.Trees.{IsLive}
 use Rattle.sg_groves.specs.declared.kind.Kind.{Kind}
 use Rattle.sg_groves.specs.declared.part.Part.{Part}
-use Rattle.sg_groves.specs.Grove.{Grove, nodes, IsGrove, IsLeaf, IsOperation}
+use Rattle.sg_groves.specs.Grove.{Grove, nodes, spec_shown, IsGrove, IsLeaf, IsOperation}
 use Rattle.sg_groves.specs.Holds.{Holds}
 use Rattle.sg_groves.proofs.Held.{live_holds}
 use Rattle.sg_terms.specs.Found.{op_at}
@@ -58,10 +59,10 @@ few_in spec (Leaf p v) all = omega arith
 few_in spec (Node op n elided ts) all = few_of spec op all
 
 module _ (g : Grove) (is : IsGrove g) (n : NodeId) (live : IsLive (nodes g) n) where
-  pub few_schemes : (r : ℕ) → ((t : Term) → Holds g n t → r ≡ scheme_count g.spec t) → r ≤ 16
+  pub few_schemes : (r : ℕ) → ((t : Term) → Holds g n t → r ≡ scheme_count (spec_shown g) t) → r ≤ 16
   few_schemes r told =
       let h = live_holds g is n live in
-      subst (λ k. k ≤ 16) (sym (told h.0 h.1)) (few_in g.spec h.0 is.sound.counted.schemes)
+      subst (λ k. k ≤ 16) (sym (told h.0 h.1)) (few_in (spec_shown g) h.0 (few_in_views g.spec g.view is.sound.counted))
 
   op_here : live.node.label.op ≡ op_at g n
   op_here = sym (ap (option_and_then (λ (x : forest.Node Kind Part). x.label.op)) live.found)

@@ -2,11 +2,12 @@
 use Rattle.std.specs.Prelude.{◌≡◌, true, ◌⊎◌, ℕ, [], ◌∷◌, Some}
 use Rattle.sg_kinds.specs.Terms.{Term, nodes_of}
 use Rattle.sg_kinds.specs.Places.{Place}
+use Rattle.sg_kinds.specs.InView.{in_view}
 use Rattle.sg_kinds.specs.Specification.{locals_of}
 use Rattle.sg_kinds.specs.declared.spec.Spec.{Spec}
 use Rattle.sg_forest.specs.declared.node_id.NodeId.{NodeId}
 use Rattle.sg_forest.specs.Trees.{Climbs, IsRoot}
-use Rattle.sg_groves.specs.Grove.{Grove, nodes}
+use Rattle.sg_groves.specs.Grove.{Grove, nodes, spec_shown}
 use Rattle.sg_groves.specs.TermAt.{term_at}
 use Rattle.sg_terms.specs.Found.{op_at}
 use Rattle.sg_select.specs.RestingPlaces.{is_open, rests}
@@ -22,15 +23,15 @@ pub record IsKnown (g : Grove) (root : NodeId) (k : Known) : Type 0 where
   pub place : Place
   pub whole : IsWhole g root term
   pub way : Climbs (nodes g) place k.selected root
-  pub rests : rests g.spec term place ≡ true
-  pub begins : Begins g.spec term place k.begins
+  pub rests : rests (spec_shown g) term place ≡ true
+  pub begins : Begins g.spec g.view term place k.begins
   pub counted : k.count ≡ nodes_of term
 
 -- the node above a place can be reached, and tells where nodes begin once the term changed at that place; the root has
 -- none above
-abbrev pub WillTell : Spec → Term → Place → Before → Type 0
-WillTell spec t [] b = ⊥
-WillTell spec t (k ∷ p) b = (is_open spec t p ≡ true) × WillForetell spec t p b
+abbrev pub WillTell : Spec → ℕ → Term → Place → Before → Type 0
+WillTell spec v t [] b = ⊥
+WillTell spec v t (k ∷ p) b = (is_open (in_view spec v) t p ≡ true) × WillForetell spec v t p b
 
 -- a node hangs under another, and its operator has no locals
 pub record HasAttributesOnly (g : Grove) (n : NodeId) : Type 0 where

@@ -9,8 +9,7 @@ use Rattle.sg_groves.specs.Grove.{Grove, nodes}
 use Rattle.sg_groves.specs.Holds.{Holds}
 use Rattle.sg_changes.specs.Changes.{part_of}
 use Rattle.sg_changes.specs.declared.spot.Selection.{Selection}
-use Rattle.sg_states.specs.Selections.{settled_selection}
-use Rattle.sg_states.specs.Seen.{seen}
+use Rattle.sg_states.specs.Seen.{settled_spot}
 use Rattle.sg_states.specs.Paged.{IsWhole, IsLook}
 use Rattle.sg_turns.specs.Roots.{AreTheRoots}
 use Rattle.sg_turns.specs.declared.turns.Turned.{Turned}
@@ -28,8 +27,7 @@ pub record MayPut (g : Grove) (root at : NodeId) (t : Term) (u : Place) (s : Ter
 pub record IsPut (old new : Grove) (root at : NodeId) (t : Term) (u : Place) (s : Term) (height : ℕ) (select : Selection) (top : ℕ) (r : Turned) : Type 0 where
   pub whole : IsWhole new r.root (put t u s)
   pub fits : Fits old.spec (put t u s) old.spec.root
-  pub look : IsLook new r.root (put t u s)
-      (seen old.spec height (put t u s) (settled_selection old.spec (put t u s) select) top) r.look
+  pub look : IsLook new r.root (put t u s) (settled_spot old.spec height old.view (put t u s) select top) r.look
   pub hanging : (n : NodeId) (x : Term) → IsRoot (nodes old) n → n ≢ root → Holds old n x → Holds new n x
   pub out : Holds new at (part_of t u)
   pub roots : (rest : List NodeId) → AreTheRoots old (root ∷ rest) → AreTheRoots new (r.root ∷ (at ∷ rest))

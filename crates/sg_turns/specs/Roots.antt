@@ -18,12 +18,14 @@ pub record AreTheRoots (g : Grove) (ns : List NodeId) : Type 0 where
 -- the tree of a root is the same in another grove, whose pool may have grown
 pub record KeepsTree (old new : Grove) (root : NodeId) : Type 0 where
   pub spec : new.spec ≡ old.spec
+  pub view : new.view ≡ old.view
   pub pool : IsGrown old.pool new.pool
   pub nodes : (n : NodeId) → IsInside (nodes old) n root → nodes new n ≡ nodes old n
 
 -- the trees of some roots are gone, and nothing else changed
 pub record Drops (old new : Grove) (gone : List NodeId) : Type 0 where
   pub spec : new.spec ≡ old.spec
+  pub view : new.view ≡ old.view
   pub pool : new.pool ≡ old.pool
   pub keeps : (n : NodeId) → IsRoot (nodes old) n → times n gone ≡ 0 → KeepsTree old new n
   pub roots : (n : NodeId) → IsRoot (nodes new) n ↔ (IsRoot (nodes old) n × (times n gone ≡ 0))

@@ -17,8 +17,7 @@ use Rattle.sg_groves.specs.TermAt.{term_at}
 use Rattle.sg_terms.specs.Entries.{GainedAll}
 use Rattle.sg_changes.specs.Changes.{part_of, marked}
 use Rattle.sg_changes.specs.declared.spot.Selection.{Selection}
-use Rattle.sg_states.specs.Selections.{settled_selection}
-use Rattle.sg_states.specs.Seen.{seen}
+use Rattle.sg_states.specs.Seen.{settled_spot}
 use Rattle.sg_states.specs.Paged.{IsWhole, IsLook}
 use Rattle.sg_turns.specs.Noted.{NotedPut}
 use Rattle.sg_turns.specs.Roots.{AreTheRoots}
@@ -81,7 +80,7 @@ pub record IsTurned (old new : Grove) (root at : NodeId) (what : What) (t : Term
 pub record IsSeen (old new : Grove) (root at : NodeId) (what : What) (t : Term) (u : Place) (height : ℕ) (select : Selection) (top : ℕ) (r : Turned) : Type 0 where
   pub turned : IsTurned old new root at what t u r.root
   pub look : IsLook new r.root (made (term_at old) t u what)
-      (seen old.spec height (made (term_at old) t u what) (settled_selection old.spec (made (term_at old) t u what) select) top) r.look
+      (settled_spot old.spec height old.view (made (term_at old) t u what) select top) r.look
 
 -- the journal gained just what the exchange evaluates, and nothing for marks
 abbrev pub Notes : Grove → Grove → NodeId → Term → Place → What → List Instance → List Instance → Type 0

@@ -66,6 +66,7 @@ fn attributed(
     requires fits { Fits spec.now t.now spec.now.root }
     requires small { IsSmall t.now }
     ensures spec { IfOk result (λ r. r.0.spec ≡ spec.now) }
+    ensures view { IfOk result (λ r. r.0.view ≡ 0) }
     ensures whole { IfOk result (λ r. IsWhole r.0 r.1 t.now) }
     ensures roots { IfOk result (λ r. AreTheRoots r.0 (r.1 ∷ [])) }
     ensures evaluated { IfOk result (λ r. GainedAll r.0 r.1 t.now (Contains (instances (rules_of spec.now) t.now))
@@ -84,7 +85,7 @@ fn attributed(
     Ok((terms, root))
 }
 
-/// A term with its values, in terms of its own, and room for so many steps. The term is in the limits and
+/// A term with its values, in terms of its own and the ordinary view, and room for so many steps. The term is in the limits and
 /// of the root's phylum. Without memory some of the equations may be evaluated.
 pub fn begin(
     alloc: Global,
@@ -102,6 +103,7 @@ pub fn begin(
     requires small { IsSmall t.now }
     requires room { 0 < steps }
     ensures spec { IfOk result (λ r. r.terms.spec ≡ spec.now) }
+    ensures view { IfOk result (λ r. r.terms.view ≡ 0) }
     ensures grove { IfOk result (λ r. IsGrove r.terms) }
     ensures whole { IfOk result (λ r. IsWhole r.terms r.root t.now) }
     ensures roots { IfOk result (λ r. AreTheRoots r.terms (r.root ∷ [])) }

@@ -2,7 +2,7 @@
 ghost use Rattle.std.specs.Prelude.{◌≡◌, ◌≢◌, ◌<◌, ◌≤◌, None, Some, IfSome, MatchOption};
 ghost use Rattle.sg_kinds.specs.Terms.{Term};
 ghost use Rattle.sg_forest.specs.Trees.{IsLive};
-ghost use Rattle.sg_groves.specs.Grove.{nodes};
+ghost use Rattle.sg_groves.specs.Grove.{nodes, spec_shown};
 ghost use Rattle.sg_groves.specs.Holds.{Holds};
 ghost use Rattle.sg_changes.specs.Changes.{marks_of};
 ghost use Rattle.sg_states.specs.Turned.{turned, turned_in};
@@ -50,8 +50,8 @@ fn turned(mark: Mark, count: usize, marks: Marks) -> Option<Marks>
 /// operator has no other scheme.
 pub fn turned_marks(terms: &Terms, n: NodeId, mark: Mark) -> Option<Remark>
     requires { IsLive (nodes terms.now) n }
-    ensures turned { (t : Term) → Holds terms.now n t → MatchOption result (turned_in terms.now.spec mark t ≡ None)
-        (λ r. (marks_of t ≡ Some r.old) × (turned_in terms.now.spec mark t ≡ Some r.new)) }
+    ensures turned { (t : Term) → Holds terms.now n t → MatchOption result (turned_in (spec_shown terms.now) mark t ≡ None)
+        (λ r. (marks_of t ≡ Some r.old) × (turned_in (spec_shown terms.now) mark t ≡ Some r.new)) }
     ensures operator { IfSome result (λ r. (x : _) → nodes terms.now n ≡ Some x → x.label.op ≢ None) }
     ensures scheme { IfSome result (λ r. (r.old.scheme < 16) × (r.new.scheme < 16)) }
 {

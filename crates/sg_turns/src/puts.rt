@@ -41,14 +41,22 @@ pub fn node_at(terms: &Terms, root: NodeId, path: &Path, near: NodeId, way: &Pat
     node_near(terms, root, path.as_slice(), near, way.as_slice()).unwrap()
 }
 
-/// A spot: so many nodes from the node at a path on, in a window from a line on.
-pub fn spot_at(alloc: Global, path: &Path, count: usize, top: usize) -> Result<Spot, NoMemory>
-    ensures { IfOk result (λ s. s ≡ record { selection = record { path = path.now; count = count }; top = top }) }
+/// A spot: so many nodes from the node at a path on, in a window from a line on, in a view.
+pub fn spot_at(
+    alloc: Global,
+    path: &Path,
+    count: usize,
+    top: usize,
+    view: u32,
+) -> Result<Spot, NoMemory>
+    ensures { IfOk result (λ s. s
+        ≡ record { selection = record { path = path.now; count = count }; top = top; view = view }) }
 {
     let path = path.copy(alloc)?;
     Ok(Spot {
         selection: Selection { path, count },
         top,
+        view,
     })
 }
 
@@ -85,6 +93,7 @@ pub fn put_term(
         (NotedPut terms.old root None whole u t.now (now_of journal.old) (now_of journal.new)) }
     ensures as_before { OnErr result ((n : _) → nodes terms.new n ≡ nodes terms.old n) }
     ensures spec { terms.new.spec ≡ terms.old.spec }
+    ensures view { terms.new.view ≡ terms.old.view }
     ensures grown { IsGrown terms.old.pool terms.new.pool }
     ensures total { total_of journal.new ≡ total_of journal.old }
 {

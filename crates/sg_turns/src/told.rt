@@ -48,7 +48,7 @@ pub(crate) fn told_before(
     requires live { IsLive (nodes terms.now) at }
     requires known { IfSome known (IsKnown terms.now root) }
     ensures { (t : Term) (u : Place) → IsWhole terms.now root t → Climbs (nodes terms.now) u at root
-        → IfOk result (λ r. IfSome r (WillTell terms.now.spec t u)) }
+        → IfOk result (λ r. IfSome r (WillTell terms.now.spec terms.now.view t u)) }
 {
     terms.facts();
     let Some(known) = known else {
@@ -116,7 +116,7 @@ pub(crate) fn told_after(
 ) -> Option<Before>
     requires { IsLive (nodes terms.now) at }
     ensures { (t s : Term) (u : Place) → IsWhole terms.now root (put t u s) → Climbs (nodes terms.now) u at root
-        → Reaches terms.now.spec terms.now root t u s reach → IfSome before (WillTell terms.now.spec t u)
+        → Reaches terms.now.spec terms.now root t u s reach → IfSome before (WillTell terms.now.spec terms.now.view t u)
         → IfSome result (IsForetold terms.now root) }
 {
     terms.facts();

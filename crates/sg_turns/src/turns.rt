@@ -88,6 +88,7 @@ pub fn exchanged(
     ensures leads_back { IfOk result (λ r. LeadsBack terms.old terms.new r.trail) }
     ensures as_before { OnErr result ((n : _) → nodes terms.new n ≡ nodes terms.old n) }
     ensures spec { terms.new.spec ≡ terms.old.spec }
+    ensures view { terms.new.view ≡ terms.old.view }
     ensures grown { IsGrown terms.old.pool terms.new.pool }
     ensures total { total_of journal.new ≡ total_of journal.old }
 {
@@ -123,6 +124,7 @@ fn put_marks(terms: &mut Terms, n: NodeId, marks: Marks)
     ensures others { KeepsTermsWithout terms.old terms.new n }
     ensures numbers { (m : _) (slot : ℕ) → number_at terms.new m slot ≡ number_at terms.old m slot }
     ensures spec { terms.new.spec ≡ terms.old.spec }
+    ensures view { terms.new.view ≡ terms.old.view }
     ensures pool { terms.new.pool ≡ terms.old.pool }
 {
     terms.set_scheme(n, marks.scheme);
@@ -146,6 +148,7 @@ pub fn remarked(
         (IsSeen terms.old terms.new root at (What.Shown marks) t u height select.now top) }
     ensures as_before { OnErr result ((n : _) → nodes terms.new n ≡ nodes terms.old n) }
     ensures spec { terms.new.spec ≡ terms.old.spec }
+    ensures view { terms.new.view ≡ terms.old.view }
     ensures grown { IsGrown terms.old.pool terms.new.pool }
 {
     terms.facts();
@@ -189,6 +192,7 @@ pub fn turn(
         (NotesSome terms.old root t u what (now_of journal.old) (now_of journal.new)) }
     ensures as_before { OnErr result ((n : _) → nodes terms.new n ≡ nodes terms.old n) }
     ensures spec { terms.new.spec ≡ terms.old.spec }
+    ensures view { terms.new.view ≡ terms.old.view }
     ensures grown { IsGrown terms.old.pool terms.new.pool }
     ensures total { total_of journal.new ≡ total_of journal.old }
 {

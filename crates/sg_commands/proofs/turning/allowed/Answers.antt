@@ -52,6 +52,13 @@ returns-in-Goto-clause-did c = λ reads are.
     subst (λ x. IfOk c.pick.result (λ m. Did (allowed_turn b.grove.spec b.height reads c.args.clip.now (state_of b) x) m c.pick.new.buffer c.args.clip.now was was))
     (sym c.in-Goto.is) (c.pick.ensures.did c.args.clip.now was)
 
+pub returns-in-View-clause-did : goal.returns-in-View-clause-did
+returns-in-View-clause-did c = λ reads are.
+    let b = c.args.buffer.now in
+    let was = now_of c.args.journal.now in
+    subst (λ x. IfOk c.view.result (λ m. Did (allowed_turn b.grove.spec b.height reads c.args.clip.now (state_of b) x) m c.view.new.buffer c.args.clip.now was was))
+    (sym c.in-View.is) (c.view.ensures.did c.args.clip.now was)
+
 pub returns-in-Extend-clause-did : goal.returns-in-Extend-clause-did
 returns-in-Extend-clause-did c = λ reads are.
     let b = c.args.buffer.now in

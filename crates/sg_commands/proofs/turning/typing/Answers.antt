@@ -242,6 +242,13 @@ returns-in-Next-23-clause-did c = λ x at reads are clip.
     subst (λ t. Did t message.InText b clip was was)
     (sym (typing_waits b.grove.spec b.height reads clip (state_of b) c.args.command.now x c.in-Next.is)) (refused_did b b clip was was message.InText refl refl)
 
+pub returns-in-Next-24-clause-did : goal.returns-in-Next-24-clause-did
+returns-in-Next-24-clause-did c = λ x at reads are clip.
+    let b = c.args.buffer.now in
+    let was = now_of c.args.journal.now in
+    subst (λ t. Did t message.InText b clip was was)
+    (sym (typing_waits b.grove.spec b.height reads clip (state_of b) c.args.command.now x c.in-Next.is)) (refused_did b b clip was was message.InText refl refl)
+
 pub returns-in-Erase-clause-did : goal.returns-in-Erase-clause-did
 returns-in-Erase-clause-did c = λ x at reads are clip.
     let b = c.args.buffer.now in

@@ -7,5 +7,5 @@ use Rattle.sg_states.proofs.begins.begins_alone.Goals as goal
 pub returns : goal.returns
 returns c = λ root t x p v whole way to at.
     let page = c.in_ok-page.page in
-    if_some (λ b. (begins_on page c.args.n ≡ Some b) × (b.cells < 1048576)) (BeginsAlone c.args.terms.now.spec t p x v) c.told.result
+    if_some (λ b. (begins_on page c.args.n ≡ Some b) × (b.cells < 1048576)) (BeginsAlone c.args.terms.now.spec c.args.terms.now.view t p x v) c.told.result
     (λ b h. begun_alone c.args.terms.now c.facts.ensures root t whole p v x c.args.above c.args.n page b way to at c.in_ok-page.ensures h.0 h.1) c.told.ensures

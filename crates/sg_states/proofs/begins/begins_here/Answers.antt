@@ -6,5 +6,5 @@ use Rattle.sg_states.proofs.begins.begins_here.Goals as goal
 
 pub returns : goal.returns
 returns c = λ root t u whole way page.
-    if_some (λ b. (begins_on c.args.page.now c.args.n ≡ Some b) × (b.cells < 1048576)) (Begins c.args.terms.now.spec t u) c.told.result
+    if_some (λ b. (begins_on c.args.page.now c.args.n ≡ Some b) × (b.cells < 1048576)) (Begins c.args.terms.now.spec c.args.terms.now.view t u) c.told.result
     (λ b h. begun_here c.args.terms.now c.facts.ensures root t whole u c.args.n c.args.page.now b way page h.0 h.1) c.told.ensures

@@ -8,10 +8,10 @@ use Rattle.sg_states.proofs.looks.find_line.Goals as goal
 
 pub returns-in-Some : goal.returns-in-Some
 returns-in-Some c = λ t u whole way.
-    let begins = subst (λ o. IfSome o (Begins c.args.terms.now.spec t u)) c.in-Some.is (c.in_ok-begins.ensures.begins t u whole way) in
+    let begins = subst (λ o. IfSome o (Begins c.args.terms.now.spec c.args.terms.now.view t u)) c.in-Some.is (c.in_ok-begins.ensures.begins t u whole way) in
     let few = subst (λ o. IfSome o (λ (b : Beginning). (b.cells ≤ 1048576) × (b.newlines ≤ 1048576))) c.in-Some.is c.in_ok-begins.ensures.few in
     record {
-      line = line_is c.args.terms.now.spec t u c.in-Some.begins (c.in-Some.begins.newlines + 1) begins few.0 refl;
+      line = line_is c.args.terms.now.spec c.args.terms.now.view t u c.in-Some.begins (c.in-Some.begins.newlines + 1) begins few.0 refl;
       page = tt;
       begins = begins;
     }

@@ -44,7 +44,7 @@ returns-in-Ok-look_after-clause-put c = λ whole u may.
     let e = c.in-Ok.ensures in
     let turns = may_turn c.args.terms.now c.build.new.terms c.facts.ensures c.facts-2.ensures c.args.root c.args.at c.in-Ok.built e.grew whole u c.args.t.now may e.terms e.held in
     put_now c.args.terms.now c.build.new.terms c.facts.ensures c.facts-2.ensures c.args.root c.args.at c.in-Ok.built e.grew whole u c.args.t.now may e.terms e.held
-    c.exchanged.new.terms c.in-Ok-exchanged.ensures.spec c.args.height c.args.select.now c.args.top (record { root = c.in-Ok-exchanged.done.root; look = c.in-Ok-look_after.look }) (c.in-Ok-exchanged.ensures.turned whole u turns) c.in-Ok-look_after.ensures
+    c.exchanged.new.terms c.in-Ok-exchanged.ensures.spec c.in-Ok-exchanged.ensures.view c.args.height c.args.select.now c.args.top (record { root = c.in-Ok-exchanged.done.root; look = c.in-Ok-look_after.look }) (c.in-Ok-exchanged.ensures.turned whole u turns) c.in-Ok-look_after.ensures
 
 pub returns-in-Ok-look_after-clause-noted : goal.returns-in-Ok-look_after-clause-noted
 returns-in-Ok-look_after-clause-noted c = λ whole u may.
@@ -104,4 +104,5 @@ look_after-requires-clause-before c =
     let tells = c.in_ok-before.ensures m.0 m.1 m.2.whole m.2.way in
     c.told_after-before.ensures m.0 (term_at mid c.in-Ok.built) m.1 (x.turned m.0 m.1 turns).whole reach.way
     (subst (λ (z : Spec). Reaches z new c.in-Ok-exchanged.done.root m.0 m.1 (term_at mid c.in-Ok.built) c.in-Ok-exchanged.done.reach) (sym x.spec) reach.reaches)
-    (subst (λ (z : Spec). IfSome c.in_ok-before.before (WillTell z m.0 m.1)) (sym (x.spec ∙ e.grew.spec)) tells)
+    (subst (λ v. IfSome c.in_ok-before.before (WillTell new.spec v m.0 m.1)) (sym (x.view ∙ e.grew.view))
+    (subst (λ (z : Spec). IfSome c.in_ok-before.before (WillTell z c.args.terms.now.view m.0 m.1)) (sym (x.spec ∙ e.grew.spec)) tells))

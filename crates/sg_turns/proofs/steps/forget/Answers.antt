@@ -10,7 +10,7 @@ pub returns-in-Some : goal.returns-in-Some
 returns-in-Some c =
     let e = c.drop_tree.ensures in
     subst (Drops c.args.terms.now c.drop_tree.new.self) c.in-Some.ensures
-    (drops_one c.args.terms.now c.drop_tree.new.self c.in-Some.top c.facts.ensures (hung_root c.args.terms.now _ c.in-Some.top c.in-Some.ensures c.requires) e.dropped e.roots e.spec e.pool)
+    (drops_one c.args.terms.now c.drop_tree.new.self c.in-Some.top c.facts.ensures (hung_root c.args.terms.now _ c.in-Some.top c.in-Some.ensures c.requires) e.dropped e.roots e.spec e.view e.pool)
 
 pub returns-in-None : goal.returns-in-None
 returns-in-None c = subst (Drops c.args.terms.now c.args.terms.now) c.in-None.ensures (drops_none c.args.terms.now)

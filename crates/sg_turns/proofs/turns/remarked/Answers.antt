@@ -46,7 +46,7 @@ returns-in-Ok-clause-turned c = λ t u may.
     let l = marked_live g c.facts.ensures c.args.root c.args.at c.args.marks t u may in
     let e = c.put_marks.ensures in
     let shape = KeepsShape-part_set (nodes g) (nodes c.put_marks.new.terms) c.args.at _ l (e.set l.node l.found) in
-    marked_seen g c.facts.ensures c.args.root c.args.at c.args.marks t u may c.put_marks.new.terms c.facts-2.ensures e.spec e.pool shape e.over e.others e.numbers c.args.height c.args.select.now c.args.top c.in-Ok.look c.in-Ok.ensures
+    marked_seen g c.facts.ensures c.args.root c.args.at c.args.marks t u may c.put_marks.new.terms c.facts-2.ensures e.spec e.pool shape e.over e.others e.numbers e.view c.args.height c.args.select.now c.args.top c.in-Ok.look c.in-Ok.ensures
 
 pub returns-in-Err-clause-as_before : goal.returns-in-Err-clause-as_before
 returns-in-Err-clause-as_before c =

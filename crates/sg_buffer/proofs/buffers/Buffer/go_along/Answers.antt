@@ -36,14 +36,14 @@ step_along-requires-clause-near c = way_there (held c.self.inside) c.self.inside
 pub invariant_of-self : goal.invariant_of-self
 invariant_of-self c =
     let e = c.in_err-went.ensures in
-    (kept_here (held c.self.inside) c.self.inside.nodes c.self.inside.history.room c.self.inside.page c.self.inside.standing c.self.invariant c.step_along.new.terms e.spec e.grown e.as_before c.args.self.now c.self.view_is).0
+    (kept_here (held c.self.inside) c.self.inside.nodes c.self.inside.history.room c.self.inside.page c.self.inside.standing c.self.invariant c.step_along.new.terms e.spec e.view e.grown e.as_before c.args.self.now c.self.view_is).0
 
 pub returns-in_err-went-clause-as_before : goal.returns-in_err-went-clause-as_before
 returns-in_err-went-clause-as_before c =
     let e = c.in_err-went.ensures in
     let p = err_from_is_err_and c.from_residual.result c.from_residual.ensures.1 in
     rw p.1
-    (kept_here (held c.self.inside) c.self.inside.nodes c.self.inside.history.room c.self.inside.page c.self.inside.standing c.self.invariant c.step_along.new.terms e.spec e.grown e.as_before c.args.self.now c.self.view_is).1
+    (kept_here (held c.self.inside) c.self.inside.nodes c.self.inside.history.room c.self.inside.page c.self.inside.standing c.self.invariant c.step_along.new.terms e.spec e.view e.grown e.as_before c.args.self.now c.self.view_is).1
 
 pub returns-in_err-went-clause-noted : goal.returns-in_err-went-clause-noted
 returns-in_err-went-clause-noted c =
@@ -69,7 +69,7 @@ invariant_of-self-2 c =
     let e = c.in_ok-went.ensures in
     let h = c.put_over.ensures s (rest_of steps) first in
     (gone_here (held c.self.inside) c.args.self.now c.self.view_is c.self.inside.nodes c.self.inside.history.room c.self.inside.page c.self.inside.standing c.self.invariant c.args.direction
-    s (rest_of steps) first c.requires.none c.step_along.new.terms c.facts.ensures e.spec c.in_ok-went.went e.stepped c.put_over.new.history
+    s (rest_of steps) first c.requires.none c.step_along.new.terms c.facts.ensures e.spec e.view c.in_ok-went.went e.stepped c.put_over.new.history
     (ap (λ (t : Timeline Step). t.past) h) (ap (λ (t : Timeline Step). t.future) h) (ap (λ (t : Timeline Step). t.room) h)).0
 
 pub returns-clause-went : goal.returns-clause-went
@@ -86,7 +86,7 @@ returns-clause-went c =
       );
       refused = λ never. absurd (cc never);
       done = λ same. (gone_here (held c.self.inside) c.args.self.now c.self.view_is c.self.inside.nodes c.self.inside.history.room c.self.inside.page c.self.inside.standing c.self.invariant c.args.direction
-          s (rest_of steps) first c.requires.none c.step_along.new.terms c.facts.ensures e.spec c.in_ok-went.went e.stepped c.put_over.new.history
+          s (rest_of steps) first c.requires.none c.step_along.new.terms c.facts.ensures e.spec e.view c.in_ok-went.went e.stepped c.put_over.new.history
           (ap (λ (t : Timeline Step). t.past) h) (ap (λ (t : Timeline Step). t.future) h) (ap (λ (t : Timeline Step). t.room) h)).1;
       evaluated = λ same. gained_here (held c.self.inside) c.args.self.now c.self.view_is c.self.inside.nodes c.self.inside.history.room c.self.inside.page c.self.inside.standing c.self.invariant c.args.direction
           s (rest_of steps) first c.step_along.new.terms c.in_ok-went.went.root (now_of c.args.journal.now) (now_of c.step_along.new.journal) e.noted;

@@ -6,10 +6,10 @@ pub invariant_of-result : goal.invariant_of-result
 invariant_of-result c =
     let e = c.in-Ok-begin.ensures in
     let f = c.in-Ok-begin.fresh in
-    (begun_closes f.terms c.args.spec.now f.root c.args.height c.args.t.now c.in-Ok.nodes f.history c.at_root.result c.at_root.ensures e.spec e.grove e.whole c.requires.fits (c.in-Ok.ensures.small.0 refl) c.in-Ok.ensures.nodes c.requires.low e.roots e.history).0
+    (begun_closes f.terms c.args.spec.now f.root c.args.height c.args.t.now c.in-Ok.nodes f.history c.at_root.result c.at_root.ensures e.spec e.grove e.view e.whole c.requires.fits (c.in-Ok.ensures.small.0 refl) c.in-Ok.ensures.nodes c.requires.low e.roots e.history).0
 
 pub returns-in-Ok-begin-clause-state : goal.returns-in-Ok-begin-clause-state
 returns-in-Ok-begin-clause-state c =
     let e = c.in-Ok-begin.ensures in
     let f = c.in-Ok-begin.fresh in
-    (begun_closes f.terms c.args.spec.now f.root c.args.height c.args.t.now c.in-Ok.nodes f.history c.at_root.result c.at_root.ensures e.spec e.grove e.whole c.requires.fits (c.in-Ok.ensures.small.0 refl) c.in-Ok.ensures.nodes c.requires.low e.roots e.history).1
+    (begun_closes f.terms c.args.spec.now f.root c.args.height c.args.t.now c.in-Ok.nodes f.history c.at_root.result c.at_root.ensures e.spec e.grove e.view e.whole c.requires.fits (c.in-Ok.ensures.small.0 refl) c.in-Ok.ensures.nodes c.requires.low e.roots e.history).1

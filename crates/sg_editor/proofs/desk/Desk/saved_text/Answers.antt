@@ -14,7 +14,7 @@ use Rattle.sg_editor.proofs.Taken.{buffer_stays}
 use Rattle.sg_editor.proofs.desk.Desk.saved_text.Goals as goal
 
 pub returns-in-Err-clause-text : goal.returns-in-Err-clause-text
-returns-in-Err-clause-text c = c.in-Err.ensures.err (λ (st : State). page_text (marks_seen c.args.base.now.contents.spec st.term nothing_typed))
+returns-in-Err-clause-text c = c.in-Err.ensures.err (λ (st : State). page_text (marks_seen c.args.base.now.contents.spec st.spot.view st.term nothing_typed))
 
 pub returns-clause-text : goal.returns-clause-text
 returns-clause-text c =
@@ -32,7 +32,7 @@ returns-clause-text c =
     let ok = c.in-Ok.ensures.ok in
     let same : c.in-Ok.field-0.now ≡ b = same_Some c.in-Ok.field-0.now b (sym ok.0 ∙ current) in
     let none = ap (λ (x : Named). x.buffer.capture) (sym same) ∙ ok.1 in
-    let told = buffer_rests c.args.self.now (λ (st : State). page_text (marks_seen spec st.term nothing_typed)) b current none
+    let told = buffer_rests c.args.self.now (λ (st : State). page_text (marks_seen spec st.spot.view st.term nothing_typed)) b current none
     ∙ text_told spec b.buffer c.in_ok-page.page over.spec_is none c.in_ok-page.ensures.page in
     subst (λ (x : Result Bytes Message). IfOk c.text_of-text.result (λ r. MatchResult r (λ bytes. x ≡ Ok bytes.items) (λ m. x ≡ Err m))) (sym told) c.text_of-text.ensures
 
