@@ -8,10 +8,10 @@ use Rattle.sg_replies.specs.declared.reply.Reply.TheVariants.{Fetched, FetchFail
 use Rattle.sg_outside.specs.Shelf.{ShelfState}
 use Rattle.sg_replies.specs.Calls.{Replied}
 use Rattle.sg_editor.specs.Session.{Session, start}
-use Rattle.sg_told.specs.declared.status.Status.{Status}
-use Rattle.sg_told.specs.declared.status.Status.TheVariants.{Done, Memory, Usage, ReadFault, SpecFault, SinkFault}
-use Rattle.sg_told.specs.Output.{read_fault_text, whole_file}
-use Rattle.sg_told.specs.Session.{Desk, desk}
+use Rattle.sg_output.specs.declared.status.Status.{Status}
+use Rattle.sg_output.specs.declared.status.Status.TheVariants.{Done, Memory, Usage, ReadFault, SpecFault, SinkFault}
+use Rattle.sg_output.specs.OutputOf.{read_fault_text, whole_file}
+use Rattle.sg_output.specs.Session.{Desk, desk}
 use Rattle.sg_console.specs.Console.{Event, noted}
 use Rattle.sg_console.specs.Console.Event.{Put}
 use Rattle.sg_live.specs.Opening.{Said, IsNoneOf, Brings}

@@ -2,7 +2,7 @@
 use Rattle.std.proofs.Common.{◌≡◌, ◌≤◌, ◌⊎◌, inl, inr, ℕ, ◌+◌, zero, suc, List, [], ◌∷◌, ◌++◌, sym, ap, subst, ◌∙◌, append-nil, append_assoc, arith}
 use Rattle.sg_outside.specs.Shelf.{ShelfState}
 use Rattle.sg_editor.specs.Session.{Session}
-use Rattle.sg_told.specs.Session.{Desk}
+use Rattle.sg_output.specs.Session.{Desk}
 use Rattle.sg_console.specs.Console.{Event}
 use Rattle.sg_live.specs.Turns.{AreTurns, none, more}
 use Rattle.sg_live.specs.Laws.{BeginWith}

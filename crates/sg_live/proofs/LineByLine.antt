@@ -4,9 +4,9 @@ use Rattle.sg_kinds.specs.declared.spec.Spec.{Spec}
 use Rattle.sg_editor.specs.Ask.{Readers, AreReaders}
 use Rattle.sg_editor.specs.Editing.{Editing, Setting, spec_in, width_in, height_in, session_of}
 use Rattle.sg_editor.specs.Session.{Session}
-use Rattle.sg_told.specs.declared.status.Status.{Status}
-use Rattle.sg_told.specs.declared.status.Status.TheVariants.{Memory}
-use Rattle.sg_told.specs.Session.{Desk, desk}
+use Rattle.sg_output.specs.declared.status.Status.{Status}
+use Rattle.sg_output.specs.declared.status.Status.TheVariants.{Memory}
+use Rattle.sg_output.specs.Session.{Desk, desk}
 use Rattle.sg_console.specs.Console.{Event}
 use Rattle.sg_live.specs.DeskView.{desk_in}
 use Rattle.sg_live.specs.Outside.{Outside, all_noted}

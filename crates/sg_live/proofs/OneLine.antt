@@ -15,9 +15,9 @@ use Rattle.sg_live.specs.Offers.{offers}
 use Rattle.sg_editor.specs.Screen.{screen}
 use Rattle.sg_editor.specs.Session.{Session}
 use Rattle.sg_editor.specs.Steps.{Stepped, Interrupted}
-use Rattle.sg_told.specs.declared.status.Status.{Status}
-use Rattle.sg_told.specs.declared.status.Status.TheVariants.{Done, ReadFault, SinkFault}
-use Rattle.sg_told.specs.Session.{Desk, asks}
+use Rattle.sg_output.specs.declared.status.Status.{Status}
+use Rattle.sg_output.specs.declared.status.Status.TheVariants.{Done, ReadFault, SinkFault}
+use Rattle.sg_output.specs.Session.{Desk, asks}
 use Rattle.sg_console.specs.declared.console.Taken.{Taken}
 use Rattle.sg_console.specs.declared.console.Taken.TheVariants.{Line, Long, End}
 use Rattle.sg_console.specs.Console.{Event, ConsoleState, IsTaken, noted, event_of}

@@ -15,10 +15,10 @@ use Rattle.sg_editor.specs.Ask.{Step, Ask}
 use Rattle.sg_editor.specs.Ask.Ask.{Tells, Asks}
 use Rattle.sg_editor.specs.Steps.{Comes, requests_of}
 use Rattle.sg_editor.specs.Session.{Session}
-use Rattle.sg_told.specs.Session.{Desk, asks, session}
-use Rattle.sg_told.specs.Told.{Told, before as and_then, finished}
-use Rattle.sg_told.proofs.Laws.{before-before, before_nothing, nothing}
-use Rattle.sg_told.proofs.Turns.{one, turn_law}
+use Rattle.sg_output.specs.Session.{Desk, asks, session}
+use Rattle.sg_output.specs.Output.{Output, before as and_then, finished}
+use Rattle.sg_output.proofs.Laws.{before-before, before_nothing, nothing}
+use Rattle.sg_output.proofs.Turns.{one, turn_law}
 use Rattle.sg_console.specs.Console.{Event}
 use Rattle.sg_console.specs.Console.Event.{Took, Passed, Ended, Put}
 use Rattle.sg_live.specs.Outside.{AreRead}
@@ -33,7 +33,7 @@ commands_taken events = flat_map (λ line. commands_in (lines line)) (taken_in e
 
 -- events as what a session tells by these commands and replies
 record Ran (d : Desk) (s t : Session) (at to : ShelfState) (commands : List Command) (replies : List Reply) (events : List Event) : Type 0 where
-  told : Told
+  told : Output
   answered : length told.requests ≡ length replies
   served : Served at told.requests replies to
   law : (cs : List Command) (rs : List Reply) → session d s (commands ++ cs) (replies ++ rs) ≡ and_then told (session d t cs rs)
@@ -107,7 +107,7 @@ ran_then d s t u at by to es fs a b = record {
         ap (λ (l : List Command). session d s l ((a.replies ++ b.replies) ++ rs)) (append_assoc a.commands b.commands cs)
         ∙ ap (λ (l : List Reply). session d s (a.commands ++ (b.commands ++ cs)) l) (append_assoc a.replies b.replies rs)
         ∙ a.ran.law (b.commands ++ cs) (b.replies ++ rs)
-        ∙ ap (λ (x : Told). and_then a.ran.told x) (b.ran.law cs rs)
+        ∙ ap (λ (x : Output). and_then a.ran.told x) (b.ran.law cs rs)
         ∙ before-before a.ran.told b.ran.told (session d u cs rs);
     blocks = ap (λ l. l ++ b.ran.told.blocks) a.ran.blocks ∙ ap (λ l. pieces_in es ++ l) b.ran.blocks ∙ sym (pieces_in-append es fs);
   };
@@ -173,7 +173,7 @@ blocks_of_run d s at k t to events n input left commands turns read spelled bloc
     ap (λ (l : List Command). session d s l r.replies) (sym same ∙ sym (append-nil r.commands)) ∙ ap (λ (l : List Reply). session d s (r.commands ++ []) l) (sym (append-nil r.replies)) ∙ r.ran.law [] [] in
     record {
       replies = r.replies;
-      served = subst (λ (qs : List Request). Served at qs r.replies to) (sym (ap (λ (x : Told). x.requests) all ∙ append-nil r.ran.told.requests)) r.ran.served;
-      blocks = ap (λ (x : Told). x.blocks) all ∙ append-nil r.ran.told.blocks ∙ r.ran.blocks;
-      status = ap (λ (x : Told). x.status) all;
+      served = subst (λ (qs : List Request). Served at qs r.replies to) (sym (ap (λ (x : Output). x.requests) all ∙ append-nil r.ran.told.requests)) r.ran.served;
+      blocks = ap (λ (x : Output). x.blocks) all ∙ append-nil r.ran.told.blocks ∙ r.ran.blocks;
+      status = ap (λ (x : Output). x.status) all;
     }

@@ -6,7 +6,7 @@ use Rattle.sg_outside.specs.Shelf.{ShelfState}
 use Rattle.sg_script.specs.declared.fault.ScriptFault.{ScriptFault}
 use Rattle.sg_script.specs.declared.fault.ScriptFault.TheVariants.{NoMemory}
 use Rattle.sg_editor.specs.Session.{Session}
-use Rattle.sg_told.specs.Session.{Desk}
+use Rattle.sg_output.specs.Session.{Desk}
 use Rattle.sg_live.specs.declared.answers.Answer.{Answer}
 use Rattle.sg_live.specs.declared.answers.Answer.TheVariants.{Nothing, Text, Bytes}
 use Rattle.sg_live.specs.Texts.{no_command_text, no_memory_text, offers_text}

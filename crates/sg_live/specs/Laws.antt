@@ -5,8 +5,8 @@ use Rattle.sg_outside.specs.Shelf.{ShelfState}
 use Rattle.sg_replies.specs.Calls.{Served}
 use Rattle.sg_script.specs.declared.command.Command.{Command}
 use Rattle.sg_editor.specs.Session.{Session}
-use Rattle.sg_told.specs.declared.status.Status.TheVariants.{Done}
-use Rattle.sg_told.specs.Session.{Desk, session}
+use Rattle.sg_output.specs.declared.status.Status.TheVariants.{Done}
+use Rattle.sg_output.specs.Session.{Desk, session}
 use Rattle.sg_console.specs.Console.{Event}
 use Rattle.sg_console.specs.Console.Event.{Took, Passed, Ended, Put}
 use Rattle.sg_live.specs.Turns.{AreTurns}

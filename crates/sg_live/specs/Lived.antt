@@ -11,11 +11,11 @@ use Rattle.sg_replies.specs.Calls.{Replied}
 use Rattle.sg_editor.specs.Ask.{Readers, AreReaders}
 use Rattle.sg_editor.specs.Session.{start}
 use Rattle.sg_editor.specs.Steps.{IsUnanswered}
-use Rattle.sg_told.specs.declared.status.Status.{Status}
-use Rattle.sg_told.specs.declared.status.Status.TheVariants.{Done, Memory, Usage, ReadFault, SpecFault, SinkFault}
-use Rattle.sg_told.specs.Causes.{HasNoFault}
-use Rattle.sg_told.specs.Output.{whole_file}
-use Rattle.sg_told.specs.Session.{desk}
+use Rattle.sg_output.specs.declared.status.Status.{Status}
+use Rattle.sg_output.specs.declared.status.Status.TheVariants.{Done, Memory, Usage, ReadFault, SpecFault, SinkFault}
+use Rattle.sg_output.specs.Causes.{HasNoFault}
+use Rattle.sg_output.specs.OutputOf.{whole_file}
+use Rattle.sg_output.specs.Session.{desk}
 use Rattle.sg_console.specs.Console.{Event}
 use Rattle.sg_live.specs.Outside.{Outside, outside, all_noted}
 use Rattle.sg_live.specs.Texts.{usage_text}

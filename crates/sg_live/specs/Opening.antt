@@ -9,9 +9,9 @@ use Rattle.sg_load.specs.Only.{IsTheVerdict}
 use Rattle.sg_replies.specs.declared.reply.Reply.{Reply}
 use Rattle.sg_replies.specs.declared.reply.Reply.TheVariants.{Fetched}
 use Rattle.sg_editor.specs.Ask.{Readers, AreReaders}
-use Rattle.sg_told.specs.declared.status.Status.{Status}
-use Rattle.sg_told.specs.declared.status.Status.TheVariants.{Memory, ReadFault, SpecFault, SinkFault}
-use Rattle.sg_told.specs.Output.{read_fault_text}
+use Rattle.sg_output.specs.declared.status.Status.{Status}
+use Rattle.sg_output.specs.declared.status.Status.TheVariants.{Memory, ReadFault, SpecFault, SinkFault}
+use Rattle.sg_output.specs.OutputOf.{read_fault_text}
 use Rattle.sg_console.specs.Console.{ConsoleState, noted}
 use Rattle.sg_console.specs.Console.Event.{Put}
 

@@ -1,7 +1,7 @@
 -- One line of a session, and its end, as what they leave outside
 use Rattle.std.specs.Prelude.{◌≡◌, ◌≤◌, ℕ, ◌+◌, List, ◌∷◌}
-use Rattle.sg_told.specs.declared.status.Status.{Status}
-use Rattle.sg_told.specs.Session.{Desk}
+use Rattle.sg_output.specs.declared.status.Status.{Status}
+use Rattle.sg_output.specs.Session.{Desk}
 use Rattle.sg_editor.specs.Session.{Session}
 use Rattle.sg_console.specs.Console.{Event}
 use Rattle.sg_live.specs.Outside.{Outside, IsRead, WasRead, all_noted}

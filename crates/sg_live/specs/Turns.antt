@@ -13,9 +13,9 @@ use Rattle.sg_live.specs.Offers.{offers}
 use Rattle.sg_editor.specs.Session.{Session}
 use Rattle.sg_editor.specs.Steps.{Comes, IsCutShort, requests_of}
 use Rattle.sg_editor.specs.Screen.{screen}
-use Rattle.sg_told.specs.declared.status.Status.{Status}
-use Rattle.sg_told.specs.declared.status.Status.TheVariants.{Done, Memory, ReadFault, SinkFault}
-use Rattle.sg_told.specs.Session.{Desk, asks}
+use Rattle.sg_output.specs.declared.status.Status.{Status}
+use Rattle.sg_output.specs.declared.status.Status.TheVariants.{Done, Memory, ReadFault, SinkFault}
+use Rattle.sg_output.specs.Session.{Desk, asks}
 use Rattle.sg_console.specs.Console.{Event}
 use Rattle.sg_console.specs.Console.Event.{Took, Passed, Ended, Put}
 use Rattle.sg_live.specs.Outside.{Outside, IsRead, WasRead, all_noted}

@@ -1,6 +1,6 @@
 -- What the words of the command line ask for
 use Rattle.std.specs.Prelude.{ℕ, List, [], ◌∷◌, Option, Some, None}
-use Rattle.sg_told.specs.Job.{size_of}
+use Rattle.sg_output.specs.Job.{size_of}
 
 -- a session over the specification of that name, in a window of that width and height
 pub record Job : Type 0 where

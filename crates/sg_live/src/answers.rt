@@ -7,7 +7,7 @@ ghost use Rattle.sg_live.specs.Opening.{Said};
 ghost use Rattle.sg_live.specs.Answers.{events_of, IsPut};
 
 use sg_console::Console;
-use sg_told::Status;
+use sg_output::Status;
 
 /// What is written for a line.
 #[derive(Drop)]

@@ -9,7 +9,7 @@ ghost use Rattle.sg_outside.specs.Shelf.{ShelfState};
 ghost use Rattle.sg_script.specs.declared.command.Command.{Command};
 ghost use Rattle.sg_script.specs.Script.{script_of};
 ghost use Rattle.sg_editor.specs.Session.{Session};
-ghost use Rattle.sg_told.specs.Session.{Desk};
+ghost use Rattle.sg_output.specs.Session.{Desk};
 ghost use Rattle.sg_console.specs.Console.{Event};
 ghost use Rattle.sg_console.specs.Console.Event.{Ended};
 ghost use Rattle.sg_live.specs.Laws.{AreBlocks, AreBlocksOf, BeginWith, pieces_in};

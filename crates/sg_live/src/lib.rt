@@ -12,4 +12,4 @@ mod texts;
 mod words;
 
 pub use living::live;
-pub use sg_told::Status;
+pub use sg_output::Status;

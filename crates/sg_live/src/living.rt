@@ -16,9 +16,9 @@ use sg_console::Console;
 use sg_editor::Editor;
 use sg_eval::Journal;
 use sg_load::Loaded;
+use sg_output::Status;
 use sg_outside::Shelf;
 use sg_replies::fetched;
-use sg_told::Status;
 use std::alloc::Global;
 
 // A session over a specification.

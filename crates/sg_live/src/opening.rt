@@ -10,9 +10,9 @@ use sg_console::Console;
 use sg_faults::fault_line;
 use sg_kinds::fault::SpecFault;
 use sg_load::{Loaded, load};
-use sg_loads::tell_readers;
+use sg_output::Status;
 use sg_replies::Reply;
-use sg_told::Status;
+use sg_workload::tell_readers;
 use std::alloc::Global;
 
 /// Says why there is no session: want of memory, or the line of a static fault.

@@ -15,8 +15,8 @@ use sg_console::{Console, Taken};
 use sg_editor::Editor;
 use sg_eval::Journal;
 use sg_kinds::limits::TEXT_BYTES;
+use sg_output::Status;
 use sg_outside::Shelf;
-use sg_told::Status;
 use std::alloc::Global;
 
 /// The most bytes of a line, with its newline.

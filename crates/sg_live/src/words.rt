@@ -1,11 +1,11 @@
 // The words of the command line.
 ghost use Rattle.std.specs.Prelude.{◌≡◌, map, string_bytes, IfSome};
 ghost use Rattle.std.specs.Option.{option_map};
-ghost use Rattle.sg_told.specs.Job.{size_of};
+ghost use Rattle.sg_output.specs.Job.{size_of};
 ghost use Rattle.sg_live.specs.JobView.{job_of, IsWindow};
 ghost use Rattle.sg_live.specs.Words.{job, sized as sized_job};
 
-use sg_told::words::size;
+use sg_output::words::size;
 
 /// What the words ask for: a session over the specification of that name, in a window of that width and height, each
 /// from 1 to 1,024.

@@ -1,14 +1,14 @@
 // What a report is, and why there is none.
 ghost use Rattle.std.specs.Prelude.{◌≡◌, Err, MatchOption};
 ghost use Rattle.sg_input.specs.Parsed.{entered_of};
-ghost use Rattle.sg_saved_read.specs.Answers.{opened_of};
+ghost use Rattle.sg_saved.specs.Answers.{opened_of};
 ghost use Rattle.sg_report.specs.Found.{from_saved, from_text};
 
 use sg_input::EntryFault;
 use sg_kinds::marks::FaultKind;
 use sg_kinds::memory::NoMemory;
 use sg_kinds::text::Text;
-use sg_saved_read::OpenFault;
+use sg_saved::OpenFault;
 
 /// The lines of a report, and how many equations were evaluated for it.
 #[derive(Drop)]

@@ -16,7 +16,7 @@ use sg_kinds::spec::Spec;
 use sg_kinds::term::Term;
 use sg_kinds::value::Value;
 use sg_load::Loaded;
-use sg_saved_read::read;
+use sg_saved::read;
 use sg_turns::within;
 use std::alloc::Global;
 

@@ -7,10 +7,10 @@ use Rattle.sg_editor.specs.Session as editor
 use Rattle.sg_editor.specs.Screen.{screen}
 use Rattle.sg_editor.specs.Ask.{Readers, AreReaders}
 use Rattle.sg_editor.specs.Editing.{Editing, Setting, spec_in, width_in, height_in, session_of}
-use Rattle.sg_told.specs.declared.status.Status.{Status}
-use Rattle.sg_told.specs.Session.{Desk, session}
-use Rattle.sg_told.specs.World.{World}
-use Rattle.sg_told.specs.Parts.{Passed, Played}
+use Rattle.sg_output.specs.declared.status.Status.{Status}
+use Rattle.sg_output.specs.Session.{Desk, session}
+use Rattle.sg_output.specs.World.{World}
+use Rattle.sg_output.specs.Parts.{Passed, Played}
 
 -- what was shown after a step, in the window before it
 pub shown_at : (a b : Editing) (said : Message) (ev count : ℕ) (bytes : List ℕ) → bytes ≡ screen (spec_in b) (width_in b) (height_in b) (session_of b) said ev → b.setting ≡ a.setting → ev ≡ count

@@ -2,8 +2,8 @@
 use Rattle.std.specs.Prelude.{◌≤◌, ℕ, ⊤}
 use Rattle.sg_run.specs.declared.words.Job.{Job as Words}
 use Rattle.sg_run.specs.declared.words.Job.TheVariants as words
-use Rattle.sg_told.specs.Job.{Job}
-use Rattle.sg_told.specs.Job.Job.{Show, Check, Run, Load, Report}
+use Rattle.sg_output.specs.Job.{Job}
+use Rattle.sg_output.specs.Job.Job.{Show, Check, Run, Load, Report}
 
 abbrev pub job_of : Words → Job
 job_of (words.Show name) = Show name.now

@@ -6,9 +6,9 @@ use Rattle.sg_outside.specs.SureShelf.{UnfailingShelf}
 use Rattle.sg_outside.specs.SureSink.{UnfailingSink}
 use Rattle.sg_replies.specs.declared.reply.Reply.{Reply}
 use Rattle.sg_replies.specs.Requests.{Serves}
-use Rattle.sg_told.specs.declared.status.Status.{Status}
-use Rattle.sg_told.specs.Told.{Told, joined}
-use Rattle.sg_told.specs.World.{World}
+use Rattle.sg_output.specs.declared.status.Status.{Status}
+use Rattle.sg_output.specs.Output.{Output, joined}
+use Rattle.sg_output.specs.World.{World}
 
 -- such a shelf tells its files and its calls, such a sink its bytes and its puts, and neither counts a failure
 abbrev pub sure_world : UnfailingShelf → UnfailingSink → ℕ → World
@@ -19,7 +19,7 @@ sure_world shelf sink counted = record {
 }
 
 -- what is told was done as a whole, and no more
-pub record IsSurelyWhole (t : Told) (got : List Reply) (status : Status) (shelf shelf_after : UnfailingShelf)
+pub record IsSurelyWhole (t : Output) (got : List Reply) (status : Status) (shelf shelf_after : UnfailingShelf)
     (sink sink_after : UnfailingSink) (count count_after : ℕ) : Type 0 where
   -- its blocks were written, each by one put, and the status is the one that it tells
   pub bytes : sink_after.written ≡ sink.written ++ joined t.blocks

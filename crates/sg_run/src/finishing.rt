@@ -1,7 +1,7 @@
 // The text that ends a run.
 ghost use Rattle.std.specs.Prelude.{◌≡◌};
-ghost use Rattle.sg_told.specs.Statuses.{IsEnd, ended};
-ghost use Rattle.sg_told.specs.Parts.{Finished};
+ghost use Rattle.sg_output.specs.Statuses.{IsEnd, ended};
+ghost use Rattle.sg_output.specs.Parts.{Finished};
 
 use crate::Status;
 use sg_outside::{Sink, SinkError};

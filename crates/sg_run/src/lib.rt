@@ -13,5 +13,5 @@ mod words;
 mod workloads;
 
 pub use running::{Outcome, run};
-pub use sg_told::Status;
+pub use sg_output::Status;
 pub use sure::{run_surely, surely_says};

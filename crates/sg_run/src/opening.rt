@@ -9,15 +9,15 @@ ghost use Rattle.sg_load.specs.Only.{IsTheVerdict};
 ghost use Rattle.sg_load.specs.Verdict.{Verdict, IsVerdict};
 ghost use Rattle.sg_load.specs.Verdict.Verdict.{Refused, Accepted};
 ghost use Rattle.sg_editor.specs.Ask.{Readers, AreReaders};
-ghost use Rattle.sg_told.specs.Told.{Told, asked};
-ghost use Rattle.sg_told.specs.Output.{fault_told, judged, opened, with_spec};
-ghost use Rattle.sg_told.specs.Opening.{IsQuiet, IsOpened, IsKnown, IsKnownOf, IsVerdictOf, IsAdmitted};
-ghost use Rattle.sg_told.specs.Causes.{IsReadOf};
-ghost use Rattle.sg_told.specs.Reading.{IsVerdictIn};
-ghost use Rattle.sg_told.specs.Ran.{Ends};
-ghost use Rattle.sg_told.specs.Parts.{Played};
+ghost use Rattle.sg_output.specs.Output.{Output, asked};
+ghost use Rattle.sg_output.specs.OutputOf.{fault_told, judged, opened, with_spec};
+ghost use Rattle.sg_output.specs.Opening.{IsQuiet, IsOpened, IsKnown, IsKnownOf, IsVerdictOf, IsAdmitted};
+ghost use Rattle.sg_output.specs.Causes.{IsReadOf};
+ghost use Rattle.sg_output.specs.Reading.{IsVerdictIn};
+ghost use Rattle.sg_output.specs.Ran.{Ends};
+ghost use Rattle.sg_output.specs.Parts.{Played};
 ghost use Rattle.sg_outside.specs.Sink.{SinkState};
-ghost use Rattle.sg_told.specs.World.{world};
+ghost use Rattle.sg_output.specs.World.{world};
 
 use crate::Status;
 use crate::finishing::finish;
@@ -25,9 +25,9 @@ use sg_faults::fault_line;
 use sg_kinds::fault::SpecFault;
 use sg_kinds::limits::TEXT_BYTES;
 use sg_load::{Loaded, load};
-use sg_loads::tell_readers;
 use sg_outside::{Shelf, Sink};
 use sg_replies::{Reply, add, fetched};
+use sg_workload::tell_readers;
 use std::alloc::Global;
 
 const READ_FAULT: &[u8] = b"read fault specification\n";
@@ -48,7 +48,7 @@ pub fn fetch<S: Shelf>(
     ensures same { replies.new.items ≡ replies.old.items }
     ensures replied { IfOk result (λ reply. Replied (Fetch name.now most) reply (S.state shelf.old)
         (S.state shelf.new)) }
-    ensures played { IfErr result (λ status. (next : Reply → List Reply → Told) (sink : SinkState) (n : ℕ)
+    ensures played { IfErr result (λ status. (next : Reply → List Reply → Output) (sink : SinkState) (n : ℕ)
         → Played (asked (Fetch name.now most) next) replies.old.items replies.new.items status
         (world (S.state shelf.old) sink n) (world (S.state shelf.new) sink n)) }
 {
@@ -79,7 +79,7 @@ pub fn refuse<K: Sink>(alloc: Global, fault: &SpecFault, sink: &mut K) -> Status
 fn end_by<K: Sink>(alloc: Global, bytes: &[u8], fault: &SpecFault, sink: &mut K) -> Status
     requires { fault.now ≢ SpecFault.NoMemory → IsTheVerdict bytes.now (Refused fault.now) }
     ensures known { IsKnown bytes.now result (K.state sink.old) (K.state sink.new) }
-    ensures ended { (v : Verdict) → IsVerdict bytes.now v → (next : Spec → Told)
+    ensures ended { (v : Verdict) → IsVerdict bytes.now v → (next : Spec → Output)
         → ((spec : Spec) → IsQuiet (next spec)) → (shelf : ShelfState) (n : ℕ)
         → Ends (world shelf (K.state sink.old) n) (judged v next) [] result (world shelf (K.state sink.new) n) }
 {
@@ -95,7 +95,7 @@ fn judge<K: Sink>(alloc: Global, bytes: &[u8], sink: &mut K) -> Result<Loaded, S
     ensures readers { IfOk result (λ loaded. (r : Readers) × AreReaders loaded.spec r) }
     ensures quiet { IfOk result (λ _. K.state sink.new ≡ K.state sink.old) }
     ensures known { IfErr result (λ status. IsKnown bytes.now status (K.state sink.old) (K.state sink.new)) }
-    ensures ended { IfErr result (λ status. (v : Verdict) → IsVerdict bytes.now v → (next : Spec → Told)
+    ensures ended { IfErr result (λ status. (v : Verdict) → IsVerdict bytes.now v → (next : Spec → Output)
         → ((spec : Spec) → IsQuiet (next spec)) → (shelf : ShelfState) (n : ℕ)
         → Ends (world shelf (K.state sink.old) n) (judged v next) [] status (world shelf (K.state sink.new) n)) }
 {
@@ -114,7 +114,7 @@ fn judge_reply<K: Sink>(alloc: Global, reply: &Reply, sink: &mut K) -> Result<Lo
     ensures quiet { IfOk result (λ _. K.state sink.new ≡ K.state sink.old) }
     ensures known { IfErr result (λ status. IsKnownOf reply.now status (K.state sink.old) (K.state sink.new)) }
     ensures ended { IfErr result (λ status. (v : Verdict) → IsVerdictOf reply.now v
-        → (next : Spec → List Reply → Told) → ((spec : Spec) → IsQuiet (next spec [])) → (shelf : ShelfState) (n : ℕ)
+        → (next : Spec → List Reply → Output) → ((spec : Spec) → IsQuiet (next spec [])) → (shelf : ShelfState) (n : ℕ)
         → Ends (world shelf (K.state sink.old) n) (opened next v reply.now []) [] status
         (world shelf (K.state sink.new) n)) }
 {
@@ -141,7 +141,7 @@ pub fn open<S: Shelf, K: Sink>(
         (world (S.state shelf.old) (K.state sink.old) n) replies.new.items status
         (world (S.state shelf.new) (K.state sink.new) n)) }
     ensures played { IfErr result (λ status. (v : Verdict) → IsVerdictIn replies.new.items v
-        → (next : Spec → List Reply → Told) → ((spec : Spec) → IsQuiet (next spec [])) → (n : ℕ)
+        → (next : Spec → List Reply → Output) → ((spec : Spec) → IsQuiet (next spec [])) → (n : ℕ)
         → Played (with_spec next name.now v) [] replies.new.items status
         (world (S.state shelf.old) (K.state sink.old) n) (world (S.state shelf.new) (K.state sink.new) n)) }
 {

@@ -5,10 +5,10 @@ ghost use Rattle.sg_script.specs.declared.command.Command.{Command};
 ghost use Rattle.sg_editor.specs.Ask.{Readers, AreReaders};
 ghost use Rattle.sg_editor.specs.Session.{start};
 ghost use Rattle.sg_editor.specs.Editing.{spec_in, session_of};
-ghost use Rattle.sg_told.specs.Statuses.{ended};
-ghost use Rattle.sg_told.specs.Session.{desk, session};
-ghost use Rattle.sg_told.specs.World.{world};
-ghost use Rattle.sg_told.specs.Parts.{Passed, Played};
+ghost use Rattle.sg_output.specs.Statuses.{ended};
+ghost use Rattle.sg_output.specs.Session.{desk, session};
+ghost use Rattle.sg_output.specs.World.{world};
+ghost use Rattle.sg_output.specs.Parts.{Passed, Played};
 ghost use Rattle.sg_run.specs.DeskView.{desk_in};
 
 use crate::Status;

@@ -2,14 +2,14 @@
 ghost use Rattle.std.specs.Prelude.{◌≡◌, ◌≤◌, ◌<◌, ◌^◌, ◌⊎◌, ℕ, [], map, string_bytes, IsSome, None, IfOk};
 ghost use Rattle.sg_eval.specs.Journal.{counted};
 ghost use Rattle.sg_outside.specs.Count.{Rose};
-ghost use Rattle.sg_told.specs.Statuses.{ended};
-ghost use Rattle.sg_told.specs.Job.{job};
-ghost use Rattle.sg_told.specs.Output.{told, with_spec, shown, checked, performed, first_command};
-ghost use Rattle.sg_told.specs.Reading.{Reading, IsRight, IsRightFor};
-ghost use Rattle.sg_told.specs.World.{world};
-ghost use Rattle.sg_told.specs.Ran.{Ran};
-ghost use Rattle.sg_told.specs.Parts.{Played};
-ghost use Rattle.sg_told.specs.Causes.{IsReadOf, IsRead, LastFailed, SecondFetched, IsSpecRefused, IsNoScript, IsReportRefused, IsAccepted};
+ghost use Rattle.sg_output.specs.Statuses.{ended};
+ghost use Rattle.sg_output.specs.Job.{job};
+ghost use Rattle.sg_output.specs.OutputOf.{output_of, with_spec, shown, checked, performed, first_command};
+ghost use Rattle.sg_output.specs.Reading.{Reading, IsRight, IsRightFor};
+ghost use Rattle.sg_output.specs.World.{world};
+ghost use Rattle.sg_output.specs.Ran.{Ran};
+ghost use Rattle.sg_output.specs.Parts.{Played};
+ghost use Rattle.sg_output.specs.Causes.{IsReadOf, IsRead, LastFailed, SecondFetched, IsSpecRefused, IsNoScript, IsReportRefused, IsAccepted};
 
 use crate::Status;
 use crate::finishing::{end, finish, status_of};
@@ -154,7 +154,7 @@ fn run_job<S: Shelf, K: Sink>(
         (world (S.state shelf.old) (K.state sink.old) (counted journal.old))
         replies.new.items (ended result) (world (S.state shelf.new) (K.state sink.new) (counted journal.new)) }
     ensures played { (r : Reading) → IsRightFor (job (map string_bytes words.now)) replies.new.items r
-        → Played (told (map string_bytes words.now) r) [] replies.new.items (ended result)
+        → Played (output_of (map string_bytes words.now) r) [] replies.new.items (ended result)
         (world (S.state shelf.old) (K.state sink.old) (counted journal.old))
         (world (S.state shelf.new) (K.state sink.new) (counted journal.new)) }
 {
@@ -202,7 +202,7 @@ pub fn run<S: Shelf, K: Sink>(
     // it. Cut short, whole blocks were written, and a shelf that counts its calls is not called again after a put that
     // was refused.
     ensures ran { (r : Reading) → IsRightFor (job (map string_bytes words.now)) result.replies.items r
-        → Ran (told (map string_bytes words.now) r)
+        → Ran (output_of (map string_bytes words.now) r)
         (world (S.state shelf.old) (K.state sink.old) (counted journal.old)) result.replies.items result.status
         (world (S.state shelf.new) (K.state sink.new) (counted journal.new)) }
 

@@ -5,13 +5,13 @@ ghost use Rattle.sg_outside.specs.Shelf.{ShelfState};
 ghost use Rattle.sg_replies.specs.declared.reply.Reply.{Reply};
 ghost use Rattle.sg_script.specs.declared.command.Command.{Command};
 ghost use Rattle.sg_script.specs.Script.{script_of};
-ghost use Rattle.sg_told.specs.declared.status.Status.TheVariants.{ScriptFault as ScriptFaultStatus};
-ghost use Rattle.sg_told.specs.Told.{Told, text};
-ghost use Rattle.sg_told.specs.Output.{scanned, scripted, script_fault_text, with_script};
-ghost use Rattle.sg_told.specs.Opening.{IsQuiet, IsScriptOf};
-ghost use Rattle.sg_told.specs.Ran.{Ends};
-ghost use Rattle.sg_told.specs.Parts.{Passed, Played};
-ghost use Rattle.sg_told.specs.World.{world};
+ghost use Rattle.sg_output.specs.declared.status.Status.TheVariants.{ScriptFault as ScriptFaultStatus};
+ghost use Rattle.sg_output.specs.Output.{Output, text};
+ghost use Rattle.sg_output.specs.OutputOf.{scanned, scripted, script_fault_text, with_script};
+ghost use Rattle.sg_output.specs.Opening.{IsQuiet, IsScriptOf};
+ghost use Rattle.sg_output.specs.Ran.{Ends};
+ghost use Rattle.sg_output.specs.Parts.{Passed, Played};
+ghost use Rattle.sg_output.specs.World.{world};
 
 use crate::Status;
 use crate::finishing::finish;
@@ -62,7 +62,7 @@ fn refuse<K: Sink>(alloc: Global, fault: &ScriptFault, sink: &mut K) -> Status
 /// Ends the run by why these bytes are no script: want of memory, or the line of the fault.
 fn end_by<K: Sink>(alloc: Global, bytes: &[u8], fault: &ScriptFault, sink: &mut K) -> Status
     requires { fault.now ≢ ScriptFault.NoMemory → script_of bytes.now ≡ Err fault.now }
-    ensures { (next : List Command → Told) → ((commands : List Command) → IsQuiet (next commands))
+    ensures { (next : List Command → Output) → ((commands : List Command) → IsQuiet (next commands))
         → (shelf : ShelfState) (n : ℕ)
         → Ends (world shelf (K.state sink.old) n) (scanned (script_of bytes.now) next) [] result
         (world shelf (K.state sink.new) n) }
@@ -78,7 +78,7 @@ fn judge<K: Sink>(alloc: Global, bytes: &[u8], sink: &mut K) -> Result<Vec<Comma
     ensures read { IfOk result (λ commands. script_of bytes.now ≡ Ok commands.items) }
     ensures few { IfOk result (λ commands. length commands.items ≤ 10000) }
     ensures quiet { IfOk result (λ _. K.state sink.new ≡ K.state sink.old) }
-    ensures ended { IfErr result (λ status. (next : List Command → Told)
+    ensures ended { IfErr result (λ status. (next : List Command → Output)
         → ((commands : List Command) → IsQuiet (next commands)) → (shelf : ShelfState) (n : ℕ)
         → Ends (world shelf (K.state sink.old) n) (scanned (script_of bytes.now) next) [] status
         (world shelf (K.state sink.new) n)) }
@@ -94,7 +94,7 @@ fn judge_reply<K: Sink>(alloc: Global, reply: &Reply, sink: &mut K) -> Result<Ve
     ensures read { IfOk result (λ commands. IsScriptOf reply.now commands.items) }
     ensures few { IfOk result (λ commands. length commands.items ≤ 10000) }
     ensures quiet { IfOk result (λ _. K.state sink.new ≡ K.state sink.old) }
-    ensures ended { IfErr result (λ status. (next : List Command → List Reply → Told)
+    ensures ended { IfErr result (λ status. (next : List Command → List Reply → Output)
         → ((commands : List Command) → IsQuiet (next commands [])) → (shelf : ShelfState) (n : ℕ)
         → Ends (world shelf (K.state sink.old) n) (scripted next reply.now []) [] status
         (world shelf (K.state sink.new) n)) }
@@ -113,11 +113,11 @@ pub fn script<S: Shelf, K: Sink>(
     sink: &mut K,
     replies: &mut Vec<Reply>,
 ) -> Result<Vec<Command>, Status>
-    ensures passed { IfOk result (λ commands. (next : List Command → List Reply → Told) (n : ℕ)
+    ensures passed { IfOk result (λ commands. (next : List Command → List Reply → Output) (n : ℕ)
         → Passed (with_script next name.now) (next commands.items) replies.old.items replies.new.items
         (world (S.state shelf.old) (K.state sink.old) n) (world (S.state shelf.new) (K.state sink.new) n)) }
     ensures few { IfOk result (λ commands. length commands.items ≤ 10000) }
-    ensures played { IfErr result (λ status. (next : List Command → List Reply → Told)
+    ensures played { IfErr result (λ status. (next : List Command → List Reply → Output)
         → ((commands : List Command) → IsQuiet (next commands [])) → (n : ℕ)
         → Played (with_script next name.now) replies.old.items replies.new.items status
         (world (S.state shelf.old) (K.state sink.old) n) (world (S.state shelf.new) (K.state sink.new) n)) }

@@ -6,14 +6,14 @@ ghost use Rattle.sg_outside.specs.SureShelf.{UnfailingShelf};
 ghost use Rattle.sg_outside.specs.SureSink.{UnfailingSink};
 ghost use Rattle.sg_replies.specs.declared.reply.Reply.{Reply as AReply};
 ghost use Rattle.sg_replies.specs.Requests.{Serves, failure};
-ghost use Rattle.sg_told.specs.declared.status.Status.{Status as AStatus};
-ghost use Rattle.sg_told.specs.Statuses.{IsEnd};
-ghost use Rattle.sg_told.specs.Job.{job};
-ghost use Rattle.sg_told.specs.Told.{Told};
-ghost use Rattle.sg_told.specs.Output.{told};
-ghost use Rattle.sg_told.specs.Ran.{Ran};
-ghost use Rattle.sg_told.specs.Reading.{Reading, IsRightFor};
-ghost use Rattle.sg_told.specs.Causes.{IsRead, SecondFetched, IsSpecRefused, IsNoScript, IsReportRefused, IsAccepted};
+ghost use Rattle.sg_output.specs.declared.status.Status.{Status as AStatus};
+ghost use Rattle.sg_output.specs.Statuses.{IsEnd};
+ghost use Rattle.sg_output.specs.Job.{job};
+ghost use Rattle.sg_output.specs.Output.{Output};
+ghost use Rattle.sg_output.specs.OutputOf.{output_of};
+ghost use Rattle.sg_output.specs.Ran.{Ran};
+ghost use Rattle.sg_output.specs.Reading.{Reading, IsRightFor};
+ghost use Rattle.sg_output.specs.Causes.{IsRead, SecondFetched, IsSpecRefused, IsNoScript, IsReportRefused, IsAccepted};
 ghost use Rattle.sg_run.specs.SureWorld.{sure_world, IsSurelyWhole};
 
 use crate::{Outcome, Status, run};
@@ -37,13 +37,13 @@ pub fn run_surely(
     ensures known { IsRead (job (map string_bytes words.now)) (sure_world shelf.old sink.old (counted journal.old))
         result.replies.items result.status (sure_world shelf.new sink.new (counted journal.new)) }
     ensures ran { (r : Reading) → IsRightFor (job (map string_bytes words.now)) result.replies.items r
-        → Ran (told (map string_bytes words.now) r) (sure_world shelf.old sink.old (counted journal.old))
+        → Ran (output_of (map string_bytes words.now) r) (sure_world shelf.old sink.old (counted journal.old))
         result.replies.items result.status (sure_world shelf.new sink.new (counted journal.new)) }
 
     // Each reply to a fetch is the front of that file, as it was and as it was kept since, and what was kept is what the
     // shelf has at the end. None is a failure.
     ensures files { (r : Reading) → IsRightFor (job (map string_bytes words.now)) result.replies.items r
-        → Serves (OrEmpty shelf.old.files) (told (map string_bytes words.now) r result.replies.items).requests
+        → Serves (OrEmpty shelf.old.files) (output_of (map string_bytes words.now) r result.replies.items).requests
         result.replies.items (OrEmpty shelf.new.files) }
     ensures no_failure { (reply : AReply) → Contains result.replies.items reply → failure reply ≡ 0 }
 
@@ -67,7 +67,7 @@ pub fn run_surely(
 /// What the end of such a run says in one: of each right reading, where memory was not wanting, the bytes, puts and
 /// status, the requests and their replies, the calls, and how many equations were evaluated. Without code.
 pub fn surely_says()
-    ensures { (f : List AReply → Told) (shelf shelf_after : UnfailingShelf) (sink sink_after : UnfailingSink)
+    ensures { (f : List AReply → Output) (shelf shelf_after : UnfailingShelf) (sink sink_after : UnfailingSink)
         (count count_after : ℕ) (got : List AReply) (status : AStatus)
         → Ran f (sure_world shelf sink count) got status (sure_world shelf_after sink_after count_after)
         → IsEnd status

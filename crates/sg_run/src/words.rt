@@ -1,10 +1,10 @@
 // The words of the command line.
 ghost use Rattle.std.specs.Prelude.{◌≡◌, map, string_bytes, IfSome};
 ghost use Rattle.std.specs.Option.{option_map};
-ghost use Rattle.sg_told.specs.Job.{job, job_of_name, load_of, size_of, sized as sized_job};
+ghost use Rattle.sg_output.specs.Job.{job, job_of_name, load_of, size_of, sized as sized_job};
 ghost use Rattle.sg_run.specs.JobView.{job_of, HasWindow};
 
-use sg_told::words::size;
+use sg_output::words::size;
 use sg_workload::MOST_STATEMENTS;
 
 /// What the words ask for.

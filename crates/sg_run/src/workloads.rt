@@ -2,18 +2,18 @@
 ghost use Rattle.std.specs.Prelude.{◌≤◌, ◌<◌, ◌^◌, []};
 ghost use Rattle.sg_eval.specs.Journal.{counted};
 ghost use Rattle.sg_outside.specs.Shelf.{ShelfState};
-ghost use Rattle.sg_told.specs.Reading.{Reading, IsRightLines};
-ghost use Rattle.sg_told.specs.Work.{work_told, AreKnownLines};
-ghost use Rattle.sg_told.specs.Ran.{Ends};
-ghost use Rattle.sg_told.specs.Statuses.{ended};
-ghost use Rattle.sg_told.specs.World.{world};
+ghost use Rattle.sg_output.specs.Reading.{Reading, IsRightLines};
+ghost use Rattle.sg_output.specs.Work.{work_told, AreKnownLines};
+ghost use Rattle.sg_output.specs.Ran.{Ends};
+ghost use Rattle.sg_output.specs.Statuses.{ended};
+ghost use Rattle.sg_output.specs.World.{world};
 
 use crate::Status;
 use crate::finishing::{end, finish};
 use crate::opening::{is_memory, refuse};
 use sg_eval::Journal;
-use sg_loads::line;
 use sg_outside::Sink;
+use sg_workload::line;
 use std::alloc::Global;
 
 /// The workload of so many statements, at most 400, of the built-in language, and its line by one put. An error says

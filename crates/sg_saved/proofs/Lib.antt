@@ -4,3 +4,9 @@ pub mod HeldWritten
 pub mod OneSpelling
 pub mod Fitting
 pub mod Opening
+pub mod Pieces
+pub mod Texts
+pub mod ReadLeaves
+pub mod Checking
+pub mod Building
+pub mod Outlined

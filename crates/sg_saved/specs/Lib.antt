@@ -1,3 +1,5 @@
 pub mod Spelling
 pub mod Misfits
 pub mod Read
+pub mod Heads
+pub mod Answers

@@ -1,10 +1,15 @@
-//! Saved files: how values and held terms are written.
+//! Saved files: how values and held terms are written, and files read as values.
 #![tactic(auto)]
 
+mod heads;
 pub mod laws;
+mod misfits;
 mod parts;
+mod reading;
 mod spelling;
+mod values;
 mod writing;
 
+pub use reading::{OpenFault, read};
 pub use spelling::spell;
 pub use writing::write;

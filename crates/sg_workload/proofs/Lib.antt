@@ -1,2 +1,5 @@
 pub mod Counts
 mod Worked
+pub mod Performing
+pub mod Quiet
+pub mod Ending

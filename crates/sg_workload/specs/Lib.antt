@@ -1,2 +1,4 @@
 pub mod Lines
 pub mod Workload
+pub mod Loads
+pub mod Performed

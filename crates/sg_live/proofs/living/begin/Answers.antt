@@ -3,8 +3,8 @@ use Rattle.sg_kinds.specs.declared.spec.Spec.{Spec}
 use Rattle.sg_editor.specs.Ask.{Readers, AreReaders}
 use Rattle.sg_editor.specs.Editing.{Editing, spec_in, width_in, height_in, session_of}
 use Rattle.sg_editor.specs.Session.{Session, start}
-use Rattle.sg_told.specs.Session.{Desk, desk}
-use Rattle.sg_told.specs.declared.status.Status.{Status}
+use Rattle.sg_output.specs.Session.{Desk, desk}
+use Rattle.sg_output.specs.declared.status.Status.{Status}
 use Rattle.sg_live.specs.DeskView.{desk_in}
 use Rattle.sg_live.specs.JobView.{job_of}
 use Rattle.sg_live.specs.Lived.{IsSession}

@@ -1,5 +1,5 @@
 use Rattle.std.proofs.Common.{ap, Err}
-use Rattle.sg_saved_read.specs.Answers.{opened_of}
+use Rattle.sg_saved.specs.Answers.{opened_of}
 use Rattle.sg_report.specs.Found.{from_saved}
 use Rattle.sg_report.proofs.Reading.{read_told}
 use Rattle.sg_report.proofs.found.saved_value.Goals as goal

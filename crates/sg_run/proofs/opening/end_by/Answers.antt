@@ -1,9 +1,9 @@
 use Rattle.std.proofs.Common.{◌≢◌, inl, inr, refl, []}
 use Rattle.sg_kinds.specs.declared.fault.SpecFault.TheVariants.{NoMemory}
 use Rattle.sg_load.specs.Verdict.Verdict.{Refused}
-use Rattle.sg_told.specs.Output.{fault_told, judged}
-use Rattle.sg_told.proofs.Endings.{ends_as, ends_early}
-use Rattle.sg_told.proofs.Opened.{judged_quiet, told_by_verdict}
+use Rattle.sg_output.specs.OutputOf.{fault_told, judged}
+use Rattle.sg_output.proofs.Endings.{ends_as, ends_early}
+use Rattle.sg_output.proofs.Opened.{judged_quiet, told_by_verdict}
 use Rattle.sg_run.proofs.opening.end_by.Goals as goal
 
 pub returns-then-is_memory : goal.returns-then-is_memory

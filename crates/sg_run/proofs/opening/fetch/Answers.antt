@@ -1,7 +1,7 @@
-use Rattle.sg_told.specs.declared.status.Status.TheVariants.{Memory}
+use Rattle.sg_output.specs.declared.status.Status.TheVariants.{Memory}
 use Rattle.sg_replies.specs.Requests.Request.{Fetch}
-use Rattle.sg_told.proofs.Exits.{exits}
-use Rattle.sg_told.proofs.Requests.{no_reply, not_asked}
+use Rattle.sg_output.proofs.Exits.{exits}
+use Rattle.sg_output.proofs.Requests.{no_reply, not_asked}
 use Rattle.sg_run.proofs.opening.fetch.Goals as goal
 
 pub returns-in_err-reserve-clause-played : goal.returns-in_err-reserve-clause-played

@@ -1,6 +1,6 @@
 use Rattle.std.proofs.Common.{◌≡◌, ℕ, List, sym, ap, ◌∙◌}
 use Rattle.sg_replies.specs.declared.reply.Reply.TheVariants.{Fetched}
-use Rattle.sg_told.proofs.Opened.{ends_missing, known_missing, admitted_by, fetched_known, fetched_ended}
+use Rattle.sg_output.proofs.Opened.{ends_missing, known_missing, admitted_by, fetched_known, fetched_ended}
 use Rattle.sg_run.proofs.opening.judge_reply.Goals as goal
 
 pub returns-in-Fetched : goal.returns-in-Fetched

@@ -1,11 +1,11 @@
 use Rattle.std.proofs.Common.{[], ◌∙◌}
 use Rattle.sg_load.specs.Loaded.{Contents}
-use Rattle.sg_told.specs.Output.{opened}
-use Rattle.sg_told.proofs.Blank.{blank_readers}
-use Rattle.sg_told.proofs.Exits.{exits}
-use Rattle.sg_told.proofs.Fetches.{opened_ok, opened_known, opened_played}
-use Rattle.sg_told.proofs.Opened.{read_nothing}
-use Rattle.sg_told.proofs.Requests.{played_from}
+use Rattle.sg_output.specs.OutputOf.{opened}
+use Rattle.sg_output.proofs.Blank.{blank_readers}
+use Rattle.sg_output.proofs.Exits.{exits}
+use Rattle.sg_output.proofs.Fetches.{opened_ok, opened_known, opened_played}
+use Rattle.sg_output.proofs.Opened.{read_nothing}
+use Rattle.sg_output.proofs.Requests.{played_from}
 use Rattle.sg_run.proofs.opening.open.Goals as goal
 
 pub returns-in_err-reply-clause-known : goal.returns-in_err-reply-clause-known

@@ -1,8 +1,8 @@
 use Rattle.std.proofs.Common.{◌∙◌, refl, arith}
 use Rattle.sg_faults.specs.FaultLine.{fault_line}
-use Rattle.sg_told.specs.declared.status.Status.TheVariants.{SpecFault}
-use Rattle.sg_told.specs.Output.{fault_told}
-use Rattle.sg_told.proofs.Endings.{ends_text, finished_as, ends_early}
+use Rattle.sg_output.specs.declared.status.Status.TheVariants.{SpecFault}
+use Rattle.sg_output.specs.OutputOf.{fault_told}
+use Rattle.sg_output.proofs.Endings.{ends_text, finished_as, ends_early}
 use Rattle.sg_run.proofs.opening.refuse.Goals as goal
 
 pub returns-in-Ok : goal.returns-in-Ok

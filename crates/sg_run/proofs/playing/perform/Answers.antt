@@ -1,9 +1,9 @@
 use Rattle.std.proofs.Common.{◌≡◌, ◌+◌, ◌∷◌, drop, arith, refl, ◌∙◌}
 use Rattle.sg_editor.specs.Editing.{session_of}
 use Rattle.sg_run.specs.DeskView.{desk_in}
-use Rattle.sg_told.proofs.Exits.{ended_is}
-use Rattle.sg_told.proofs.Requests.{passed_start, passed_after, played_after, played_as}
-use Rattle.sg_told.proofs.Turns.{session_next, session_over, item_first}
+use Rattle.sg_output.proofs.Exits.{ended_is}
+use Rattle.sg_output.proofs.Requests.{passed_start, passed_after, played_after, played_as}
+use Rattle.sg_output.proofs.Turns.{session_next, session_over, item_first}
 use Rattle.sg_run.proofs.Screens.{passed_at, played_at_desk, readers_at}
 use Rattle.sg_run.proofs.playing.perform.Goals as goal
 

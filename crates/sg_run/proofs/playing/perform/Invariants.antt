@@ -2,9 +2,9 @@ use Rattle.std.proofs.Common.{◌≡◌, ◌≤◌, ◌+◌, ◌*◌, ◌^◌, d
 use Rattle.sg_eval.specs.Journal.{counted}
 use Rattle.sg_editor.specs.Ask.{Readers, AreReaders}
 use Rattle.sg_editor.specs.Editing.{spec_in, session_of}
-use Rattle.sg_told.specs.Session.{session}
-use Rattle.sg_told.specs.World.{world}
-use Rattle.sg_told.specs.Parts.{Passed}
+use Rattle.sg_output.specs.Session.{session}
+use Rattle.sg_output.specs.World.{world}
+use Rattle.sg_output.specs.Parts.{Passed}
 use Rattle.sg_run.specs.DeskView.{desk_in}
 use Rattle.sg_run.proofs.playing.perform.Given as goal
 

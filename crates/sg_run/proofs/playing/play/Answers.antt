@@ -3,10 +3,10 @@ use Rattle.sg_eval.specs.Journal.{counted, now_of}
 use Rattle.sg_eval.specs.declared.journal.Instance.{Instance}
 use Rattle.sg_editor.specs.Editing.{session_of}
 use Rattle.sg_outside.specs.Sink.{appended, CutShort}
-use Rattle.sg_told.specs.declared.status.Status.TheVariants.{Memory}
-use Rattle.sg_told.specs.Statuses.{sink_status}
-use Rattle.sg_told.proofs.Exits.{exits, is_cut, memory_of, fault_of}
-use Rattle.sg_told.proofs.Turns.{command_passed, command_cut, command_unput}
+use Rattle.sg_output.specs.declared.status.Status.TheVariants.{Memory}
+use Rattle.sg_output.specs.Statuses.{sink_status}
+use Rattle.sg_output.proofs.Exits.{exits, is_cut, memory_of, fault_of}
+use Rattle.sg_output.proofs.Turns.{command_passed, command_cut, command_unput}
 use Rattle.sg_run.specs.DeskView.{desk_in}
 use Rattle.sg_run.proofs.Screens.{shown_at}
 use Rattle.sg_run.proofs.playing.play.Goals as goal

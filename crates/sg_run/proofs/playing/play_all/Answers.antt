@@ -2,12 +2,12 @@ use Rattle.std.proofs.Common.{◌≡◌, refl}
 use Rattle.sg_eval.specs.Journal.{counted}
 use Rattle.sg_editor.specs.Session.{start}
 use Rattle.sg_editor.specs.Editing.{session_of}
-use Rattle.sg_told.specs.Session.{desk}
-use Rattle.sg_told.proofs.Endings.{ends_early}
-use Rattle.sg_told.proofs.Exits.{ended_is}
-use Rattle.sg_told.proofs.Requests.{played_as, played_at}
-use Rattle.sg_told.proofs.Turns.{session_quiet, session_from}
-use Rattle.sg_told.specs.declared.status.Status.TheVariants.{Memory}
+use Rattle.sg_output.specs.Session.{desk}
+use Rattle.sg_output.proofs.Endings.{ends_early}
+use Rattle.sg_output.proofs.Exits.{ended_is}
+use Rattle.sg_output.proofs.Requests.{played_as, played_at}
+use Rattle.sg_output.proofs.Turns.{session_quiet, session_from}
+use Rattle.sg_output.specs.declared.status.Status.TheVariants.{Memory}
 use Rattle.sg_run.specs.DeskView.{desk_in}
 use Rattle.sg_run.proofs.Screens.{readers_at}
 use Rattle.sg_run.proofs.playing.play_all.Goals as goal

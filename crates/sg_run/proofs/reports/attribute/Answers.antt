@@ -1,6 +1,6 @@
 use Rattle.std.proofs.Common.{refl, sym, ap, ◌∙◌}
-use Rattle.sg_told.proofs.Endings.{ends_with}
-use Rattle.sg_told.proofs.Filing.{played_named, played_unnamed}
+use Rattle.sg_output.proofs.Endings.{ends_with}
+use Rattle.sg_output.proofs.Filing.{played_named, played_unnamed}
 use Rattle.sg_report.specs.Attrs.{attr_of}
 use Rattle.sg_eval.specs.Journal.{counted}
 use Rattle.sg_run.proofs.reports.attribute.Goals as goal

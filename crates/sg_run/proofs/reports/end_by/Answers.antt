@@ -1,5 +1,5 @@
 use Rattle.sg_report.proofs.Reading.{told_fault}
-use Rattle.sg_told.proofs.Filing.{ends_unreported, ends_refused}
+use Rattle.sg_output.proofs.Filing.{ends_unreported, ends_refused}
 use Rattle.sg_run.proofs.reports.end_by.Goals as goal
 
 pub returns-in-NoMemory : goal.returns-in-NoMemory

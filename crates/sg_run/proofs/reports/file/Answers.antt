@@ -1,7 +1,7 @@
-use Rattle.sg_told.specs.Filed.{report_file, filed}
-use Rattle.sg_told.proofs.Exits.{ended_is}
-use Rattle.sg_told.proofs.Fetches.{fetched_last}
-use Rattle.sg_told.proofs.Requests.{played_as, played_fetched}
+use Rattle.sg_output.specs.Filed.{report_file, filed}
+use Rattle.sg_output.proofs.Exits.{ended_is}
+use Rattle.sg_output.proofs.Fetches.{fetched_last}
+use Rattle.sg_output.proofs.Requests.{played_as, played_fetched}
 use Rattle.sg_eval.specs.Journal.{counted}
 use Rattle.sg_run.proofs.reports.file.Goals as goal
 

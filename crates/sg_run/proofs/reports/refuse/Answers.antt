@@ -1,7 +1,7 @@
 use Rattle.std.proofs.Common.{◌∙◌, refl, arith}
-use Rattle.sg_told.specs.declared.status.Status.TheVariants.{ReportFault}
-use Rattle.sg_told.specs.Filed.{report_fault_text, refusal}
-use Rattle.sg_told.proofs.Endings.{ends_text, finished_as, ends_early}
+use Rattle.sg_output.specs.declared.status.Status.TheVariants.{ReportFault}
+use Rattle.sg_output.specs.Filed.{report_fault_text, refusal}
+use Rattle.sg_output.proofs.Endings.{ends_text, finished_as, ends_early}
 use Rattle.sg_run.proofs.reports.refuse.Goals as goal
 
 pub returns-in-Ok : goal.returns-in-Ok

@@ -1,9 +1,9 @@
 use Rattle.sg_eval.specs.Journal.{counted}
-use Rattle.sg_told.specs.Filed.{reported}
-use Rattle.sg_told.proofs.Exits.{ended_is}
-use Rattle.sg_told.proofs.Filing.{report_quiet}
-use Rattle.sg_told.proofs.Opened.{read_opened, played_opened, read_as}
-use Rattle.sg_told.proofs.Requests.{played_as}
+use Rattle.sg_output.specs.Filed.{reported}
+use Rattle.sg_output.proofs.Exits.{ended_is}
+use Rattle.sg_output.proofs.Filing.{report_quiet}
+use Rattle.sg_output.proofs.Opened.{read_opened, played_opened, read_as}
+use Rattle.sg_output.proofs.Requests.{played_as}
 use Rattle.sg_run.proofs.reports.report_on.Goals as goal
 
 pub returns-in_err-loaded : goal.returns-in_err-loaded

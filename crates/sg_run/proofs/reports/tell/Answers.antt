@@ -1,7 +1,7 @@
 use Rattle.std.proofs.Common.{ap, length, arith}
 use Rattle.sg_eval.specs.Journal.{counted}
-use Rattle.sg_told.proofs.Endings.{ends_with}
-use Rattle.sg_told.proofs.Filing.{ends_reported}
+use Rattle.sg_output.proofs.Endings.{ends_with}
+use Rattle.sg_output.proofs.Filing.{ends_reported}
 use Rattle.sg_run.proofs.reports.tell.Goals as goal
 
 pub returns-in-Ok : goal.returns-in-Ok

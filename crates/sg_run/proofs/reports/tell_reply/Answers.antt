@@ -3,10 +3,10 @@ use Rattle.std.specs.Option.{option_map_or}
 use Rattle.sg_replies.specs.declared.reply.Reply.TheVariants.{Fetched}
 use Rattle.sg_report.specs.Reports.{report_of}
 use Rattle.sg_report.specs.declared.answers.ReportFault.TheVariants.{NoAttribute}
-use Rattle.sg_told.specs.Filed.{report_end}
-use Rattle.sg_told.specs.declared.status.Status.TheVariants.{ReadFault}
-use Rattle.sg_told.proofs.Endings.{ends_as, ends_text}
-use Rattle.sg_told.proofs.Filing.{file_missing, file_there}
+use Rattle.sg_output.specs.Filed.{report_end}
+use Rattle.sg_output.specs.declared.status.Status.TheVariants.{ReadFault}
+use Rattle.sg_output.proofs.Endings.{ends_as, ends_text}
+use Rattle.sg_output.proofs.Filing.{file_missing, file_there}
 use Rattle.sg_run.proofs.reports.tell_reply.Goals as goal
 
 pub returns-in-Fetched : goal.returns-in-Fetched

@@ -1,10 +1,10 @@
 use Rattle.std.proofs.Common.{refl, arith}
-use Rattle.sg_told.specs.declared.status.Status.TheVariants.{Done}
-use Rattle.sg_told.specs.Output.{checked, ok_text}
-use Rattle.sg_told.proofs.Exits.{ended_is}
-use Rattle.sg_told.proofs.Endings.{ends_text}
-use Rattle.sg_told.proofs.Opened.{read_opened, played_opened, read_as}
-use Rattle.sg_told.proofs.Requests.{played_as, played_at}
+use Rattle.sg_output.specs.declared.status.Status.TheVariants.{Done}
+use Rattle.sg_output.specs.OutputOf.{checked, ok_text}
+use Rattle.sg_output.proofs.Exits.{ended_is}
+use Rattle.sg_output.proofs.Endings.{ends_text}
+use Rattle.sg_output.proofs.Opened.{read_opened, played_opened, read_as}
+use Rattle.sg_output.proofs.Requests.{played_as, played_at}
 use Rattle.sg_run.proofs.running.check.Goals as goal
 
 pub returns-in_err-open : goal.returns-in_err-open

@@ -1,18 +1,18 @@
 use Rattle.std.proofs.Common.{map, string_bytes, sym}
-use Rattle.sg_told.specs.declared.status.Status.TheVariants.{Usage, ReadFault, SpecFault, ScriptFault, ReportFault}
-use Rattle.sg_told.specs.Job.{job}
-use Rattle.sg_told.specs.Output.{told}
-use Rattle.sg_told.proofs.Endings.{ends_with}
-use Rattle.sg_told.proofs.Requests.{ran_whole}
-use Rattle.sg_told.proofs.Opened.{read_with}
-use Rattle.sg_told.proofs.CauseLaws.{right_of, usage_cause, read_cause, spec_cause, script_cause, report_cause, failed_rose, done_or_memory}
+use Rattle.sg_output.specs.declared.status.Status.TheVariants.{Usage, ReadFault, SpecFault, ScriptFault, ReportFault}
+use Rattle.sg_output.specs.Job.{job}
+use Rattle.sg_output.specs.OutputOf.{output_of}
+use Rattle.sg_output.proofs.Endings.{ends_with}
+use Rattle.sg_output.proofs.Requests.{ran_whole}
+use Rattle.sg_output.proofs.Opened.{read_with}
+use Rattle.sg_output.proofs.CauseLaws.{right_of, usage_cause, read_cause, spec_cause, script_cause, report_cause, failed_rose, done_or_memory}
 use Rattle.sg_run.proofs.running.run.Goals as goal
 
 pub returns-clause-known : goal.returns-clause-known
 returns-clause-known g c = read_with (job (map string_bytes c.args.words.now)) _ _ _ _ _ c.run_job.ensures.known c.status_of-status.ensures
 
 pub returns-clause-ran : goal.returns-clause-ran
-returns-clause-ran g c = λ r right. ran_whole (told (map string_bytes c.args.words.now) r) _ _ _ _ _ (c.run_job.ensures.played r right) c.status_of-status.ensures
+returns-clause-ran g c = λ r right. ran_whole (output_of (map string_bytes c.args.words.now) r) _ _ _ _ _ (c.run_job.ensures.played r right) c.status_of-status.ensures
 
 pub returns-clause-usage : goal.returns-clause-usage
 returns-clause-usage g c = λ is.

@@ -2,15 +2,15 @@ use Rattle.std.proofs.Common.{◌≡◌, Some, None, sym, ap, ◌∙◌, map, st
 use Rattle.sg_eval.specs.Journal.{counted}
 use Rattle.sg_run.specs.declared.words.Job.{Job as Words}
 use Rattle.sg_run.specs.JobView.{job_of}
-use Rattle.sg_told.specs.declared.status.Status.TheVariants.{Usage}
-use Rattle.sg_told.specs.Job.{job}
-use Rattle.sg_told.specs.Job.Job.{Show, Check, Run, Load, Report}
-use Rattle.sg_told.specs.Output.{job_told}
-use Rattle.sg_told.proofs.Blank.{blank_readers}
-use Rattle.sg_told.proofs.Endings.{ends_text}
-use Rattle.sg_told.proofs.Opened.{told_by, read_job, read_none}
-use Rattle.sg_told.proofs.Requests.{played_nothing}
-use Rattle.sg_told.proofs.Works.{known_lines, right_by}
+use Rattle.sg_output.specs.declared.status.Status.TheVariants.{Usage}
+use Rattle.sg_output.specs.Job.{job}
+use Rattle.sg_output.specs.Job.Job.{Show, Check, Run, Load, Report}
+use Rattle.sg_output.specs.OutputOf.{job_told}
+use Rattle.sg_output.proofs.Blank.{blank_readers}
+use Rattle.sg_output.proofs.Endings.{ends_text}
+use Rattle.sg_output.proofs.Opened.{told_by, read_job, read_none}
+use Rattle.sg_output.proofs.Requests.{played_nothing}
+use Rattle.sg_output.proofs.Works.{known_lines, right_by}
 use Rattle.sg_run.proofs.running.run_job.Goals as goal
 
 pub returns-in-None : goal.returns-in-None

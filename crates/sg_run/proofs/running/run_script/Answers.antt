@@ -1,12 +1,12 @@
 use Rattle.std.proofs.Common.{refl}
 use Rattle.sg_eval.specs.Journal.{counted}
 use Rattle.sg_editor.specs.Session.{start}
-use Rattle.sg_told.specs.Session.{desk, session}
-use Rattle.sg_told.specs.Output.{performed}
-use Rattle.sg_told.proofs.Exits.{ended_is}
-use Rattle.sg_told.proofs.Opened.{read_opened, played_opened, read_as, script_quiet}
-use Rattle.sg_told.proofs.Requests.{played_as, played_after}
-use Rattle.sg_told.proofs.Turns.{session_quiet, session_from}
+use Rattle.sg_output.specs.Session.{desk, session}
+use Rattle.sg_output.specs.OutputOf.{performed}
+use Rattle.sg_output.proofs.Exits.{ended_is}
+use Rattle.sg_output.proofs.Opened.{read_opened, played_opened, read_as, script_quiet}
+use Rattle.sg_output.proofs.Requests.{played_as, played_after}
+use Rattle.sg_output.proofs.Turns.{session_quiet, session_from}
 use Rattle.sg_run.proofs.running.run_script.Goals as goal
 
 pub returns-in_err-opened : goal.returns-in_err-opened

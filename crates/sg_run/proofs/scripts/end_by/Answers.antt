@@ -1,7 +1,7 @@
 use Rattle.std.proofs.Common.{[]}
 use Rattle.sg_script.specs.Script.{script_of}
-use Rattle.sg_told.proofs.Endings.{ends_as, ends_early}
-use Rattle.sg_told.proofs.Opened.{scanned_quiet, scanned_err}
+use Rattle.sg_output.proofs.Endings.{ends_as, ends_early}
+use Rattle.sg_output.proofs.Opened.{scanned_quiet, scanned_err}
 use Rattle.sg_run.proofs.scripts.end_by.Goals as goal
 
 pub returns-in-NoMemory : goal.returns-in-NoMemory

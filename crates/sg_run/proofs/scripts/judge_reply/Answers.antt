@@ -1,8 +1,8 @@
 use Rattle.std.proofs.Common.{◌≡◌, ℕ, List, [], sym, ap, ◌∙◌}
 use Rattle.sg_replies.specs.declared.reply.Reply.TheVariants.{Fetched}
-use Rattle.sg_told.specs.declared.status.Status.TheVariants.{ReadFault}
-use Rattle.sg_told.proofs.Endings.{ends_as, ends_text}
-use Rattle.sg_told.proofs.Opened.{script_missing, script_by, script_ended}
+use Rattle.sg_output.specs.declared.status.Status.TheVariants.{ReadFault}
+use Rattle.sg_output.proofs.Endings.{ends_as, ends_text}
+use Rattle.sg_output.proofs.Opened.{script_missing, script_by, script_ended}
 use Rattle.sg_run.proofs.scripts.judge_reply.Goals as goal
 
 pub returns-in-Fetched : goal.returns-in-Fetched

@@ -1,8 +1,8 @@
 use Rattle.std.proofs.Common.{◌∙◌, refl, arith}
-use Rattle.sg_told.specs.declared.status.Status.TheVariants.{ScriptFault}
-use Rattle.sg_told.specs.Told.{text}
-use Rattle.sg_told.specs.Output.{script_fault_text}
-use Rattle.sg_told.proofs.Endings.{ends_text, finished_as, ends_early}
+use Rattle.sg_output.specs.declared.status.Status.TheVariants.{ScriptFault}
+use Rattle.sg_output.specs.Output.{text}
+use Rattle.sg_output.specs.OutputOf.{script_fault_text}
+use Rattle.sg_output.proofs.Endings.{ends_text, finished_as, ends_early}
 use Rattle.sg_run.proofs.scripts.refuse.Goals as goal
 
 pub returns-in-Ok : goal.returns-in-Ok

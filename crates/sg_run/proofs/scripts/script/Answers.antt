@@ -1,8 +1,8 @@
 use Rattle.std.proofs.Common.{Vec, Global}
 use Rattle.sg_script.specs.declared.command.Command.{Command}
-use Rattle.sg_told.specs.Output.{scripted}
-use Rattle.sg_told.proofs.Exits.{exits}
-use Rattle.sg_told.proofs.Fetches.{script_ok, script_err}
+use Rattle.sg_output.specs.OutputOf.{scripted}
+use Rattle.sg_output.proofs.Exits.{exits}
+use Rattle.sg_output.proofs.Fetches.{script_ok, script_err}
 use Rattle.sg_run.proofs.scripts.script.Goals as goal
 
 pub returns-in_err-reply-clause-played : goal.returns-in_err-reply-clause-played

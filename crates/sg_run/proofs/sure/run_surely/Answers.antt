@@ -5,8 +5,8 @@ use Rattle.sg_outside.specs.Count.{raised, raised_by}
 use Rattle.sg_replies.specs.declared.reply.Reply.{Reply}
 use Rattle.sg_replies.specs.Requests.{failure, failures}
 use Rattle.sg_replies.proofs.Laws.{≤-raised_by}
-use Rattle.sg_told.specs.Job.{job}
-use Rattle.sg_told.proofs.CauseLaws.{failures_counted}
+use Rattle.sg_output.specs.Job.{job}
+use Rattle.sg_output.proofs.CauseLaws.{failures_counted}
 use Rattle.sg_run.proofs.sure.run_surely.Goals as goal
 
 -- a count that stayed at 0 was not raised

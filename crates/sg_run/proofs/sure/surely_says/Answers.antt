@@ -1,6 +1,6 @@
 use Rattle.std.proofs.Common.{subst}
-use Rattle.sg_told.specs.declared.status.Status.{Status}
-use Rattle.sg_told.specs.Statuses.{IsEnd}
+use Rattle.sg_output.specs.declared.status.Status.{Status}
+use Rattle.sg_output.specs.Statuses.{IsEnd}
 use Rattle.sg_run.proofs.sure.surely_says.Goals as goal
 
 pub returns : goal.returns

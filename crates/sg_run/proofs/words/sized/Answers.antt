@@ -1,5 +1,5 @@
 use Rattle.std.proofs.Common.{sym}
-use Rattle.sg_told.proofs.Jobs.{size_bounds}
+use Rattle.sg_output.proofs.Jobs.{size_bounds}
 use Rattle.sg_run.proofs.words.sized.Goals as goal
 
 pub returns-clause-window : goal.returns-clause-window

@@ -1,8 +1,8 @@
 use Rattle.std.proofs.Common.{◌≢◌, ◌∙◌, inl}
 use Rattle.sg_kinds.specs.declared.fault.SpecFault.TheVariants.{NoMemory}
 use Rattle.sg_eval.specs.Journal.{counted}
-use Rattle.sg_told.proofs.Endings.{ends_with}
-use Rattle.sg_told.proofs.Works.{the_lines, lines_read, ends_told, ends_cut, ends_fault, known_cut, known_fault}
+use Rattle.sg_output.proofs.Endings.{ends_with}
+use Rattle.sg_output.proofs.Works.{the_lines, lines_read, ends_told, ends_cut, ends_fault, known_cut, known_fault}
 use Rattle.sg_run.proofs.workloads.work.Goals as goal
 
 -- the line was told

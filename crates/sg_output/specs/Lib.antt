@@ -1,0 +1,14 @@
+pub mod Statuses
+pub mod Job
+pub mod Output
+pub mod Session
+pub mod Judged
+pub mod Work
+pub mod Filed
+pub mod OutputOf
+pub mod Reading
+pub mod World
+pub mod Ran
+pub mod Parts
+pub mod Causes
+pub mod Opening
