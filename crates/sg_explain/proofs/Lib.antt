@@ -1,3 +1,4 @@
 pub mod Declarations
 pub mod Words
 pub mod Causes
+pub mod Below

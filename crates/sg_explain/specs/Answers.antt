@@ -12,6 +12,7 @@ use Rattle.sg_explain.specs.declared.explaining.Explanation.{Explanation}
 use Rattle.sg_explain.specs.Places.{place_of}
 use Rattle.sg_explain.specs.Shown.{where_text, shown}
 use Rattle.sg_explain.specs.Advice.{advice}
+use Rattle.sg_explain.specs.Help.{help_text}
 
 -- the place of the fault, its line as the check of a specification prints it, and the text's line with a caret
 abbrev pub heading : Bytes → Bytes → Fault → Bytes
@@ -20,7 +21,7 @@ heading file bytes f = let place = place_of bytes f in
 
 -- what is told of a specification that is refused for this fault
 abbrev pub explained : Bytes → Bytes → Fault → Bytes
-explained file bytes f = heading file bytes f ++ advice f
+explained file bytes f = heading file bytes f ++ (advice f ++ help_text bytes f)
 
 -- what is told of one that is accepted
 abbrev pub ok_text : Bytes

@@ -3,6 +3,7 @@ ghost use Rattle.std.specs.Prelude.{◌≡◌, ◌++◌, IfOk, OnOk};
 ghost use Rattle.sg_explain.specs.Answers.{explained as explained_text, heading as heading_text};
 
 use crate::advice::write_advice;
+use crate::help::write_help;
 use crate::place::place;
 use crate::shown::{write_shown_place, write_where};
 use sg_faults::fault_line;
@@ -39,5 +40,6 @@ pub fn explained(
     let mut out = Vec::new(alloc);
     write_heading(alloc, &mut out, file, bytes, fault)?;
     write_advice(&mut out, fault)?;
+    write_help(alloc, &mut out, bytes, fault)?;
     Ok(out)
 }

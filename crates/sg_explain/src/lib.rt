@@ -6,6 +6,8 @@ mod advice;
 mod ending;
 mod explaining;
 mod heading;
+mod help;
+mod lacks;
 mod place;
 mod running;
 mod shown;
