@@ -267,6 +267,8 @@ def wrong(words, files, status, output):
         first = os.fsencode(words[0])
         if first == b"check":
             fits = output == b"ok\n"
+        elif first == b"report":
+            fits = output.endswith(b"\n") and output.split(b"\n")[-2].startswith(b"values ")
         else:
             fits = all(line.startswith(b"= ") for line in blocks)
             given = files.get(os.fsdecode(words[2])) if first == b"run" else None

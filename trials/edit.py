@@ -97,7 +97,7 @@ def built(at, folder):
 
 
 def more(at):
-    """Moves, the menu, runs, a page, a word that is no command, and leaving."""
+    """Moves, the menu, runs, a page, a word that is no command, another view, and leaving."""
     at.keys("Down", "Down")
     at.waits("line ")
     at.keys("+")
@@ -113,6 +113,14 @@ def more(at):
     at.typed("jump")
     at.keys("Enter")
     at.waits("no command")
+    at.keys("V")
+    at.typed("bill")
+    at.keys("Enter")
+    at.waits("BILL", "sheet_sgt/bill*")
+    at.keys("V", "BSpace", "BSpace", "BSpace", "BSpace", "Enter")
+    at.waits("sheet_sgt*", "  line  ", without=("BILL",))
+    at.keys("Right", "Down")
+    at.waits("  exp  ")
     at.keys("?")
     at.waits("previous place", "any key")
     while "goes back" not in at.screen():
@@ -177,7 +185,7 @@ def main():
     for columns, rows in ((80, 24), (40, 10)):
         with tempfile.TemporaryDirectory() as folder:
             spec = os.path.join(folder, "sheet.ssl")
-            shutil.copy(os.path.join(TOP, "examples", "tutorial", "09.ssl"), spec)
+            shutil.copy(os.path.join(TOP, "examples", "tutorial", "13.ssl"), spec)
             at = Terminal(folder, columns, rows, [os.path.realpath(os.path.join(TOP, "tools", "ssled-edit")), spec], live)
             try:
                 built(at, folder)

@@ -279,7 +279,7 @@ def main():
     words.add_argument("lines", type=int, nargs="*")
     words.add_argument("--from", type=int, default=1, dest="first")
     words.add_argument("--step", type=int, default=1)
-    words.add_argument("--keep")
+    words.add_argument("--keep", type=lambda folder: Path(folder).resolve())
     words.add_argument("--live", action="store_true")
     words.add_argument("--stack", action="store_true")
     words.add_argument("--kib", type=int, default=8192)

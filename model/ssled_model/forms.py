@@ -1,7 +1,7 @@
-"""The forms that the program has so far beyond the first ones.
+"""The forms that the program has beyond the first ones.
 
-`levels`, `enclosing` and `views` are forms of SSL-P that are not read yet: a
-declaration with one of them has no reading, and `view` is no command.
+A form of SSL-P or of scripts whose word does not stand here is not read: a
+declaration with it has no reading, and its command is none.
 """
 
-FORMS = frozenset({"runs", "search", "report"})
+FORMS = frozenset({"runs", "search", "report", "levels", "enclosing", "views"})

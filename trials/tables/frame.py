@@ -178,5 +178,23 @@ class Table:
         print(f"{time.time() - began:6.1f} s {len(self.blocks[-1]):8} bytes  {note}", file=sys.stderr)
         return blocks
 
+    def said(self, word, note, language):
+        """Adds the case of `check` or `show` of this language, whole or the name of one."""
+        data = self.texts.get(language) or language.strip().encode("ascii") + b"\n"
+        with tempfile.TemporaryDirectory() as folder:
+            (Path(folder) / "s").write_bytes(data)
+            done = subprocess.run([self.program, word, "s"], cwd=folder, stdout=subprocess.PIPE, check=False)
+        rise = sum(block.count for block in blocks_of(done.stdout)) if word == "show" and done.returncode == 0 else 0
+        case = f"// {note}\n\n" if note else ""
+        self.blocks.append(f"{case}run {word} s\nfile s\n{self.content(data)}gives {done.returncode} 1 {rise}\n{text(done.stdout)}")
+        self.cases += 1
+        return done.stdout
+
+    def check(self, language, note=""):
+        return self.said("check", note, language)
+
+    def show(self, language, note=""):
+        return self.said("show", note, language)
+
     def whole(self):
         return "\n".join(self.blocks)
