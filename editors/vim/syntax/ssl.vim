@@ -4,6 +4,7 @@ if exists("b:current_syntax")
 endif
 
 syntax keyword sslDeclaration root list optional transform on
+syntax match sslDeclaration /\<\%(left\|right\|nonassoc\)\>\ze\s*'/
 syntax keyword sslAttribute synthesized inherited local
 syntax keyword sslExpression let in with default
 syntax keyword sslTruth true false
@@ -11,6 +12,7 @@ syntax keyword sslType BOOL INT STR
 syntax keyword sslBuiltin STRtoINT INTtoSTR STRlen
 syntax match sslNumber /\<\d\+\>/
 syntax match sslReference /\$\$\|\$\d\+/
+syntax match sslReference /\%([=(,:?+*/%#&|<>!-]\s\?\)\@<={\s*\h\w*\s*\.\s*\h\w*\%(\s*,\s*\h\w*\s*\.\s*\h\w*\)*\s*}/
 syntax match sslSign /::=\|::\|\.\.\|[@^~]/
 syntax match sslEscape contained /\\["\\n]\|%[ntb%]/
 syntax region sslString start=/"/ skip=/\\./ end=/"\|$/ contains=sslEscape
