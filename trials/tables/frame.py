@@ -18,6 +18,24 @@ CALLED = {
 REPEATED = re.compile(r"(.{1,40}?)\1{15,}")
 SCRIPT = "script"
 
+# Sums of numbers, without a typed-in form.
+SUMS_TERMS = """
+root calc;
+calc : CalcTop(exp);
+exp : Null() | Sum(exp exp) | Const(INT);
+exp { synthesized INT v; };
+exp : Null { $$.v = 0; };
+exp : Sum { $$.v = exp$2.v + exp$3.v; };
+exp : Const { $$.v = INT.value; };
+calc : CalcTop [ @ : @ "%nVALUE = " exp.v ];
+exp : Null [ @ ::= "<exp>" ];
+exp : Sum [ @ ::= "(" @ " + " @ ")" ];
+exp : Const [ @ ::= ^ ];
+transform exp on "+" e : Sum(e, <exp>);
+NUM : < "[0-9]+" >;
+WHITESPACE : < "[ \\n]+" >;
+"""
+
 # The typed-in form of sums of numbers.
 SUMS_ENTRY = """E { synthesized exp t; };
 T { synthesized exp t; };
@@ -25,6 +43,9 @@ E ::= (E '+' T) { Sum(E$2.t, T.t) } | (T) { T.t };
 T ::= (NUM) { Const(STRtoINT(NUM.value)) } | ('(' E ')') { E.t };
 exp ~ E.t;
 """
+
+# Both.
+SUMS = SUMS_TERMS + SUMS_ENTRY
 
 
 class Pieces(bytes):

@@ -1,30 +1,13 @@
 """A bad day: texts and scripts at their limits and past them, files that are none, devices that fail, deep things."""
 from pathlib import Path
 
-from frame import SCRIPT, SUMS_ENTRY, Pieces, blocks_of, text
+from frame import SCRIPT, SUMS, Pieces, blocks_of, text
 
 ABOUT = """
 Scripts at their limits and past them, files that are missing or none, calls and puts that fail one at a time, deep
 terms and files, and a script that does each kind of thing once. Made by `trials/tables/make.py PROGRAM hostile`, where
 PROGRAM was model/ssled.
 """
-
-CALCULATOR = """
-root calc;
-calc : CalcTop(exp);
-exp : Null() | Sum(exp exp) | Const(INT);
-exp { synthesized INT v; };
-exp : Null { $$.v = 0; };
-exp : Sum { $$.v = exp$2.v + exp$3.v; };
-exp : Const { $$.v = INT.value; };
-calc : CalcTop [ @ : @ "%nVALUE = " exp.v ];
-exp : Null [ @ ::= "<exp>" ];
-exp : Sum [ @ ::= "(" @ " + " @ ")" ];
-exp : Const [ @ ::= ^ ];
-transform exp on "+" e : Sum(e, <exp>);
-NUM : < "[0-9]+" >;
-WHITESPACE : < "[ \\n]+" >;
-""" + SUMS_ENTRY
 
 LINES = (Path(__file__).resolve().parents[2] / "examples" / "lines.ssl").read_text(encoding="ascii")
 
@@ -158,7 +141,7 @@ def chain(levels, leaf):
 
 
 def add(table):
-    table.language("calculator", CALCULATOR)
+    table.language("calculator", SUMS)
     table.language("lines", LINES)
     table.language("chain", CHAIN)
     table.run("Eighteen commands that do each kind of thing once.", "lines", EVERY)

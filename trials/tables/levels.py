@@ -1,27 +1,13 @@
 """Precedence lines: how they group texts, and what is told of grammars with them."""
+from frame import SUMS_TERMS
+
 ABOUT = """
 Precedence lines: how they group typed-in texts, what is refused in them, and the conflicts of grammars with levels. Made by
 `trials/tables/make.py PROGRAM levels`, where PROGRAM was model/ssled.
 """
 
 # A language of sums up to the attribute of E, whose typed-in form is still to come.
-HEAD = """
-root calc;
-calc : CalcTop(exp);
-exp : Null() | Sum(exp exp) | Const(INT);
-exp { synthesized INT v; };
-exp : Null { $$.v = 0; };
-exp : Sum { $$.v = exp$2.v + exp$3.v; };
-exp : Const { $$.v = INT.value; };
-calc : CalcTop [ @ : @ "%nVALUE = " exp.v ];
-exp : Null [ @ ::= "<exp>" ];
-exp : Sum [ @ ::= "(" @ " + " @ ")" ];
-exp : Const [ @ ::= ^ ];
-transform exp on "+" e : Sum(e, <exp>);
-NUM : < "[0-9]+" >;
-WHITESPACE : < "[ \\n]+" >;
-E { synthesized exp t; };
-""".strip().split("\n")
+HEAD = (SUMS_TERMS + "E { synthesized exp t; };").strip().split("\n")
 ENTRY = "exp ~ E.t;"
 SUM = "{ Sum(E$2.t, E$3.t) }"
 TURNED = "{ Sum(E$3.t, E$2.t) }"
@@ -84,7 +70,7 @@ def texts(*typed):
 def add(table):
     for note, lines in CHECKED:
         table.check(language(lines), note)
-    table.check(language(["left '+';", f"E ::= (E '+' T) {SUM} | {NUMBER};"]), "A nonterminal that is not there.")
+    table.check(language(["left '+';", "E ::= (E '+' T) { Sum(E$2.t, T.t) } | (T) { T.t };"]), "A nonterminal that is not there.")
     table.language("calculator", language(["left '+' '-';", "left '*';", CALCULATOR]))
     table.run("Two levels, a prefix, parentheses.", "calculator", texts(*TEXTS), (40, 3))
     table.language("behind", language([CALCULATOR, "left '+' '-';", "left '*';"]))

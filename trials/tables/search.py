@@ -1,28 +1,11 @@
 """A name as a pattern: the next place where it applies, and all of them replaced at once."""
-from frame import SUMS_ENTRY
+from frame import SUMS
 
 ABOUT = """
 The next place at which a transformation of a name applies, and what all outermost ones make of a selection: languages and
 scripts written by hand, with hidden and elided places, leaves, runs of elements, faults, and the limits of a term. Made by
 `trials/tables/make.py PROGRAM search`, where PROGRAM was model/ssled.
 """
-
-SUMS = """
-root calc;
-calc : CalcTop(exp);
-exp : Null() | Sum(exp exp) | Const(INT);
-exp { synthesized INT v; };
-exp : Null { $$.v = 0; };
-exp : Sum { $$.v = exp$2.v + exp$3.v; };
-exp : Const { $$.v = INT.value; };
-calc : CalcTop [ @ : @ "%nVALUE = " exp.v ];
-exp : Null [ @ ::= "<exp>" ];
-exp : Sum [ @ ::= "(" @ " + " @ ")" ];
-exp : Const [ @ ::= ^ ];
-transform exp on "+" e : Sum(e, <exp>);
-NUM : < "[0-9]+" >;
-WHITESPACE : < "[ \\n]+" >;
-""" + SUMS_ENTRY
 
 NAMES = SUMS + """
 transform exp on "double" Const(n) : Sum(Const(n), Const(n));

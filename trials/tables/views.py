@@ -1,28 +1,12 @@
 """Views: what is seen and selected in them, what they leave alone, and what is refused in their declarations."""
-from frame import SUMS_ENTRY
+from frame import SUMS
 
 ABOUT = """
 Views: schemes by name, the command that shows a buffer in one, undo and redo across views, and each fault of their declarations.
 Made by `trials/tables/make.py PROGRAM views`, where PROGRAM was model/ssled.
 """
 
-PLAIN = """
-root calc;
-calc : CalcTop(exp);
-exp : Null() | Sum(exp exp) | Const(INT);
-exp { synthesized INT v; };
-exp : Null { $$.v = 0; };
-exp : Sum { $$.v = exp$2.v + exp$3.v; };
-exp : Const { $$.v = INT.value; };
-calc : CalcTop [ @ : @ "%nVALUE = " exp.v ];
-exp : Null [ @ ::= "<exp>" ];
-exp : Sum [ @ ::= "(" @ " + " @ ")" ];
-exp : Const [ @ ::= ^ ];
-transform exp on "+" e : Sum(e, <exp>);
-NUM : < "[0-9]+" >;
-WHITESPACE : < "[ \\n]+" >;
-""" + SUMS_ENTRY
-SUMS = PLAIN + """exp : Sum in post [ @ ::= @ " " @ " +" ];
+VIEWED = SUMS + """exp : Sum in post [ @ ::= @ " " @ " +" ];
 calc : CalcTop in flat [ @ : .. "VALUE " exp.v ];
 """
 
@@ -51,13 +35,13 @@ transform x on "b" q : B(q, A());
 HIDING = ROUND + """xs : P in hid [ @ : ^ [ "," ] @ ];
 x : A in hat [ ^ : "h" ];
 """
-EDITABLE = SUMS + """exp : Null in nop [ @ : "n" ];
+EDITABLE = VIEWED + """exp : Null in nop [ @ : "n" ];
 exp : Const in nop [ @ ::= .. "c" ];
 """
-NAMED = SUMS + """transform exp on "n" Null() : Const(1);
+NAMED = VIEWED + """transform exp on "n" Null() : Const(1);
 """
 
-# Each is a line more of SUMS.
+# Each is a line more of VIEWED.
 MORE = [
     ("A second declaration of an operator in one view; one in another.", "exp : Sum in post [ @ : @ @ ];"),
     ("", "exp : Sum in other [ @ : @ @ ];"),
@@ -79,26 +63,26 @@ BEGIN = ["new a", "next", 'do "+"', "next", 'text "4"']
 
 
 def views(count):
-    """SUMS with so many views."""
-    return SUMS.replace(" in post", " in v0").replace(" in flat", " in v1") + "".join(f'exp : Null in v{i} [ @ : "{i}" ];\n' for i in range(2, count))
+    """VIEWED with so many views."""
+    return VIEWED.replace(" in post", " in v0").replace(" in flat", " in v1") + "".join(f'exp : Null in v{i} [ @ : "{i}" ];\n' for i in range(2, count))
 
 
 def add(table):
     for note, line in MORE:
-        table.check(SUMS + line, note)
-    typed = SUMS.replace("exp { synthesized INT v; };", "exp { synthesized INT v; synthesized exp t; };") \
+        table.check(VIEWED + line, note)
+    typed = VIEWED.replace("exp { synthesized INT v; };", "exp { synthesized INT v; synthesized exp t; };") \
         .replace("$$.v = 0;", "$$.v = 0; $$.t = Null();").replace("exp$3.v; };", "exp$3.v; $$.t = Null(); };").replace("INT.value; };", "INT.value; $$.t = Null(); };")
     table.check(typed + "calc : CalcTop in t [ @ : @ exp.t ];", "What a scheme cannot show.")
     early, late = "exp : Null in early [ @ : @ ];", "exp : Sum [ @ : @ ];"
-    wrong = PLAIN.replace('exp : Sum [ @ ::= "(" @ " + " @ ")" ];\n', "")
+    wrong = SUMS.replace('exp : Sum [ @ ::= "(" @ " + " @ ")" ];\n', "")
     for first, second in ((early, late), (late, early)):
         table.check(wrong.replace("exp : Null [", f"{first}\n{second}\nexp : Null ["), "Faults of views and of ordinary schemes come by place.")
-    table.check(PLAIN.replace("exp : Null [", "exp : Null in post ["), "A view's schemes are not the ordinary ones.")
+    table.check(SUMS.replace("exp : Null [", "exp : Null in post ["), "A view's schemes are not the ordinary ones.")
     table.check(views(16), "As many views as may be; one more, which is told before what is unknown, and behind what is too many before it.")
     table.check(views(17))
     table.check(views(17) + 'exp : Foo in v3 [ @ : "x" ];')
     table.check(views(17) + f"E ::= ({' '.join(['E'] * 17)}) {{ Null() }};")
-    table.language("sums", SUMS)
+    table.language("sums", VIEWED)
     table.run("A buffer in two views, and back.", "sums", BEGIN + ["view post", 'text "5"', "view", "view flat", "view none", "view"], (40, 6))
     table.run("Undo and redo in another view.", "sums", BEGIN + ["view flat", "undo", "undo", "view", "redo", "redo", "undo"], (40, 6))
     table.run("", "sums", BEGIN + ["view flat", "undo", "undo", "view", "redo", "redo", "undo", "view flat", "redo", "view post", "undo", "redo"], (40, 6))
