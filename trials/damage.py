@@ -30,7 +30,7 @@ NUMBERS = [b"0", b"1", b"2", b"16", b"17", b"1023", b"1024", b"1025", b"65536", 
 ODD = [b"\0", b"\t", b"\r", b"\x7f", b"\x80", b"\xff", b"\xc3\xa9", b"/*", b"*/", b"`", b"\\", b'"', b"'", b"(", b")", b"%", b"@", b"^"]
 LINES = ["next", "prev", "up", "first", "sibling", "delete", "remove", "insert-before", "insert-after", "cut", "copy", "paste", "erase",
          "enter", "abandon", "alternate", "elide", "undo", "redo", "extend", "extend", "shrink", "show", "save kept", "load again kept", "load b file", "new b",
-         "save-text text", "load c text", "load d script", "load e spec", "load f none", "switch b", "switch a"]
+         "save-text text", "load c text", "load d script", "load e spec", "load f none", "switch b", "switch a", "view", "view outline"]
 SIGNS = [(b"+", b"-", b"*", b"/"), (b"<", b"==", b">"), (b"&", b"|"), (b":", b"::="), (b"@", b"^")]
 # What a text has to begin with, by its status.
 TEXTS = {2: b"usage: ", 3: b"read fault ", 4: b"fault ", 5: b"script ", 7: b"report "}

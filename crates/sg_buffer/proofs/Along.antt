@@ -15,7 +15,7 @@ use Rattle.sg_groves.specs.TermAt.{term_at}
 use Rattle.sg_changes.specs.Captured.{Captured}
 use Rattle.sg_changes.specs.Chain.{AllGo, CanGo, IsProper, Passes, Stands}
 use Rattle.sg_changes.specs.Changes.{Change, chosen, opposite, part_of, spot_along, term_along}
-use Rattle.sg_changes.specs.Told.{Agree, Exchanged, change_along, hanging, hung, told_along, tops, tops_of}
+use Rattle.sg_changes.specs.StepChanges.{Agree, Exchanged, change_along, hanging, hung, told_along, tops, tops_of}
 use Rattle.sg_changes.specs.declared.direction.Direction.{Direction}
 use Rattle.sg_changes.specs.declared.direction.Direction.TheVariants.{Back, Forth}
 use Rattle.sg_changes.specs.declared.spot.Spot.{Spot}
@@ -25,7 +25,7 @@ use Rattle.sg_changes.proofs.Chained.{go_chains}
 use Rattle.sg_changes.proofs.Telling.{told_ahead, told_behind}
 use Rattle.sg_undo.specs.Timeline.{Timeline}
 use Rattle.sg_unparse.specs.Sheet.{Sheet}
-use Rattle.sg_buffer.specs.declared.way.Standing.{Standing}
+use Rattle.sg_buffer.specs.declared.standing.Standing.{Standing}
 use Rattle.sg_states.specs.Beginnings.{Begins}
 use Rattle.sg_states.specs.Selections.{place_in}
 use Rattle.sg_states.specs.Seen.{is_spot, nothing_typed, respotted}
@@ -33,18 +33,18 @@ use Rattle.sg_states.specs.States.{State, ahead, gone, gone_by}
 use Rattle.sg_states.specs.Paged.{IsWhole, page_seen}
 use Rattle.sg_states.proofs.Foretold.{if_some}
 use Rattle.sg_states.proofs.Spotted.{settled_seen}
-use Rattle.sg_turns.specs.Roots.{times, AreTheRoots}
-use Rattle.sg_turns.specs.Stepped.{IsStepped, MayGo, coming, seen_along, spot_then, step_place}
-use Rattle.sg_turns.specs.Turns.{Notes, NotesSome, comes_out, goes_in, made}
-use Rattle.sg_turns.specs.declared.stepped.Stepped.{Stepped}
-use Rattle.sg_turns.proofs.Hanging.{agree_then, keeps_by, listed_apart, listed_root, roots_alike, times_future, times_past}
-use Rattle.sg_turns.proofs.Stepping.{in_along, made_along, may_mark, may_swap, out_along, part_along, spot_there}
-use Rattle.sg_turns.proofs.Times.{times_append, times_cons, times_same}
+use Rattle.sg_exchanges.specs.Roots.{times, AreTheRoots}
+use Rattle.sg_exchanges.specs.Stepped.{IsStepped, MayGo, coming, seen_along, spot_then, step_place}
+use Rattle.sg_exchanges.specs.Turns.{Notes, NotesSome, comes_out, goes_in, made}
+use Rattle.sg_exchanges.specs.declared.stepped.Stepped.{Stepped}
+use Rattle.sg_exchanges.proofs.Hanging.{agree_then, keeps_by, listed_apart, listed_root, roots_alike, times_future, times_past}
+use Rattle.sg_exchanges.proofs.Stepping.{in_along, made_along, may_mark, may_swap, out_along, part_along, spot_there}
+use Rattle.sg_exchanges.proofs.Times.{times_append, times_cons, times_same}
 use Rattle.sg_buffer.specs.Gains.{Gained, NotedAlong, OfFirst}
 use Rattle.sg_buffer.specs.Held.{Held, state_of, typed_by}
 use Rattle.sg_buffer.specs.Buffers.{StandsFor, IsBuffer}
 use Rattle.sg_buffer.proofs.Closing.{Closes, closes}
-use Rattle.sg_buffer.proofs.Standing.{no_capture}
+use Rattle.sg_buffer.proofs.Stands.{no_capture}
 
 -- the fields then
 abbrev pub stepped_held : Held → Grove → Stepped → List Step → List Step → Held

@@ -23,9 +23,9 @@ use Rattle.sg_kinds.proofs.Elementary.{and_true}
 use Rattle.sg_undo.specs.Timeline.{Timeline, timeline}
 use Rattle.sg_changes.specs.declared.step.Step.{Step}
 use Rattle.sg_buffer.specs.Held.{Held, state_of}
-use Rattle.sg_turns.specs.Roots.{AreTheRoots}
+use Rattle.sg_exchanges.specs.Roots.{AreTheRoots}
 use Rattle.sg_buffer.specs.Buffers.{StandsFor, IsBuffer}
-use Rattle.sg_buffer.specs.declared.way.Standing.{Standing}
+use Rattle.sg_buffer.specs.declared.standing.Standing.{Standing}
 use Rattle.sg_buffer.proofs.Closing.{closes}
 
 -- the root begins in the first line

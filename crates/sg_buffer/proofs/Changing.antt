@@ -11,7 +11,7 @@ use Rattle.sg_groves.specs.TermAt.{term_at}
 use Rattle.sg_changes.specs.Captured.{Captured}
 use Rattle.sg_changes.specs.Chain.{AllUndo, CanGo, Passes}
 use Rattle.sg_changes.specs.Changes.{Change, redone}
-use Rattle.sg_changes.specs.Told.{told_future, told_past, tops, tops_of}
+use Rattle.sg_changes.specs.StepChanges.{told_future, told_past, tops, tops_of}
 use Rattle.sg_changes.specs.declared.direction.Direction.TheVariants.{Back, Forth}
 use Rattle.sg_changes.specs.declared.spot.Spot.{Spot}
 use Rattle.sg_changes.specs.declared.step.Step.{Step}
@@ -19,21 +19,21 @@ use Rattle.sg_changes.proofs.Chained.{go_chains, go_fewer}
 use Rattle.sg_changes.proofs.Telling.{told_agrees, told_fewer}
 use Rattle.sg_undo.specs.Timeline.{Timeline}
 use Rattle.sg_unparse.specs.Sheet.{Sheet}
-use Rattle.sg_buffer.specs.declared.way.Standing.{Standing}
+use Rattle.sg_buffer.specs.declared.standing.Standing.{Standing}
 use Rattle.sg_states.specs.Beginnings.{Begins}
 use Rattle.sg_states.specs.Selections.{place_in}
 use Rattle.sg_states.specs.Seen.{is_spot, nothing_typed}
 use Rattle.sg_states.specs.States.{State}
 use Rattle.sg_states.specs.Paged.{IsLook, IsWhole, page_seen}
 use Rattle.sg_states.proofs.Foretold.{if_some}
-use Rattle.sg_turns.specs.Roots.{times, AreTheRoots, Drops, KeepsTree}
-use Rattle.sg_turns.specs.declared.turns.Turned.{Turned}
-use Rattle.sg_turns.proofs.Hanging.{agree_left, root_kept, roots_left}
-use Rattle.sg_turns.proofs.Trees.{climbs_on, page_on, whole_kept}
+use Rattle.sg_exchanges.specs.Roots.{times, AreTheRoots, Drops, KeepsTree}
+use Rattle.sg_exchanges.specs.declared.turns.Turned.{Turned}
+use Rattle.sg_exchanges.proofs.Hanging.{agree_left, root_kept, roots_left}
+use Rattle.sg_exchanges.proofs.Trees.{climbs_on, page_on, whole_kept}
 use Rattle.sg_buffer.specs.Held.{Held, state_of, typed_by}
 use Rattle.sg_buffer.specs.Buffers.{StandsFor, IsBuffer}
 use Rattle.sg_buffer.proofs.Closing.{Closes, closes}
-use Rattle.sg_buffer.proofs.Standing.{no_capture}
+use Rattle.sg_buffer.proofs.Stands.{no_capture}
 
 -- the edited term once a change is made, before its step is remembered
 pub record Changed (b : Held) (mid : Grove) (now : Term) (c : Change) (step : Step) (spot : Spot) (r : Turned) : Type 0 where

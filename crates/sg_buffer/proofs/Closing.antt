@@ -10,7 +10,7 @@ use Rattle.sg_changes.specs.Captured.{Captured}
 use Rattle.sg_changes.specs.Top.{topped}
 use Rattle.sg_select.specs.RestingPlaces.{rests}
 use Rattle.sg_unparse.specs.Sheet.{Sheet}
-use Rattle.sg_buffer.specs.declared.way.Standing.{Standing}
+use Rattle.sg_buffer.specs.declared.standing.Standing.{Standing}
 use Rattle.sg_states.specs.Beginnings.{Begins}
 use Rattle.sg_states.specs.Selections.{alone, path_to, place_in, is_selection}
 use Rattle.sg_states.specs.Seen.{first_line, nothing_typed}
@@ -20,7 +20,7 @@ use Rattle.sg_states.specs.Paged.{page_seen}
 use Rattle.sg_states.proofs.Selecting.{path_there}
 use Rattle.sg_buffer.specs.Held.{Held, page_by, shown, state_of, typed_by}
 use Rattle.sg_buffer.specs.Buffers.{StandsFor, IsBuffer, Keeps, IsStanding}
-use Rattle.sg_buffer.proofs.Standing.{capturing, captured_stands, counted, is_buffer, recounted_stands, selected_stands, stands_told, stood}
+use Rattle.sg_buffer.proofs.Stands.{capturing, captured_stands, counted, is_buffer, recounted_stands, selected_stands, stands_told, stood}
 
 -- it is a buffer again, and stands for another state
 pub record Closes (b : Held) (st : State) (count room : ℕ) (page : Option Sheet) (standing : Standing) : Type 0 where

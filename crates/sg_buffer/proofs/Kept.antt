@@ -16,17 +16,17 @@ use Rattle.sg_terms.proofs.Steps.{grove}
 use Rattle.sg_groves.specs.TermAt.{term_at}
 use Rattle.sg_changes.specs.declared.direction.Direction.TheVariants.{Back, Forth}
 use Rattle.sg_changes.specs.Chain.{AllRedo, AllUndo, Passes}
-use Rattle.sg_changes.specs.Told.{Agree, tops}
+use Rattle.sg_changes.specs.StepChanges.{Agree, tops}
 use Rattle.sg_changes.proofs.Telling.{agree_first, agree_second, told_agrees}
 use Rattle.sg_unparse.specs.Sheet.{Sheet}
-use Rattle.sg_buffer.specs.declared.way.Standing.{Standing}
+use Rattle.sg_buffer.specs.declared.standing.Standing.{Standing}
 use Rattle.sg_states.specs.Selections.{place_in}
 use Rattle.sg_states.specs.Seen.{is_spot}
 use Rattle.sg_states.specs.States.{State}
 use Rattle.sg_states.specs.Paged.{page_seen}
-use Rattle.sg_turns.specs.Roots.{KeepsTree}
-use Rattle.sg_turns.proofs.Hanging.{agree_then}
-use Rattle.sg_turns.proofs.Trees.{climbs_on, holds_on, page_on, root_on, whole_kept}
+use Rattle.sg_exchanges.specs.Roots.{KeepsTree}
+use Rattle.sg_exchanges.proofs.Hanging.{agree_then}
+use Rattle.sg_exchanges.proofs.Trees.{climbs_on, holds_on, page_on, root_on, whole_kept}
 use Rattle.sg_buffer.specs.AsBefore.{IsAsBefore}
 use Rattle.sg_buffer.specs.Held.{Held, state_of, typed_by}
 use Rattle.sg_buffer.specs.Buffers.{StandsFor, IsBuffer, Keeps, IsStanding}

@@ -1,4 +1,4 @@
-pub mod Standing
+pub mod Stands
 pub mod Begun
 pub mod Closing
 pub mod Going

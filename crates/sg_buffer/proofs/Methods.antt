@@ -14,12 +14,13 @@ use Rattle.sg_changes.specs.Top.{topped}
 use Rattle.sg_select.specs.Leads.{LeadsTo}
 use Rattle.sg_select.specs.RestingPlaces.{rests, settled}
 use Rattle.sg_select.specs.Paths.{elements, spine_from}
+use Rattle.sg_select.proofs.Fronts.{climber_live}
 use Rattle.sg_select.proofs.Leading.{leads_none}
 use Rattle.sg_select.proofs.Settling.{settled_rests}
 use Rattle.sg_unparse.specs.Page.{cells_of, owner_at}
 use Rattle.sg_unparse.specs.Sheet.{Sheet}
 use Rattle.sg_unparse.specs.declared.page.Beginning.{Beginning}
-use Rattle.sg_buffer.specs.declared.way.Standing.{Standing}
+use Rattle.sg_buffer.specs.declared.standing.Standing.{Standing}
 use Rattle.sg_states.specs.Beginnings.{Begins}
 use Rattle.sg_states.specs.Selections.{elements_at, path_to}
 use Rattle.sg_states.specs.Seen.{first_line, marks_seen, nothing_typed}
@@ -30,15 +31,15 @@ use Rattle.sg_states.specs.declared.marks.Extended.TheVariants.{Done, NotInList,
 use Rattle.sg_states.specs.declared.marks.Move.{Move}
 use Rattle.sg_states.proofs.Selecting.{path_back, selection_rests}
 use Rattle.sg_states.proofs.Spotted.{spot_selects}
-use Rattle.sg_turns.specs.Known.{IsKnown}
+use Rattle.sg_exchanges.specs.Known.{IsKnown}
 use Rattle.sg_buffer.specs.Held.{Held, shown, state_of, typed_by}
 use Rattle.sg_buffer.specs.Buffers.{IsBuffer, Keeps}
 use Rattle.sg_buffer.specs.declared.buffers.Buffer.TheInside.{Inside}
 use Rattle.sg_buffer.proofs.Closing.{Closes, captured_closes, counted_closes, plain_page, stood_closes}
 use Rattle.sg_buffer.proofs.Extending.{full_told, more_there, more_told, none_told}
 use Rattle.sg_buffer.proofs.Going.{Reached, cell_leads, cell_live, cell_rests, move_rests, reached, settled_there}
-use Rattle.sg_buffer.proofs.Standing.{capturing, counted, longer, shorter, stood}
-use Rattle.sg_buffer.proofs.Standing as stands
+use Rattle.sg_buffer.proofs.Stands.{capturing, counted, longer, shorter, stood}
+use Rattle.sg_buffer.proofs.Stands as stands
 
 -- what the fields hold
 abbrev pub held : Inside → Held
@@ -60,6 +61,10 @@ module _ (b : Held) (count room : ℕ) (page : Option Sheet) (standing : Standin
 
   pub placed_now : IsPlaced b.grove b.root now.term (selected_place now) b.selected
   placed_now = stands.placed b now is.stands
+
+  -- the selected node is live
+  pub live_now : IsLive (nodes b.grove) b.selected
+  live_now = climber_live b.grove (selected_place now) b.selected b.root is.stands.whole.top is.stands.selected
 
   -- the grove is shown in the view of the state
   pub view_now : b.grove.view ≡ now.spot.view

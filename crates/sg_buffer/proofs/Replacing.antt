@@ -18,7 +18,7 @@ use Rattle.sg_groves.proofs.Ways.{one_way}
 use Rattle.sg_build.specs.Counted.{AreCounts, OfReplaced, OfWhole}
 use Rattle.sg_build.specs.declared.limits.Counts.{Counts}
 use Rattle.sg_changes.specs.Changes.{Put, part_of}
-use Rattle.sg_changes.specs.Told.{tops, tops_of}
+use Rattle.sg_changes.specs.StepChanges.{tops, tops_of}
 use Rattle.sg_changes.specs.declared.spot.Selection.{Selection}
 use Rattle.sg_changes.specs.declared.spot.Spot.{Spot}
 use Rattle.sg_changes.specs.declared.step.Step.{Step}
@@ -27,15 +27,15 @@ use Rattle.sg_changes.proofs.Marking.{part_is}
 use Rattle.sg_changes.proofs.Telling.{agree_first, put_pushed}
 use Rattle.sg_undo.specs.Timeline.{Timeline}
 use Rattle.sg_unparse.specs.Sheet.{Sheet}
-use Rattle.sg_buffer.specs.declared.way.Standing.{Standing}
+use Rattle.sg_buffer.specs.declared.standing.Standing.{Standing}
 use Rattle.sg_states.specs.Paged.{IsLook}
 use Rattle.sg_states.specs.Seen.{settled_spot}
 use Rattle.sg_states.specs.States.{State, replaced}
 use Rattle.sg_states.proofs.Spotted.{selected_seen}
-use Rattle.sg_turns.specs.Puts.{IsPut, MayPut}
-use Rattle.sg_turns.specs.Roots.{times, KeepsTree}
-use Rattle.sg_turns.specs.declared.turns.Turned.{Turned}
-use Rattle.sg_turns.proofs.Hanging.{agree_then, listed_once, listed_root, root_kept}
+use Rattle.sg_exchanges.specs.Puts.{IsPut, MayPut}
+use Rattle.sg_exchanges.specs.Roots.{times, KeepsTree}
+use Rattle.sg_exchanges.specs.declared.turns.Turned.{Turned}
+use Rattle.sg_exchanges.proofs.Hanging.{agree_then, listed_once, listed_root, root_kept}
 use Rattle.sg_buffer.specs.declared.fault.BufferFault.{BufferFault}
 use Rattle.sg_buffer.specs.declared.fault.BufferFault.TheVariants.{NoMemory, Size}
 use Rattle.sg_buffer.specs.Held.{Held, state_of}

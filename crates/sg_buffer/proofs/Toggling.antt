@@ -15,7 +15,7 @@ use Rattle.sg_groves.specs.TermAt.{term_at}
 use Rattle.sg_groves.proofs.Held.{part_held}
 use Rattle.sg_changes.specs.Captured.{Captured}
 use Rattle.sg_changes.specs.Changes.{Mark as Marking, marked as marked_term, marks_at, marks_of}
-use Rattle.sg_changes.specs.Told.{tops}
+use Rattle.sg_changes.specs.StepChanges.{tops}
 use Rattle.sg_changes.specs.declared.spot.Selection.{Selection}
 use Rattle.sg_changes.specs.declared.spot.Spot.{Spot}
 use Rattle.sg_changes.specs.declared.step.Marks.{Marks}
@@ -25,7 +25,7 @@ use Rattle.sg_changes.proofs.Marking.{part_is}
 use Rattle.sg_changes.proofs.Telling.{agree_first, mark_pushed}
 use Rattle.sg_undo.specs.Timeline.{Timeline}
 use Rattle.sg_unparse.specs.Sheet.{Sheet}
-use Rattle.sg_buffer.specs.declared.way.Standing.{Standing}
+use Rattle.sg_buffer.specs.declared.standing.Standing.{Standing}
 use Rattle.sg_states.specs.Paged.{IsLook}
 use Rattle.sg_states.specs.Selections.{alone, path_to}
 use Rattle.sg_states.specs.Seen.{settled_spot}
@@ -34,13 +34,13 @@ use Rattle.sg_states.specs.Turned.{turned_in}
 use Rattle.sg_states.specs.declared.marks.Mark.{Mark}
 use Rattle.sg_states.proofs.Selecting.{path_back}
 use Rattle.sg_states.proofs.Spotted.{selected_seen}
-use Rattle.sg_turns.specs.Roots.{times}
-use Rattle.sg_turns.specs.Turns.{IsSeen, MayTurn}
-use Rattle.sg_turns.specs.declared.marks.Remark.{Remark}
-use Rattle.sg_turns.specs.declared.turns.Turned.{Turned}
-use Rattle.sg_turns.specs.declared.turns.What.TheVariants.{Shown}
-use Rattle.sg_turns.proofs.Hanging.{agree_then, keeps_by, listed_once, listed_root}
-use Rattle.sg_turns.proofs.Values.{nodes_marked, small_marked}
+use Rattle.sg_exchanges.specs.Roots.{times}
+use Rattle.sg_exchanges.specs.Turns.{IsSeen, MayTurn}
+use Rattle.sg_exchanges.specs.declared.marks.Remark.{Remark}
+use Rattle.sg_exchanges.specs.declared.turns.Turned.{Turned}
+use Rattle.sg_exchanges.specs.declared.turns.What.TheVariants.{Shown}
+use Rattle.sg_exchanges.proofs.Hanging.{agree_then, keeps_by, listed_once, listed_root}
+use Rattle.sg_exchanges.proofs.Values.{nodes_marked, small_marked}
 use Rattle.sg_buffer.specs.Held.{Held, state_of}
 use Rattle.sg_buffer.specs.Buffers.{IsBuffer}
 use Rattle.sg_buffer.proofs.Changing.{Changed, Remembers, changed_closes, changed_held}

@@ -5,7 +5,7 @@ use Rattle.sg_groves.specs.Grove.{Grove, IsGrove}
 use Rattle.sg_groves.specs.TermAt.{term_at}
 use Rattle.sg_groves.proofs.Viewed.{Holds-view, IsGrove-view, IsRight-view}
 use Rattle.sg_changes.specs.Captured.{Captured}
-use Rattle.sg_changes.specs.Told.{Agree, tops}
+use Rattle.sg_changes.specs.StepChanges.{Agree, tops}
 use Rattle.sg_changes.specs.declared.direction.Direction.TheVariants.{Back, Forth}
 use Rattle.sg_changes.specs.declared.spot.Selection.{Selection}
 use Rattle.sg_changes.specs.declared.spot.Spot.{Spot}
@@ -19,12 +19,12 @@ use Rattle.sg_states.specs.States.{State, viewed}
 use Rattle.sg_states.specs.declared.looks.Look.{Look}
 use Rattle.sg_states.proofs.Foretold.{if_some}
 use Rattle.sg_states.proofs.Spotted.{settled_seen}
-use Rattle.sg_turns.proofs.Hanging.{agree_then}
-use Rattle.sg_buffer.specs.declared.way.Standing.{Standing}
+use Rattle.sg_exchanges.proofs.Hanging.{agree_then}
+use Rattle.sg_buffer.specs.declared.standing.Standing.{Standing}
 use Rattle.sg_buffer.specs.Held.{Held, state_of, typed_by}
 use Rattle.sg_buffer.specs.Buffers.{IsBuffer, StandsFor}
 use Rattle.sg_buffer.proofs.Closing.{Closes, closes}
-use Rattle.sg_buffer.proofs.Standing.{no_capture}
+use Rattle.sg_buffer.proofs.Stands.{no_capture}
 
 -- the grove then, and the fields
 abbrev pub grove_in : Grove → ℕ → Grove

@@ -8,16 +8,16 @@ use Rattle.sg_forest.specs.Trees.{Climbs}
 use Rattle.sg_groves.specs.Grove.{nodes, IsGrove}
 use Rattle.sg_groves.specs.TermAt.{term_at}
 use Rattle.sg_changes.specs.Chain.{AllUndo, AllRedo, Passes}
-use Rattle.sg_changes.specs.Told.{told_past, told_future, tops}
+use Rattle.sg_changes.specs.StepChanges.{told_past, told_future, tops}
 use Rattle.sg_unparse.specs.Sheet.{Sheet}
-use Rattle.sg_buffer.specs.declared.way.Standing.{Standing}
+use Rattle.sg_buffer.specs.declared.standing.Standing.{Standing}
 use Rattle.sg_states.specs.Beginnings.{Begins}
 use Rattle.sg_states.specs.Selections.{place_in}
 use Rattle.sg_states.specs.Seen.{is_spot}
 use Rattle.sg_states.specs.States.{State}
 use Rattle.sg_states.specs.Paged.{IsWhole}
 use Rattle.sg_buffer.specs.Held.{Held, shown, state_of}
-use Rattle.sg_turns.specs.Roots.{AreTheRoots}
+use Rattle.sg_exchanges.specs.Roots.{AreTheRoots}
 
 -- what is held stands for a state: a right tree holds its term, which fits the root's phylum and is in the limits; a
 -- selection of the term is selected, in the view in which it is shown, and its first line is seen; the past changes can

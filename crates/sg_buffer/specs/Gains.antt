@@ -11,7 +11,7 @@ use Rattle.sg_terms.specs.Entries.{GainedAll}
 use Rattle.sg_changes.specs.Changes.{Change, Put, Mark, chosen}
 use Rattle.sg_changes.specs.declared.direction.Direction.{Direction}
 use Rattle.sg_states.specs.States.{ahead, gone}
-use Rattle.sg_turns.specs.Noted.{NotedPut}
+use Rattle.sg_exchanges.specs.Noted.{NotedPut}
 use Rattle.sg_buffer.specs.Held.{Held, state_of}
 
 -- this holds of the first change of a list

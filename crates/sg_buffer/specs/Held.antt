@@ -18,7 +18,7 @@ use Rattle.sg_groves.specs.contracts.part.Part as the_part
 use Rattle.sg_groves.specs.Grove.{Grove}
 use Rattle.sg_groves.specs.TermAt.{term_at, way_at}
 use Rattle.sg_changes.specs.Captured.{Captured, captured}
-use Rattle.sg_changes.specs.Told.{told_past, told_future}
+use Rattle.sg_changes.specs.StepChanges.{told_past, told_future}
 use Rattle.sg_changes.specs.declared.spot.Spot.{Spot}
 use Rattle.sg_changes.specs.declared.step.Step.{Step}
 use Rattle.sg_changes.specs.contracts.step.Step as the_step

@@ -1,3 +1,4 @@
+pub mod Attributed
 pub mod Held
 pub mod Buffers
 pub mod AsBefore

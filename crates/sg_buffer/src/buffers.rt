@@ -7,7 +7,6 @@ ghost use Rattle.sg_kinds.specs.Places.{Place};
 ghost use Rattle.sg_kinds.specs.Sound.{IsSmall, IsSound};
 ghost use Rattle.sg_kinds.specs.Specification.{rules_of};
 ghost use Rattle.sg_kinds.specs.Terms.{nodes_of};
-ghost use Rattle.sg_kinds.specs.ValidPlans.{AreValid};
 ghost use Rattle.sg_eval.specs.Journal.{now_of, total_of};
 ghost use Rattle.sg_forest.specs.Trees.{Climbs, IsInside};
 ghost use Rattle.sg_groves.specs.Grove.{nodes};
@@ -18,40 +17,42 @@ ghost use Rattle.sg_states.specs.States as states;
 ghost use Rattle.sg_states.specs.States.{begun, selected_place, shown_spec, moved, picked, extension};
 ghost use Rattle.sg_buffer.specs.Held.{shown, state_of};
 ghost use Rattle.sg_buffer.specs.Buffers.{StandsFor};
-ghost use Rattle.sg_turns.specs.Known.{IsKnown};
-ghost use Rattle.sg_turns.specs.Noted.{Noted};
+ghost use Rattle.sg_exchanges.specs.Known.{IsKnown};
+ghost use Rattle.sg_exchanges.specs.Noted.{Noted};
 
+use crate::attribution::Attribution;
 use crate::fault::BufferFault;
+use crate::standing::Standing;
 use crate::typing::{erase, typed};
-use crate::way::Standing;
 use sg_build::Counts;
 use sg_changes::{Capture, Step};
-use sg_eval::{Evaluator, Journal};
+use sg_eval::Journal;
+use sg_exchanges::{Known, begin, within};
 use sg_forest::NodeId;
 use sg_kinds::limits::STEPS;
 use sg_kinds::memory::NoMemory;
-use sg_kinds::plans::Plans;
 use sg_kinds::row::Path;
-use sg_kinds::spec::Spec;
 use sg_kinds::term::Term;
 use sg_select::{at_cell, elements_from, path_of, settle, spine_of};
 use sg_states::{Extended, Move, begins_here, page_of, page_with, target, top_at};
 use sg_terms::Terms;
-use sg_turns::{Known, begin, within};
 use sg_undo::History;
 use sg_unparse::Page;
 use std::alloc::Global;
 use std::marker::Model;
+use std::rc::Rc;
 
-/// A term in a forest, with its values: a selection of it, the first line that a window shows, the changes that can be
-/// undone and done again, whose other subtrees hang in the forest, and a text that is being typed. The page that shows
-/// it is made where it is wanted, and kept as long as it is right; so is where the selected node begins, which saves
-/// the page at a replacement. The path of the selected node is kept always, and saves the way from the root.
+/// A term in a forest, with its values and what computes them, which buffers share: a selection of it, the first line
+/// that a window shows, the changes that can be undone and done again, whose other subtrees hang in the forest, and a
+/// text that is being typed. The page that shows it is made where it is wanted, and kept as long as it is right; so is
+/// where the selected node begins, which saves the page at a replacement. The path of the selected node is kept always,
+/// and saves the way from the root.
 ///
 /// Each call takes its state to that of one definition, or leaves everything as it was.
 #[derive(Drop)]
 pub struct Buffer {
     pub(crate) alloc: Global,
+    pub(crate) attribution: Rc<Attribution>,
     pub(crate) terms: Terms,
     pub(crate) root: NodeId,
     pub(crate) selected: NodeId,
@@ -66,6 +67,7 @@ pub struct Buffer {
 }
 
 impl Model for Buffer {
+    ghost use Rattle.std.specs.Prelude.{◌≡◌};
     ghost use Rattle.sg_buffer.specs.Held.{Held, held_code};
 
     ghost Value = { Held };
@@ -96,47 +98,49 @@ impl Model for Buffer {
       past = b.history.past;
       future = b.history.future;
       capture = b.capture;
-    }) b.nodes b.history.room b.page b.standing };
+    }) b.nodes b.history.room b.page b.standing × (b.attribution.value.spec ≡ b.terms.spec) };
 }
 
 impl Buffer {
-    /// A buffer of a term of the root's phylum, whose root is selected, with a window of a height from 1 to 1,024.
-    /// `Size` says exactly that the term is over a limit, and nothing is evaluated then; without memory some of the
-    /// equations may be.
+    /// A buffer of a term of the root's phylum of this specification, whose root is selected, with a window of a height
+    /// from 1 to 1,024. `Size` says exactly that the term is over a limit, and nothing is evaluated then; without memory
+    /// some of the equations may be.
     pub fn new(
         alloc: Global,
-        spec: &Spec,
+        attribution: &Rc<Attribution>,
         t: &Term,
         height: usize,
-        plans: &Plans,
-        ev: &Evaluator,
         journal: &mut Journal,
     ) -> Result<Buffer, BufferFault>
-        requires sound { IsSound spec.now }
-        requires valid { AreValid (rules_of spec.now) plans.now }
-        requires same { ev.now ≡ spec.now }
-        requires fits { Fits spec.now t.now spec.now.root }
+        requires fits { Fits attribution.now.value.spec t.now attribution.now.value.spec.root }
         requires low { 1 ≤ height }
         requires high { height ≤ 1024 }
         ensures state { IfOk result (λ b. state_of b ≡ begun t.now) }
-        ensures spec { IfOk result (λ b. b.grove.spec ≡ spec.now) }
+        ensures spec { IfOk result (λ b. b.grove.spec ≡ attribution.now.value.spec) }
         ensures height { IfOk result (λ b. b.height ≡ height) }
         ensures evaluated { IfOk result (λ b. GainedAll b.grove b.root t.now
-            (Contains (instances (rules_of spec.now) t.now)) (now_of journal.old) (now_of journal.new)) }
+            (Contains (instances (rules_of attribution.now.value.spec) t.now))
+            (now_of journal.old) (now_of journal.new)) }
         ensures size { (c : Counts) → IsErrOf result (BufferFault.Size c) → (IsSmall t.now → ⊥) × AreCounts t.now c }
         ensures large { (IsSmall t.now → ⊥) → IsErrAnd result (λ e. (c : Counts) × (e ≡ BufferFault.Size c)) }
         ensures kept { (c : Counts) → IsErrOf result (BufferFault.Size c) → now_of journal.new ≡ now_of journal.old }
-        ensures noted { IsErrOf result BufferFault.NoMemory → Noted spec.now t.now
-            (Contains (instances (rules_of spec.now) t.now)) (now_of journal.old) (now_of journal.new) }
+        ensures noted { IsErrOf result BufferFault.NoMemory → Noted attribution.now.value.spec t.now
+            (Contains (instances (rules_of attribution.now.value.spec) t.now))
+            (now_of journal.old) (now_of journal.new) }
         ensures total { total_of journal.new ≡ total_of journal.old }
     {
         let nodes = match within(t) {
             Ok(nodes) => nodes,
             Err(size) => return Err(BufferFault::Size(size)),
         };
-        match begin(alloc, spec, t, STEPS, plans, ev, journal) {
+        let attribution = attribution.clone()?;
+        attribution.facts();
+        let plans = attribution.plans();
+        let evaluator = attribution.evaluator();
+        match begin(alloc, evaluator.spec(), t, STEPS, plans, evaluator, journal) {
             Ok(fresh) => Ok(Buffer {
                 alloc,
+                attribution,
                 terms: fresh.terms,
                 root: fresh.root,
                 selected: fresh.root,
@@ -158,6 +162,20 @@ impl Buffer {
         ensures { StandsFor self.now (state_of self.now) }
     {
         let _ = &self.root;
+    }
+
+    /// The specification is sound. This does nothing and tells it.
+    pub fn sound(&self)
+        ensures { IsSound self.now.grove.spec }
+    {
+        self.attribution.facts();
+    }
+
+    /// The plans and the evaluator of the term's specification.
+    pub fn attribution(&self) -> &Attribution
+        ensures { result.now.spec ≡ self.now.grove.spec }
+    {
+        &self.attribution
     }
 
     /// The terms, among them the edited one; the others hang for the history.

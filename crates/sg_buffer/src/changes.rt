@@ -3,9 +3,7 @@ ghost use Rattle.std.specs.Prelude.{◌≡◌, ◌≢◌, ◌<◌, ℕ, [], true
 ghost use Rattle.sg_kinds.specs.Fits.{Fits};
 ghost use Rattle.sg_kinds.specs.Places.{place_of, put, sub};
 ghost use Rattle.sg_kinds.specs.Sound.{IsSmall};
-ghost use Rattle.sg_kinds.specs.Specification.{rules_of};
 ghost use Rattle.sg_kinds.specs.Terms.{Term as IsTerm, nodes_of};
-ghost use Rattle.sg_kinds.specs.ValidPlans.{AreValid};
 ghost use Rattle.sg_eval.specs.Journal.{now_of, total_of};
 ghost use Rattle.sg_forest.specs.Trees.{Climbs, IsRoot};
 ghost use Rattle.sg_groves.specs.Evaluated.{IsEvaluated};
@@ -15,27 +13,26 @@ ghost use Rattle.sg_build.specs.Counted.{AreCounts};
 ghost use Rattle.sg_states.specs.Paged.{IsLook, IsWhole};
 ghost use Rattle.sg_states.specs.Seen.{settled_spot};
 ghost use Rattle.sg_states.specs.States.{ahead, marked, replaced, viewed};
-ghost use Rattle.sg_turns.specs.Noted.{NotedPut};
+ghost use Rattle.sg_exchanges.specs.Noted.{NotedPut};
 ghost use Rattle.sg_buffer.specs.AsBefore.{IsAsBefore};
 ghost use Rattle.sg_buffer.specs.Gains.{NotedAlong, OfFirst, Went};
 ghost use Rattle.sg_buffer.specs.Held.{state_of};
 
 use crate::buffers::Buffer;
 use crate::fault::BufferFault;
-use crate::way::Standing;
+use crate::standing::Standing;
 use sg_build::{Counts, counts, counts_replaced};
 use sg_changes::{Direction, Selection, Step};
-use sg_eval::{Evaluator, Journal};
+use sg_eval::Journal;
+use sg_exchanges::{
+    next_along, node_at, put_over, put_term, remarked, remember, spot_at, step_along, turned_marks,
+};
 use sg_forest::NodeId;
 use sg_kinds::memory::NoMemory;
-use sg_kinds::plans::Plans;
 use sg_kinds::row::Path;
 use sg_kinds::term::Term;
 use sg_states::{Look, Mark, look_at};
 use sg_terms::Terms;
-use sg_turns::{
-    next_along, node_at, put_over, put_term, remarked, remember, spot_at, step_along, turned_marks,
-};
 use std::alloc::Global;
 
 // shows the term that a root holds in a view, with this to be selected, settled there; without memory the view stays
@@ -128,12 +125,8 @@ impl Buffer {
         at: &Path,
         t: &Term,
         select: &Selection,
-        plans: &Plans,
-        ev: &Evaluator,
         journal: &mut Journal,
     ) -> Result<(), BufferFault>
-        requires valid { AreValid (rules_of self.old.grove.spec) plans.now }
-        requires same { ev.now ≡ self.old.grove.spec }
         requires fits { (x : IsTerm) × (p : ℕ) × (sub (state_of self.old).term (place_of at.now) ≡ Some x)
             × Fits self.old.grove.spec x p × Fits self.old.grove.spec t.now p }
         ensures state { IfOk result (λ _. state_of self.new ≡ replaced self.old.grove.spec self.old.height
@@ -159,7 +152,7 @@ impl Buffer {
         let way = &self.standing.way;
         let n = node_at(&self.terms, self.root, at, self.selected, way);
         match counts_replaced(&self.terms, n, at.len(), self.nodes, &counts(t)) {
-            Ok(nodes) => Ok(self.put_in(at, n, t, nodes, select, plans, ev, journal)?),
+            Ok(nodes) => Ok(self.put_in(at, n, t, nodes, select, journal)?),
             Err(size) => Err(BufferFault::Size(size)),
         }
     }
@@ -172,12 +165,8 @@ impl Buffer {
         t: &Term,
         known: usize,
         select: &Selection,
-        plans: &Plans,
-        ev: &Evaluator,
         journal: &mut Journal,
     ) -> Result<(), NoMemory>
-        requires valid { AreValid (rules_of self.old.grove.spec) plans.now }
-        requires same { ev.now ≡ self.old.grove.spec }
         requires fits { (x : IsTerm) × (p : ℕ) × (sub (state_of self.old).term (place_of at.now) ≡ Some x)
             × Fits self.old.grove.spec x p × Fits self.old.grove.spec t.now p }
         requires there { Climbs (nodes self.old.grove) (place_of at.now) n self.old.root }
@@ -205,6 +194,7 @@ impl Buffer {
         )?;
         let path = at.copy(self.alloc)?;
         let begins = self.beginning();
+        self.attribution.facts();
         let placed = put_term(
             self.alloc,
             &mut self.terms,
@@ -216,8 +206,8 @@ impl Buffer {
             self.height,
             self.top,
             begins,
-            plans,
-            ev,
+            self.attribution.plans(),
+            self.attribution.evaluator(),
             journal,
         )?;
         self.terms.facts();
@@ -240,16 +230,8 @@ impl Buffer {
     }
 
     // goes along the nearest change that way
-    fn go_along(
-        &mut self,
-        direction: Direction,
-        plans: &Plans,
-        ev: &Evaluator,
-        journal: &mut Journal,
-    ) -> Result<bool, NoMemory>
+    fn go_along(&mut self, direction: Direction, journal: &mut Journal) -> Result<bool, NoMemory>
         requires none { self.old.capture ≡ None }
-        requires valid { AreValid (rules_of self.old.grove.spec) plans.now }
-        requires same { ev.now ≡ self.old.grove.spec }
         ensures went { IfOk result (Went direction self.old self.new (now_of journal.old) (now_of journal.new)) }
         ensures as_before { OnErr result (IsAsBefore self.old self.new) }
         ensures noted { OnErr result (OfFirst (ahead direction (state_of self.old)) (NotedAlong direction
@@ -262,6 +244,7 @@ impl Buffer {
         let Some(step) = next_along(&self.history, direction) else {
             return Ok(false);
         };
+        self.attribution.facts();
         let went = step_along(
             self.alloc,
             &mut self.terms,
@@ -272,8 +255,8 @@ impl Buffer {
             self.nodes,
             self.selected,
             &self.standing.way,
-            plans,
-            ev,
+            self.attribution.plans(),
+            self.attribution.evaluator(),
             journal,
         )?;
         self.terms.facts();
@@ -333,15 +316,8 @@ impl Buffer {
     /// Undoes the newest change: the old subterm or marks, the selection and the window's first line are back, settled
     /// in the present view. No text is being typed. False exactly where there is no change to undo, and nothing
     /// changes then. Without memory nothing changes but the pool, and some of the equations may be evaluated.
-    pub fn undo(
-        &mut self,
-        plans: &Plans,
-        ev: &Evaluator,
-        journal: &mut Journal,
-    ) -> Result<bool, NoMemory>
+    pub fn undo(&mut self, journal: &mut Journal) -> Result<bool, NoMemory>
         requires none { self.old.capture ≡ None }
-        requires valid { AreValid (rules_of self.old.grove.spec) plans.now }
-        requires same { ev.now ≡ self.old.grove.spec }
         ensures went { IfOk result (Went Direction.Back self.old self.new (now_of journal.old) (now_of journal.new)) }
         ensures as_before { OnErr result (IsAsBefore self.old self.new) }
         ensures noted { OnErr result (OfFirst (state_of self.old).past (NotedAlong Direction.Back self.old.grove
@@ -351,22 +327,15 @@ impl Buffer {
         ensures height { self.new.height ≡ self.old.height }
         ensures total { total_of journal.new ≡ total_of journal.old }
     {
-        self.go_along(Direction::Back, plans, ev, journal)
+        self.go_along(Direction::Back, journal)
     }
 
     /// Does the next change of the future again: its new subterm or marks, the selection and the window's first line
     /// after it are back, settled in the present view. No text is being typed. False exactly where there is no change
     /// to do again, and nothing changes then. Without memory nothing changes but the pool, and some of the equations
     /// may be evaluated.
-    pub fn redo(
-        &mut self,
-        plans: &Plans,
-        ev: &Evaluator,
-        journal: &mut Journal,
-    ) -> Result<bool, NoMemory>
+    pub fn redo(&mut self, journal: &mut Journal) -> Result<bool, NoMemory>
         requires none { self.old.capture ≡ None }
-        requires valid { AreValid (rules_of self.old.grove.spec) plans.now }
-        requires same { ev.now ≡ self.old.grove.spec }
         ensures went { IfOk result (Went Direction.Forth self.old self.new (now_of journal.old) (now_of journal.new)) }
         ensures as_before { OnErr result (IsAsBefore self.old self.new) }
         ensures noted { OnErr result (OfFirst (state_of self.old).future (NotedAlong Direction.Forth self.old.grove
@@ -376,6 +345,6 @@ impl Buffer {
         ensures height { self.new.height ≡ self.old.height }
         ensures total { total_of journal.new ≡ total_of journal.old }
     {
-        self.go_along(Direction::Forth, plans, ev, journal)
+        self.go_along(Direction::Forth, journal)
     }
 }

@@ -13,7 +13,7 @@ use Rattle.sg_forest.proofs.Paths.{root_is_no_child, one_parent, one_path}
 use Rattle.sg_groves.specs.Grove.{Grove, nodes, IsGrove}
 use Rattle.sg_groves.specs.Holds.{IsPlaced}
 use Rattle.sg_groves.proofs.Held.{live_holds}
-use Rattle.sg_terms.specs.Told.{op_of}
+use Rattle.sg_terms.specs.Labels.{op_of}
 use Rattle.sg_build.specs.Counted.{AreCounts}
 use Rattle.sg_build.specs.Rest.{rest_height}
 use Rattle.sg_build.specs.declared.limits.Counts.{Counts}

@@ -23,7 +23,7 @@ use Rattle.sg_groves.specs.Stored.{number_at}
 use Rattle.sg_groves.specs.TermAt.{term_at}
 use Rattle.sg_groves.proofs.Held.{one_term, held_at, held_fits, live_holds, part_held}
 use Rattle.sg_terms.specs.Found.{op_at}
-use Rattle.sg_terms.specs.Told.{op_of, scheme_of, elided_of}
+use Rattle.sg_terms.specs.Labels.{op_of, scheme_of, elided_of}
 use Rattle.sg_terms.proofs.Holding.{op_told}
 use Rattle.sg_pool.specs.Pools.{StandsFor}
 use Rattle.sg_eval.proofs.Kept.{values_of-kids_of}

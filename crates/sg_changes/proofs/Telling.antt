@@ -16,7 +16,7 @@ use Rattle.sg_changes.specs.declared.step.Step.TheVariants.{Replaced, Marked}
 use Rattle.sg_changes.specs.declared.step.Marks.{Marks}
 use Rattle.sg_changes.specs.Changes.{Change, Put, Mark, opposite, part_of, marks_at, marked, term_along}
 use Rattle.sg_changes.specs.Chain.{Stands, AllGo}
-use Rattle.sg_changes.specs.Told.{hanging, hung, tops_of, tops, change_along, told_along, told_past, Goes, Agree, Exchanged, HoldsPart}
+use Rattle.sg_changes.specs.StepChanges.{hanging, hung, tops_of, tops, change_along, told_along, told_past, Goes, Agree, Exchanged, HoldsPart}
 use Rattle.sg_changes.proofs.Marking.{part_put}
 use Rattle.sg_changes.proofs.Chained.{there_and_back, go_chains, go_fewer}
 

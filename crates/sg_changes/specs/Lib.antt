@@ -1,5 +1,5 @@
 pub mod Changes
 pub mod Chain
-pub mod Told
+pub mod StepChanges
 pub mod Captured
 pub mod Top

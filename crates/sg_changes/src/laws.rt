@@ -7,7 +7,7 @@ ghost use Rattle.sg_kinds.specs.declared.spec.Spec.{Spec};
 ghost use Rattle.sg_forest.specs.declared.node_id.NodeId.{NodeId};
 ghost use Rattle.sg_changes.specs.Chain.{AllUndo, CanGo, Passes, Stands};
 ghost use Rattle.sg_changes.specs.Changes.{Change, Mark, Put, marked, marks_at, opposite, redone, term_along};
-ghost use Rattle.sg_changes.specs.Told.{Agree, Exchanged, Goes, change_along, hung, told_along, told_future, told_past, tops_of};
+ghost use Rattle.sg_changes.specs.StepChanges.{Agree, Exchanged, Goes, change_along, hung, told_along, told_future, told_past, tops_of};
 ghost use Rattle.sg_changes.specs.Top.{topped};
 ghost use Rattle.sg_changes.specs.declared.direction.Direction.{Direction};
 ghost use Rattle.sg_changes.specs.declared.direction.Direction.TheVariants as direction;

@@ -1,6 +1,6 @@
 // The steps of a history.
 ghost use Rattle.std.specs.Prelude.{◌≡◌, option_to_list};
-ghost use Rattle.sg_changes.specs.Told.{hanging, hung};
+ghost use Rattle.sg_changes.specs.StepChanges.{hanging, hung};
 
 use crate::spot::Spot;
 use sg_forest::NodeId;

@@ -11,7 +11,7 @@ use Rattle.sg_eval.specs.declared.journal.Instance.{Instance}
 use Rattle.sg_forest.specs.declared.node_id.NodeId.{NodeId}
 use Rattle.sg_groves.specs.Grove.{Grove}
 use Rattle.sg_terms.specs.Entries.{AreEntries, Gained, GainedAll}
-use Rattle.sg_turns.specs.Noted.{Noted}
+use Rattle.sg_exchanges.specs.Noted.{Noted}
 use Rattle.sg_states.specs.States.{State}
 use Rattle.sg_buffer.specs.Held.{Held}
 use Rattle.sg_commands.specs.Did.{NotedOf}

@@ -35,7 +35,7 @@ use Rattle.sg_edits.specs.Edits.{deleted, done, everywhere, inserted, pasted, re
 use Rattle.sg_edits.specs.declared.clip.Clip.{Clip}
 use Rattle.sg_input.specs.Entered.{Entered, BadByte, NoToken, Stopped, Faulted, Typed, bad_byte}
 use Rattle.sg_input.proofs.Answering.{none-bad}
-use Rattle.sg_commands.specs.Tools.{IsClip}
+use Rattle.sg_commands.specs.Clipped.{IsClip}
 use Rattle.sg_commands.specs.Turn.{Reads, Turn, becomes, found_or, refused_if, says}
 use Rattle.sg_commands.specs.Turns.{allowed_turn, copied_of, count_here, enterable, enters, enters_typed, entry_here, evaluated_along, extends, found_next, goes, is_editable_here, marks, plain_turn, puts, replaces, selection_of, travels, turn, types, types_unless, typing_turn, view_named, views, wants_one}
 use Rattle.sg_commands.specs.Typing.{IsTyping, MayEnter}

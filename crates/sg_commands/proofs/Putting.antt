@@ -14,7 +14,7 @@ use Rattle.sg_groves.specs.Grove.{Grove}
 use Rattle.sg_groves.specs.Evaluated.{evaluated, IsEvaluated}
 use Rattle.sg_groves.proofs.EvaluatedOnce.{evaluated_from, evaluated_to}
 use Rattle.sg_terms.specs.Entries.{Gained, GainedAll}
-use Rattle.sg_turns.specs.Noted.{NotedPut, NotedSomeAt}
+use Rattle.sg_exchanges.specs.Noted.{NotedPut, NotedSomeAt}
 use Rattle.sg_changes.specs.Changes.{Put as Putting, part_of}
 use Rattle.sg_changes.specs.declared.spot.Selection.{Selection}
 use Rattle.sg_select.specs.Paths.{spine_from}

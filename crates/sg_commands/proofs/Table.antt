@@ -22,7 +22,7 @@ use Rattle.sg_edits.specs.Edits.{clip_of, front, run_kept, term_at, term_kept, I
 use Rattle.sg_edits.proofs.Behind.{behind_is_list, front_fits}
 use Rattle.sg_edits.proofs.Placed.{fits_phylum}
 use Rattle.sg_commands.specs.Did.{Did, GaveUp}
-use Rattle.sg_commands.specs.Tools.{IsClip}
+use Rattle.sg_commands.specs.Clipped.{IsClip}
 use Rattle.sg_commands.specs.Turn.{Reads, Turn}
 use Rattle.sg_commands.specs.Turns.{copied_of, count_here, plain_turn, turn, typing_turn}
 use Rattle.sg_commands.specs.Typing.{IsTyping}

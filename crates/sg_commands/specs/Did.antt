@@ -8,7 +8,7 @@ use Rattle.sg_forest.specs.declared.node_id.NodeId.{NodeId}
 use Rattle.sg_terms.specs.Entries.{GainedAll}
 use Rattle.sg_changes.specs.Changes.{Change, Put, Mark}
 use Rattle.sg_states.specs.States.{State}
-use Rattle.sg_turns.specs.Noted.{NotedSomeAt}
+use Rattle.sg_exchanges.specs.Noted.{NotedSomeAt}
 use Rattle.sg_buffer.specs.Held.{Held, state_of}
 use Rattle.sg_script.specs.declared.message.Message.{Message}
 use Rattle.sg_script.specs.declared.command.Command.{Command}

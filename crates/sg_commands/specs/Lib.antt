@@ -1,6 +1,7 @@
 pub mod Turn
 pub mod Turns
-pub mod Tools
+pub mod Clipped
+pub mod Input
 pub mod Typing
 pub mod Did
 pub mod Replaced

@@ -10,12 +10,12 @@ ghost use Rattle.sg_input.specs.Entered.{Entered};
 ghost use Rattle.sg_input.specs.Parsed.{entered_of};
 ghost use Rattle.sg_commands.specs.Did.{Did, GaveUp};
 ghost use Rattle.sg_commands.specs.Replaced.{chosen_in, enters_in, entry_turn, puts_in, FitsHere, StopsWithin, text_turn};
-ghost use Rattle.sg_commands.specs.Tools.{AreTools};
+ghost use Rattle.sg_commands.specs.Input.{IsInputOf};
 ghost use Rattle.sg_commands.specs.Turn.{AreReads, Reads};
 ghost use Rattle.sg_commands.specs.Turns.{entry_here, is_editable_here};
 
+use crate::input::Input;
 use crate::replacing::put_choice;
-use crate::tools::Tools;
 use sg_buffer::Buffer;
 use sg_edits::{is_editable, typed};
 use sg_eval::Journal;
@@ -46,12 +46,10 @@ pub(crate) fn entry_here(buffer: &Buffer) -> Option<u32>
 // puts the plain term of a value in the place of the selected node, whose phylum it fits
 fn put_value(
     alloc: Global,
-    tools: &Tools,
     buffer: &mut Buffer,
     v: &Value,
     journal: &mut Journal,
 ) -> Result<Message, NoMemory>
-    requires tools { AreTools buffer.old.grove.spec tools.now }
     requires fits { FitsHere buffer.old v.now }
     ensures did { (clip : Option IsClipped) → IfOk result (λ m. Did (puts_in buffer.old clip
         (chosen_in buffer.old (λ spec t u. edits.typed spec t u v.now))) m
@@ -65,7 +63,7 @@ fn put_value(
 {
     buffer.facts();
     let choice = typed(alloc, buffer.terms(), buffer.selected(), v)?;
-    put_choice(tools, buffer, choice, journal)
+    put_choice(buffer, choice, journal)
 }
 
 // moves the point of the text that is being typed, if one is
@@ -109,12 +107,10 @@ fn tell(buffer: &mut Buffer, fault: EntryFault) -> Result<Message, NoMemory>
 // does what a text that was read gives
 fn put_read(
     alloc: Global,
-    tools: &Tools,
     buffer: &mut Buffer,
     read: Result<Value, EntryFault>,
     journal: &mut Journal,
 ) -> Result<Message, NoMemory>
-    requires tools { AreTools buffer.old.grove.spec tools.now }
     requires fits { IfOk read (FitsHere buffer.old) }
     requires within { MatchOption buffer.old.capture ⊤ (λ c. StopsWithin (length c.text) read) }
     ensures did { (clip : Option IsClipped) (a : Entered) → IfSome (entered_of read) (λ b. b ≡ a)
@@ -128,7 +124,7 @@ fn put_read(
     ensures total { total_of journal.new ≡ total_of journal.old }
 {
     match read {
-        Ok(v) => put_value(alloc, tools, buffer, &v, journal),
+        Ok(v) => put_value(alloc, buffer, &v, journal),
         Err(fault) => tell(buffer, fault),
     }
 }
@@ -136,12 +132,12 @@ fn put_read(
 /// `text`: what the entry of the selected node's phylum derives from a text, in its place. No text is being typed.
 pub fn text(
     alloc: Global,
-    tools: &Tools,
+    input: &Input,
     buffer: &mut Buffer,
     bytes: &[u8],
     journal: &mut Journal,
 ) -> Result<Message, NoMemory>
-    requires tools { AreTools buffer.old.grove.spec tools.now }
+    requires input { IsInputOf buffer.old.grove.spec input.now }
     requires none { buffer.old.capture ≡ None }
     ensures did { (clip : Option IsClipped) (reads : Reads) → AreReads buffer.old.grove.spec reads
         → IfOk result (λ m. Did (text_turn buffer.old clip reads bytes.now) m
@@ -159,26 +155,27 @@ pub fn text(
     let Some(entry) = entry_here(buffer) else {
         return Ok(Message::NoEntry);
     };
+    buffer.sound();
     let read = enter(
         alloc,
-        tools.lexemes,
-        tools.tables,
-        tools.evaluator,
+        input.lexemes,
+        input.tables,
+        buffer.attribution().evaluator(),
         entry,
         bytes,
     );
-    put_read(alloc, tools, buffer, read, journal)
+    put_read(alloc, buffer, read, journal)
 }
 
 /// `enter`: as `text`, with the text that is being typed, whose typing ends; where it is not read, its point goes
 /// there.
 pub fn enter_typed(
     alloc: Global,
-    tools: &Tools,
+    input: &Input,
     buffer: &mut Buffer,
     journal: &mut Journal,
 ) -> Result<Message, NoMemory>
-    requires tools { AreTools buffer.old.grove.spec tools.now }
+    requires input { IsInputOf buffer.old.grove.spec input.now }
     ensures did { (clip : Option IsClipped) (reads : Reads) → AreReads buffer.old.grove.spec reads
         → IfOk result (λ m. Did (entry_turn buffer.old clip reads) m
         buffer.new clip (now_of journal.old) (now_of journal.new)) }
@@ -195,13 +192,14 @@ pub fn enter_typed(
     let Some(entry) = entry_here(buffer) else {
         return Ok(Message::NoEntry);
     };
+    buffer.sound();
     let read = enter(
         alloc,
-        tools.lexemes,
-        tools.tables,
-        tools.evaluator,
+        input.lexemes,
+        input.tables,
+        buffer.attribution().evaluator(),
         entry,
         text,
     );
-    put_read(alloc, tools, buffer, read, journal)
+    put_read(alloc, buffer, read, journal)
 }

@@ -5,11 +5,9 @@ ghost use Rattle.sg_states.specs.States.{ahead};
 ghost use Rattle.sg_buffer.specs.Held.{state_of};
 ghost use Rattle.sg_edits.specs.declared.clip.Clip.{Clip as IsClipped};
 ghost use Rattle.sg_commands.specs.Did.{Did, GaveUp};
-ghost use Rattle.sg_commands.specs.Tools.{AreTools};
 ghost use Rattle.sg_commands.specs.Turns.{travels};
 
 use crate::moving::said;
-use crate::tools::Tools;
 use sg_buffer::Buffer;
 use sg_changes::Direction;
 use sg_eval::Journal;
@@ -18,12 +16,10 @@ use sg_script::Message;
 
 /// `undo` and `redo`. No text is being typed.
 pub fn travel(
-    tools: &Tools,
     buffer: &mut Buffer,
     direction: Direction,
     journal: &mut Journal,
 ) -> Result<Message, NoMemory>
-    requires tools { AreTools buffer.old.grove.spec tools.now }
     requires none { buffer.old.capture ≡ None }
     ensures did { (clip : Option IsClipped) → IfOk result (λ m. Did (travels buffer.old.grove.spec
         buffer.old.height clip (state_of buffer.old) direction (ahead direction (state_of buffer.old))) m buffer.new
@@ -36,13 +32,14 @@ pub fn travel(
     ensures height { buffer.new.height ≡ buffer.old.height }
     ensures total { total_of journal.new ≡ total_of journal.old }
 {
+    buffer.sound();
     match direction {
         Direction::Back => {
-            let done = buffer.undo(tools.plans, tools.evaluator, journal)?;
+            let done = buffer.undo(journal)?;
             Ok(said(done, Message::NothingToUndo))
         }
         Direction::Forth => {
-            let done = buffer.redo(tools.plans, tools.evaluator, journal)?;
+            let done = buffer.redo(journal)?;
             Ok(said(done, Message::NothingToRedo))
         }
     }

@@ -4,12 +4,12 @@
 
 mod entering;
 mod history;
+mod input;
 pub mod laws;
 mod moving;
 mod replacing;
-mod tools;
 mod turning;
 mod typing;
 
-pub use tools::Tools;
+pub use input::Input;
 pub use turning::turn;

@@ -10,9 +10,8 @@ ghost use Rattle.sg_edits.specs.declared.clip.Clip.{Clip as IsClipped};
 ghost use Rattle.sg_commands.specs.Did.{Did, GaveUp};
 ghost use Rattle.sg_commands.specs.Replaced.{chosen_in, chosen_of, picked_of, puts_in, replaces_in};
 ghost use Rattle.sg_commands.specs.Turns.{cuts};
-ghost use Rattle.sg_commands.specs.Tools.{AreTools, IsClip};
+ghost use Rattle.sg_commands.specs.Clipped.{IsClip};
 
-use crate::tools::Tools;
 use sg_buffer::{Buffer, BufferFault};
 use sg_changes::Selection;
 use sg_edits::{Choice, Clip, copied, deleted, done, everywhere, inserted, pasted, removed};
@@ -25,14 +24,12 @@ use std::alloc::Global;
 
 // puts a term in the place of a subterm whose phylum it fits, unless the whole term would be over a limit
 fn put_in(
-    tools: &Tools,
     buffer: &mut Buffer,
     at: &Path,
     t: &Term,
     select: &Selection,
     journal: &mut Journal,
 ) -> Result<Message, NoMemory>
-    requires tools { AreTools buffer.old.grove.spec tools.now }
     requires fits { FitsThere buffer.old.grove.spec (state_of buffer.old).term (place_of at.now) t.now }
     ensures did { (clip : Option IsClipped) → IfOk result (λ m. Did (puts_in buffer.old clip
         (Put (place_of at.now) t.now (picked_of select.now))) m buffer.new clip
@@ -44,7 +41,8 @@ fn put_in(
     ensures height { buffer.new.height ≡ buffer.old.height }
     ensures total { total_of journal.new ≡ total_of journal.old }
 {
-    match buffer.replace(at, t, select, tools.plans, tools.evaluator, journal) {
+    buffer.sound();
+    match buffer.replace(at, t, select, journal) {
         Ok(()) => Ok(Message::Fine),
         Err(BufferFault::Size(_)) => Ok(Message::Size),
         Err(BufferFault::NoMemory) => Err(NoMemory),
@@ -53,12 +51,10 @@ fn put_in(
 
 /// Puts what a choice says in its place, unless it is refused or the whole term would be over a limit.
 pub fn put_choice(
-    tools: &Tools,
     buffer: &mut Buffer,
     choice: Choice,
     journal: &mut Journal,
 ) -> Result<Message, NoMemory>
-    requires tools { AreTools buffer.old.grove.spec tools.now }
     requires fits { IsFit buffer.old.grove.spec (state_of buffer.old).term (choice_of choice) }
     ensures did { (clip : Option IsClipped) → IfOk result (λ m. Did (puts_in buffer.old clip (choice_of choice)) m
         buffer.new clip (now_of journal.old) (now_of journal.new)) }
@@ -81,7 +77,7 @@ pub fn put_choice(
                 path: select,
                 count,
             };
-            Ok(put_in(tools, buffer, &at, &term, &select, journal)?)
+            Ok(put_in(buffer, &at, &term, &select, journal)?)
         }
     }
 }
@@ -89,12 +85,10 @@ pub fn put_choice(
 /// `do`: what the transformations of a name give at the selected node, in its place.
 pub fn transform(
     alloc: Global,
-    tools: &Tools,
     buffer: &mut Buffer,
     name: &[u8],
     journal: &mut Journal,
 ) -> Result<Message, NoMemory>
-    requires tools { AreTools buffer.old.grove.spec tools.now }
     ensures did { (clip : Option IsClipped) → IfOk result (λ m. Did (puts_in buffer.old clip
         (chosen_in buffer.old (λ spec t u. edits.done spec t u name.now))) m
         buffer.new clip (now_of journal.old) (now_of journal.new)) }
@@ -109,23 +103,21 @@ pub fn transform(
     let choice = done(
         alloc,
         buffer.terms(),
-        tools.evaluator,
+        buffer.attribution().evaluator(),
         buffer.selected(),
         name,
     )?;
-    put_choice(tools, buffer, choice, journal)
+    put_choice(buffer, choice, journal)
 }
 
 /// `replace-all`: what the transformations of a name give in the outermost places at and below the selected node, as one
 /// change.
 pub fn replace_all(
     alloc: Global,
-    tools: &Tools,
     buffer: &mut Buffer,
     name: &[u8],
     journal: &mut Journal,
 ) -> Result<Message, NoMemory>
-    requires tools { AreTools buffer.old.grove.spec tools.now }
     ensures did { (clip : Option IsClipped) → IfOk result (λ m. Did (puts_in buffer.old clip
         (chosen_in buffer.old (λ spec t u. edits.everywhere spec t u name.now))) m
         buffer.new clip (now_of journal.old) (now_of journal.new)) }
@@ -140,21 +132,19 @@ pub fn replace_all(
     let choice = everywhere(
         alloc,
         buffer.terms(),
-        tools.evaluator,
+        buffer.attribution().evaluator(),
         buffer.selected(),
         name,
     )?;
-    put_choice(tools, buffer, choice, journal)
+    put_choice(buffer, choice, journal)
 }
 
 /// `delete`: the completing term of the selected node's phylum in its place, or the list without the selected elements.
 pub fn delete(
     alloc: Global,
-    tools: &Tools,
     buffer: &mut Buffer,
     journal: &mut Journal,
 ) -> Result<Message, NoMemory>
-    requires tools { AreTools buffer.old.grove.spec tools.now }
     ensures did { (clip : Option IsClipped) → IfOk result (λ m. Did (puts_in buffer.old clip
         (chosen_of buffer.old edits.deleted)) m
         buffer.new clip (now_of journal.old) (now_of journal.new)) }
@@ -167,17 +157,15 @@ pub fn delete(
 {
     buffer.facts();
     let choice = deleted(alloc, buffer.terms(), buffer.selected(), buffer.count())?;
-    put_choice(tools, buffer, choice, journal)
+    put_choice(buffer, choice, journal)
 }
 
 /// `remove`: the list without the selected elements. It never gets over a limit.
 pub fn remove(
     alloc: Global,
-    tools: &Tools,
     buffer: &mut Buffer,
     journal: &mut Journal,
 ) -> Result<Message, NoMemory>
-    requires tools { AreTools buffer.old.grove.spec tools.now }
     ensures did { (clip : Option IsClipped) → IfOk result (λ m. Did (replaces_in buffer.old clip
         (chosen_of buffer.old edits.removed)) m
         buffer.new clip (now_of journal.old) (now_of journal.new)) }
@@ -190,18 +178,16 @@ pub fn remove(
 {
     buffer.facts();
     let choice = removed(alloc, buffer.terms(), buffer.selected(), buffer.count())?;
-    put_choice(tools, buffer, choice, journal)
+    put_choice(buffer, choice, journal)
 }
 
 /// `insert-before` and `insert-after`: a new element beside the selected ones.
 pub fn insert(
     alloc: Global,
-    tools: &Tools,
     buffer: &mut Buffer,
     after: bool,
     journal: &mut Journal,
 ) -> Result<Message, NoMemory>
-    requires tools { AreTools buffer.old.grove.spec tools.now }
     ensures did { (clip : Option IsClipped) → IfOk result (λ m. Did (puts_in buffer.old clip
         (chosen_of buffer.old (λ spec t u n. edits.inserted spec t u n after))) m
         buffer.new clip (now_of journal.old) (now_of journal.new)) }
@@ -220,18 +206,16 @@ pub fn insert(
         buffer.count(),
         after,
     )?;
-    put_choice(tools, buffer, choice, journal)
+    put_choice(buffer, choice, journal)
 }
 
 // `paste` of what was copied
 fn paste_clip(
     alloc: Global,
-    tools: &Tools,
     buffer: &mut Buffer,
     copy: &Clip,
     journal: &mut Journal,
 ) -> Result<Message, NoMemory>
-    requires tools { AreTools buffer.old.grove.spec tools.now }
     requires clip { Fits buffer.old.grove.spec copy.now.term copy.now.phylum }
     ensures did { (clip : Option IsClipped) → IfOk result (λ m. Did (puts_in buffer.old clip
         (chosen_of buffer.old (λ spec t u n. edits.pasted spec t u n (Some copy.now)))) m
@@ -251,18 +235,16 @@ fn paste_clip(
         buffer.count(),
         Some(copy),
     )?;
-    put_choice(tools, buffer, choice, journal)
+    put_choice(buffer, choice, journal)
 }
 
 /// `paste`: what was copied, in the place of what is selected, where it may stand.
 pub fn paste(
     alloc: Global,
-    tools: &Tools,
     buffer: &mut Buffer,
     clip: &Option<Clip>,
     journal: &mut Journal,
 ) -> Result<Message, NoMemory>
-    requires tools { AreTools buffer.old.grove.spec tools.now }
     requires clip { IsClip buffer.old.grove.spec clip.now }
     ensures did { IfOk result (λ m. Did (puts_in buffer.old clip.now
         (chosen_of buffer.old (λ spec t u n. edits.pasted spec t u n clip.now))) m
@@ -275,7 +257,7 @@ pub fn paste(
     ensures total { total_of journal.new ≡ total_of journal.old }
 {
     match clip {
-        Some(copy) => paste_clip(alloc, tools, buffer, copy, journal),
+        Some(copy) => paste_clip(alloc, buffer, copy, journal),
         None => Ok(Message::ClipEmpty),
     }
 }
@@ -283,12 +265,10 @@ pub fn paste(
 /// `cut`: what is selected is copied and then deleted. Where that is refused nothing is copied.
 pub fn cut(
     alloc: Global,
-    tools: &Tools,
     buffer: &mut Buffer,
     clip: &mut Option<Clip>,
     journal: &mut Journal,
 ) -> Result<Message, NoMemory>
-    requires tools { AreTools buffer.old.grove.spec tools.now }
     ensures did { IfOk result (λ m. Did (cuts buffer.old.grove.spec buffer.old.height clip.old (state_of buffer.old)) m
         buffer.new clip.new (now_of journal.old) (now_of journal.new)) }
     ensures gave_up { OnErr result (GaveUp buffer.old.grove.spec
@@ -301,7 +281,7 @@ pub fn cut(
 {
     buffer.facts();
     let copy = copied(alloc, buffer.terms(), buffer.selected(), buffer.count())?;
-    let said = delete(alloc, tools, buffer, journal)?;
+    let said = delete(alloc, buffer, journal)?;
     if let Message::Fine = said {
         *clip = Some(copy);
     }

@@ -5,16 +5,17 @@ ghost use Rattle.sg_changes.specs.Captured.{Captured};
 ghost use Rattle.sg_buffer.specs.Held.{state_of};
 ghost use Rattle.sg_edits.specs.declared.clip.Clip.{Clip as IsClipped};
 ghost use Rattle.sg_commands.specs.Did.{Did, GaveUp, turn_of};
-ghost use Rattle.sg_commands.specs.Tools.{AreTools, IsClip};
+ghost use Rattle.sg_commands.specs.Clipped.{IsClip};
+ghost use Rattle.sg_commands.specs.Input.{IsInputOf};
 ghost use Rattle.sg_commands.specs.Turn.{AreReads, Reads};
 ghost use Rattle.sg_commands.specs.Turns.{allowed_turn, count_here, plain_turn, typing_turn, wants_one as wants_one_node};
 ghost use Rattle.sg_commands.specs.Typing.{IsTyping};
 
 use crate::entering::{enter_typed, text};
 use crate::history::travel;
+use crate::input::Input;
 use crate::moving::{copy, extend, find, go, pick, shrink, toggle, view};
 use crate::replacing::{cut, delete, insert, paste, remove, replace_all, transform};
-use crate::tools::Tools;
 use crate::typing::{abandon, begin, erase, type_in};
 use sg_buffer::Buffer;
 use sg_changes::Direction;
@@ -50,13 +51,13 @@ fn is_in_run(buffer: &Buffer, command: &Command) -> bool
 // a command while no text is being typed, and one node is selected where it wants one
 fn allowed(
     alloc: Global,
-    tools: &Tools,
+    input: &Input,
     buffer: &mut Buffer,
     clip: &mut Option<Clip>,
     command: &Command,
     journal: &mut Journal,
 ) -> Result<Message, NoMemory>
-    requires tools { AreTools buffer.old.grove.spec tools.now }
+    requires input { IsInputOf buffer.old.grove.spec input.now }
     requires clip { IsClip buffer.old.grove.spec clip.old }
     requires none { buffer.old.capture ≡ None }
     requires one { wants_one_node command.now ≡ true → count_here (state_of buffer.old) ≡ 1 }
@@ -81,25 +82,25 @@ fn allowed(
         Command::Extend => Ok(extend(buffer)),
         Command::Shrink => Ok(shrink(buffer)),
         Command::Find(name) => find(alloc, buffer, name.as_slice()),
-        Command::Do(name) => transform(alloc, tools, buffer, name.as_slice(), journal),
-        Command::ReplaceAll(name) => replace_all(alloc, tools, buffer, name.as_slice(), journal),
-        Command::Delete => delete(alloc, tools, buffer, journal),
-        Command::Remove => remove(alloc, tools, buffer, journal),
-        Command::InsertBefore => insert(alloc, tools, buffer, false, journal),
-        Command::InsertAfter => insert(alloc, tools, buffer, true, journal),
-        Command::Cut => cut(alloc, tools, buffer, clip, journal),
+        Command::Do(name) => transform(alloc, buffer, name.as_slice(), journal),
+        Command::ReplaceAll(name) => replace_all(alloc, buffer, name.as_slice(), journal),
+        Command::Delete => delete(alloc, buffer, journal),
+        Command::Remove => remove(alloc, buffer, journal),
+        Command::InsertBefore => insert(alloc, buffer, false, journal),
+        Command::InsertAfter => insert(alloc, buffer, true, journal),
+        Command::Cut => cut(alloc, buffer, clip, journal),
         Command::Copy => {
             *clip = Some(copy(alloc, buffer)?);
             Ok(Message::Fine)
         }
-        Command::Paste => paste(alloc, tools, buffer, clip, journal),
-        Command::Text(bytes) => text(alloc, tools, buffer, bytes.as_slice(), journal),
+        Command::Paste => paste(alloc, buffer, clip, journal),
+        Command::Text(bytes) => text(alloc, input, buffer, bytes.as_slice(), journal),
         Command::TypeIn(bytes) => begin(buffer, bytes.as_slice()),
         Command::Erase | Command::Enter | Command::Abandon => Ok(Message::NotInText),
         Command::Alternate => toggle(buffer, Mark::Alternate),
         Command::Elide => toggle(buffer, Mark::Elide),
-        Command::Undo => travel(tools, buffer, Direction::Back, journal),
-        Command::Redo => travel(tools, buffer, Direction::Forth, journal),
+        Command::Undo => travel(buffer, Direction::Back, journal),
+        Command::Redo => travel(buffer, Direction::Forth, journal),
         Command::View(name) => view(buffer, name),
         Command::New(_)
         | Command::Load(_, _)
@@ -113,13 +114,13 @@ fn allowed(
 // a command while no text is being typed
 fn plain(
     alloc: Global,
-    tools: &Tools,
+    input: &Input,
     buffer: &mut Buffer,
     clip: &mut Option<Clip>,
     command: &Command,
     journal: &mut Journal,
 ) -> Result<Message, NoMemory>
-    requires tools { AreTools buffer.old.grove.spec tools.now }
+    requires input { IsInputOf buffer.old.grove.spec input.now }
     requires clip { IsClip buffer.old.grove.spec clip.old }
     requires none { buffer.old.capture ≡ None }
     ensures did { (reads : Reads) → AreReads buffer.old.grove.spec reads → IfOk result (λ m. Did
@@ -137,18 +138,18 @@ fn plain(
     if is_in_run(buffer, command) {
         return Ok(Message::InRun);
     }
-    allowed(alloc, tools, buffer, clip, command, journal)
+    allowed(alloc, input, buffer, clip, command, journal)
 }
 
 // a command while a text is being typed
 fn typing(
     alloc: Global,
-    tools: &Tools,
+    input: &Input,
     buffer: &mut Buffer,
     command: &Command,
     journal: &mut Journal,
 ) -> Result<Message, NoMemory>
-    requires tools { AreTools buffer.old.grove.spec tools.now }
+    requires input { IsInputOf buffer.old.grove.spec input.now }
     requires open { is_some (state_of buffer.old).capture ≡ true }
     ensures did { (c : Captured) → (state_of buffer.old).capture ≡ Some c → (reads : Reads)
         → AreReads buffer.old.grove.spec reads → (clip : Option IsClipped) → IfOk result (λ m. Did
@@ -167,7 +168,7 @@ fn typing(
     match command {
         Command::TypeIn(bytes) => type_in(buffer, bytes.as_slice()),
         Command::Erase => Ok(erase(buffer)),
-        Command::Enter => enter_typed(alloc, tools, buffer, journal),
+        Command::Enter => enter_typed(alloc, input, buffer, journal),
         Command::Abandon => Ok(abandon(buffer)),
         Command::New(_)
         | Command::Load(_, _)
@@ -215,13 +216,13 @@ fn is_typing(buffer: &Buffer) -> bool
 // a command
 fn turned(
     alloc: Global,
-    tools: &Tools,
+    input: &Input,
     buffer: &mut Buffer,
     clip: &mut Option<Clip>,
     command: &Command,
     journal: &mut Journal,
 ) -> Result<Message, NoMemory>
-    requires tools { AreTools buffer.old.grove.spec tools.now }
+    requires input { IsInputOf buffer.old.grove.spec input.now }
     requires clip { IsClip buffer.old.grove.spec clip.old }
     ensures did { (reads : Reads) → AreReads buffer.old.grove.spec reads → IfOk result (λ m. Did
         (turn_of buffer.old reads clip.old command.now) m buffer.new clip.new (now_of journal.old)
@@ -236,9 +237,9 @@ fn turned(
 {
     buffer.facts();
     if is_typing(buffer) {
-        typing(alloc, tools, buffer, command, journal)
+        typing(alloc, input, buffer, command, journal)
     } else {
-        plain(alloc, tools, buffer, clip, command, journal)
+        plain(alloc, input, buffer, clip, command, journal)
     }
 }
 
@@ -247,13 +248,13 @@ fn turned(
 /// the journal may have gained some of what the command evaluates.
 pub fn turn(
     alloc: Global,
-    tools: &Tools,
+    input: &Input,
     buffer: &mut Buffer,
     clip: &mut Option<Clip>,
     command: &Command,
     journal: &mut Journal,
 ) -> Result<Message, NoMemory>
-    requires tools { AreTools buffer.old.grove.spec tools.now }
+    requires input { IsInputOf buffer.old.grove.spec input.now }
     requires clip { IsClip buffer.old.grove.spec clip.old }
     requires typing { IsTyping buffer.old.grove.spec (state_of buffer.old) }
     ensures did { (reads : Reads) → AreReads buffer.old.grove.spec reads → IfOk result (λ m. Did
@@ -273,8 +274,9 @@ pub fn turn(
     ensures height { buffer.new.height ≡ buffer.old.height }
     ensures total { total_of journal.new ≡ total_of journal.old }
 {
-    tools.tables.sound();
-    tools.tables.decided();
+    input.tables.sound();
+    input.tables.decided();
+    buffer.sound();
     buffer.facts();
-    turned(alloc, tools, buffer, clip, command, journal)
+    turned(alloc, input, buffer, clip, command, journal)
 }

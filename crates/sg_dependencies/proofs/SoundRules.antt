@@ -1,6 +1,6 @@
 -- The equations of a sound specification are in range, and define what is theirs, and nothing twice.
 use Rattle.std.specs.Prelude.{◌≡◌, ℕ, zero, suc, ◌+◌, ◌<◌, ◌≤◌, ◌&&◌, Bool, true, false, not, nat_eq, bytes_eq, cond, List, [], ◌∷◌, length, map, count_by, Option, None, Some, slice_get, option_map, option_and_then, unwrap_or, is_some, All, AllPairs, IsTrue}
-use Rattle.std.proofs.Common.{refl, ap, ◌∙◌, subst, get_or, arith, length-append}
+use Rattle.std.proofs.Common.{refl, ap, ◌∙◌, get_or, arith, length-append}
 use Rattle.std.proofs.lemmas.Bool.{false≢true, and_parts, and_from, eq-eqb}
 use Rattle.std.proofs.lemmas.List.{length-map}
 use Rattle.std.proofs.lemmas.List.Filters.{length-filter_both}

@@ -23,7 +23,7 @@ use Rattle.sg_unparse.specs.Along.{node_along}
 use Rattle.sg_unparse.specs.Cells.{Mark}
 use Rattle.sg_unparse.specs.Owned.{place_of_mark}
 use Rattle.sg_unparse.specs.Page.{Region as RegionOf, Cell, bytes_of, cells_of, is_cut, is_newline, lines_of, region_of}
-use Rattle.sg_unparse.specs.Sheet.{Sheet, region_on, told}
+use Rattle.sg_unparse.specs.Sheet.{Sheet, region_on, as_region}
 use Rattle.sg_unparse.specs.Written.{by_node}
 use Rattle.sg_unparse.proofs.Placed.{climbs_along}
 use Rattle.sg_states.specs.Seen.{marks_seen}
@@ -92,8 +92,8 @@ view_seen h = refl
 
 -- the name of the view that is told
 pub named_view : {X : Type 0} (res : Option X) (f : X → Bytes) (o p : Option Bytes) → MatchOption res (o ≡ None) (λ x. o ≡ Some (f x)) → o ≡ p → option_map f res ≡ p
-named_view None f o p told same = sym told ∙ same
-named_view (Some x) f o p told same = sym told ∙ same
+named_view None f o p is same = sym is ∙ same
+named_view (Some x) f o p is same = sym is ∙ same
 
 -- the lines of a buffer's page
 pub lines_seen : (spec : Spec) (b : Held) (page : Sheet) → b.grove.spec ≡ spec → page ≡ shown b
@@ -106,7 +106,7 @@ lines_seen spec b page same is =
     ∙ (λ i. lines_of (cells_of (marks_seen (same i) (view_seen b i) t (typed_by (capture_seen b i) (selected_place (state_of b))))))
 
 -- the regions of its nodes
-pub told_or : (o : Option Given) → told (unwrap_or o (record { line = 1; col = 1; end_line = 1; end_col = 1 })) ≡ unwrap_or (option_map told o) page_begin
+pub told_or : (o : Option Given) → as_region (unwrap_or o (record { line = 1; col = 1; end_line = 1; end_col = 1 })) ≡ unwrap_or (option_map as_region o) page_begin
 told_or None = refl
 told_or (Some r) = refl
 

@@ -7,7 +7,7 @@ use Rattle.sg_kinds.specs.Values.{Bytes}
 use Rattle.sg_kinds.specs.declared.spec.Spec.{Spec}
 use Rattle.sg_edits.specs.declared.clip.Clip.{Clip}
 use Rattle.sg_buffer.specs.Held.{Held}
-use Rattle.sg_commands.specs.Tools.{IsClip}
+use Rattle.sg_commands.specs.Clipped.{IsClip}
 use Rattle.sg_editor.specs.declared.desk.Named.{Named}
 use Rattle.sg_editor.specs.Editing.{Kept, IsKept, IsOver, current_in}
 use Rattle.sg_editor.proofs.Taken.{after, opened}

@@ -13,7 +13,7 @@ use Rattle.sg_kinds.specs.declared.spec.Spec.{Spec}
 use Rattle.sg_eval.specs.declared.journal.Instance.{Instance}
 use Rattle.sg_terms.specs.Entries.{GainedAll}
 use Rattle.sg_groves.proofs.InstancesOnce.{instances_apart}
-use Rattle.sg_turns.specs.Noted.{Noted}
+use Rattle.sg_exchanges.specs.Noted.{Noted}
 use Rattle.sg_edits.specs.declared.clip.Clip.{Clip}
 use Rattle.sg_script.specs.declared.message.Message.{Message}
 use Rattle.sg_script.specs.declared.message.Message.TheVariants as message

@@ -7,7 +7,7 @@ use Rattle.sg_load.specs.Loaded.{Contents}
 use Rattle.sg_edits.specs.declared.clip.Clip.{Clip}
 use Rattle.sg_states.specs.States.{State}
 use Rattle.sg_buffer.specs.Held.{Held, state_of}
-use Rattle.sg_commands.specs.Tools.{IsClip}
+use Rattle.sg_commands.specs.Clipped.{IsClip}
 use Rattle.sg_commands.specs.Typing.{IsTyping}
 use Rattle.sg_editor.specs.declared.desk.Named.{Named}
 use Rattle.sg_editor.specs.Session.{Session, current_of}

@@ -5,7 +5,7 @@ use Rattle.sg_kinds.specs.Nets.{Reference}
 use Rattle.sg_kinds.specs.declared.spec.Spec.{Spec}
 use Rattle.sg_eval.specs.declared.journal.Instance.{Instance}
 use Rattle.sg_terms.specs.Entries.{GainedAll}
-use Rattle.sg_turns.specs.Noted.{Noted}
+use Rattle.sg_exchanges.specs.Noted.{Noted}
 use Rattle.sg_buffer.specs.Held.{term_in}
 use Rattle.sg_outside.specs.Shelf.{ShelfState}
 use Rattle.sg_replies.specs.Calls.{Replied, Unanswered, Served, ServedOrOneMore}

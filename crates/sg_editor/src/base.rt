@@ -1,40 +1,54 @@
 // What does not change while an editor works.
 ghost use Rattle.std.specs.Prelude.{◌≡◌, ◌≤◌, IfOk};
 ghost use Rattle.sg_kinds.specs.Sound.{IsSound};
-ghost use Rattle.sg_commands.specs.Tools.{AreTools};
+ghost use Rattle.sg_commands.specs.Input.{IsInputOf};
 ghost use Rattle.sg_editor.specs.Ask.{AreReaders, Readers};
 
-use sg_commands::Tools;
-use sg_eval::Evaluator;
+use sg_buffer::Attribution;
+use sg_commands::Input;
 use sg_kinds::memory::NoMemory;
 use sg_kinds::spec::Spec;
+use sg_lalr::Tables;
 use sg_load::Loaded;
+use sg_patterns::Lexemes;
 use std::alloc::Global;
 use std::marker::Model;
+use std::rc::Rc;
 
-/// An accepted specification with its evaluator, and a window. The type keeps that the evaluator is of this
+/// An accepted specification with what was made of it, and a window. The type keeps that all was made of this
 /// specification, and that the window's height is from 1 to 1,024.
 #[derive(Drop)]
 pub struct Base {
     alloc: Global,
-    loaded: Loaded,
-    evaluator: Evaluator,
+    attribution: Rc<Attribution>,
+    tables: Tables,
+    lexemes: Lexemes,
     width: usize,
     height: usize,
 }
 
 impl Model for Base {
-    ghost use Rattle.std.specs.Prelude.{◌≡◌, ◌≤◌};
-    ghost use Rattle.sg_load.specs.contracts.loaded.Loaded as loaded_type;
+    ghost use Rattle.std.specs.Prelude.{◌≤◌};
+    ghost use Rattle.sg_kinds.specs.contracts.plans.Plans as plans_type;
+    ghost use Rattle.sg_kinds.specs.contracts.spec.Spec as spec_type;
+    ghost use Rattle.sg_lalr.specs.contracts.table.Tables as tables_type;
+    ghost use Rattle.sg_patterns.specs.contracts.lexemes.Lexemes as lexemes_type;
+    ghost use Rattle.sg_load.specs.Loaded.{BelongTogether, contents, contents_code};
     ghost use Rattle.sg_editor.specs.Editing.{Setting, setting_code};
 
     ghost Value = { Setting };
 
-    ghost coded = { setting_code loaded_type.the_row.coded };
+    ghost coded = { setting_code (contents_code spec_type.the_row.coded plans_type.the_row.coded
+        tables_type.the_row.coded lexemes_type.the_row.coded) };
 
-    ghost view = { λ b. record { contents = b.loaded; width = b.width; height = b.height } };
+    ghost view = { λ b. record {
+      contents = contents b.attribution.value.spec b.attribution.value.plans b.tables b.lexemes;
+      width = b.width;
+      height = b.height;
+    } };
 
-    ghost invariant = { λ b. (b.evaluator ≡ b.loaded.spec) × (1 ≤ b.height) × (b.height ≤ 1024) };
+    ghost invariant = { λ b. BelongTogether (contents b.attribution.value.spec b.attribution.value.plans b.tables
+        b.lexemes) × (1 ≤ b.height) × (b.height ≤ 1024) };
 }
 
 impl Base {
@@ -44,11 +58,18 @@ impl Base {
         requires high { height ≤ 1024 }
         ensures { IfOk result (λ b. b ≡ record { contents = loaded; width = width; height = height }) }
     {
-        let evaluator = Evaluator::new(alloc, &loaded.spec)?;
+        let Loaded {
+            spec,
+            plans,
+            tables,
+            lexemes,
+        } = loaded;
+        let attribution = Attribution::new(alloc, &spec, plans)?;
         Ok(Base {
             alloc,
-            loaded,
-            evaluator,
+            attribution: Rc::new(alloc, attribution)?,
+            tables,
+            lexemes,
             width,
             height,
         })
@@ -64,20 +85,24 @@ impl Base {
         ensures spec { result.now ≡ self.now.contents.spec }
         ensures sound { IsSound self.now.contents.spec }
     {
-        self.loaded.facts();
-        &self.loaded.spec
+        self.attribution.facts();
+        self.attribution.evaluator().spec()
     }
 
-    /// What commands use of the language.
-    pub fn tools(&self) -> Tools<'_>
-        ensures { AreTools self.now.contents.spec result }
+    /// What buffers compute values with.
+    pub fn attribution(&self) -> &Rc<Attribution>
+        ensures { result.now.value.spec ≡ self.now.contents.spec }
     {
-        self.loaded.facts();
-        Tools {
-            plans: &self.loaded.plans,
-            evaluator: &self.evaluator,
-            tables: &self.loaded.tables,
-            lexemes: &self.loaded.lexemes,
+        &self.attribution
+    }
+
+    /// How texts are read.
+    pub fn input(&self) -> Input<'_>
+        ensures { IsInputOf self.now.contents.spec result }
+    {
+        Input {
+            tables: &self.tables,
+            lexemes: &self.lexemes,
         }
     }
 
@@ -85,9 +110,8 @@ impl Base {
     pub fn readers(&self)
         ensures { (r : Readers) × AreReaders self.now.contents.spec r }
     {
-        self.loaded.facts();
-        self.loaded.tables.sound();
-        self.loaded.tables.decided();
+        self.tables.sound();
+        self.tables.decided();
     }
 
     /// How many columns the window has.

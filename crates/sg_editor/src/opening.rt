@@ -6,7 +6,7 @@ ghost use Rattle.sg_kinds.specs.Sound.{IsSmall};
 ghost use Rattle.sg_kinds.specs.Specification.{rules_of};
 ghost use Rattle.sg_eval.specs.Journal.{now_of, total_of};
 ghost use Rattle.sg_terms.specs.Entries.{GainedAll};
-ghost use Rattle.sg_turns.specs.Noted.{Noted};
+ghost use Rattle.sg_exchanges.specs.Noted.{Noted};
 ghost use Rattle.sg_states.specs.States.{begun};
 ghost use Rattle.sg_buffer.specs.Held.{state_of};
 ghost use Rattle.sg_editor.specs.Ask.{opens, news, taken};
@@ -16,7 +16,6 @@ ghost use Rattle.sg_editor.specs.Steps.{Took, AreSome};
 use crate::base::Base;
 use crate::desk::{Desk, Named};
 use sg_buffer::{Buffer, BufferFault};
-use sg_commands::Tools;
 use sg_eval::Journal;
 use sg_kinds::memory::NoMemory;
 use sg_kinds::term::Term;
@@ -35,22 +34,7 @@ fn begun(base: &Base, t: &Term, journal: &mut Journal) -> Result<Buffer, NoMemor
         (rules_of base.now.contents.spec) t.now)) (now_of journal.old) (now_of journal.new)) }
     ensures total { total_of journal.new ≡ total_of journal.old }
 {
-    let Tools {
-        plans,
-        evaluator,
-        tables: _,
-        lexemes: _,
-    } = base.tools();
-    let height = base.height();
-    match Buffer::new(
-        base.alloc(),
-        base.spec(),
-        t,
-        height,
-        plans,
-        evaluator,
-        journal,
-    ) {
+    match Buffer::new(base.alloc(), base.attribution(), t, base.height(), journal) {
         Ok(buffer) => Ok(buffer),
         Err(BufferFault::NoMemory) => Err(NoMemory),
         Err(BufferFault::Size(_)) => unreachable!(),

@@ -6,7 +6,7 @@ ghost use Rattle.sg_forest.specs.Trees.{Climbs, IsLive};
 ghost use Rattle.sg_groves.specs.Grove.{nodes};
 ghost use Rattle.sg_groves.specs.Holds.{Holds};
 ghost use Rattle.sg_unparse.specs.Cells.{Mark};
-ghost use Rattle.sg_unparse.specs.Sheet.{told};
+ghost use Rattle.sg_unparse.specs.Sheet.{as_region};
 ghost use Rattle.sg_select.specs.Paths.{elements};
 ghost use Rattle.sg_states.specs.States.{selected_place};
 ghost use Rattle.sg_screen.specs.Block.{head_of};
@@ -41,7 +41,7 @@ fn last_region(terms: &Terms, page: &Page, n: NodeId, count: usize) -> Option<Re
     requires long { (x : Term) → Holds terms.now n x → count ≤ elements terms.now.spec x }
     ensures { (root : _) (marks : List Mark) (p : Place) → TellsRegions terms.now root page.now marks
         → Climbs (nodes terms.now) p n root
-        → option_map told result ≡ last_region marks (run_from count (0 ∷ p)) }
+        → option_map as_region result ≡ last_region marks (run_from count (0 ∷ p)) }
 {
     terms.facts();
     if count == 0 {
@@ -56,7 +56,7 @@ fn last_region(terms: &Terms, page: &Page, n: NodeId, count: usize) -> Option<Re
 // the region of what is selected
 fn selected_region(buffer: &Buffer, page: &Page) -> Region
     requires page { page.now ≡ shown buffer.now }
-    ensures { told result ≡ region_of_run (shown_in buffer.now.grove.spec (state_of buffer.now))
+    ensures { as_region result ≡ region_of_run (shown_in buffer.now.grove.spec (state_of buffer.now))
         (selected_place (state_of buffer.now)) (state_of buffer.now).spot.selection.count }
 {
     buffer.facts();

@@ -7,7 +7,7 @@ ghost use Rattle.sg_editor.specs.Steps.{Took, AreSome, NotedHere, is_turn};
 
 use crate::base::Base;
 use crate::desk::Desk;
-use sg_commands::{Tools, turn};
+use sg_commands::turn;
 use sg_eval::Journal;
 use sg_kinds::memory::NoMemory;
 use sg_script::{Command, Message};
@@ -38,24 +38,17 @@ impl Desk {
             return Ok(Message::NoBuffer);
         };
         base.readers();
-        let tools = base.tools();
+        let input = base.input();
         let named = &mut self.named[k];
         let buffer = &mut named.buffer;
-        let message = turn(
+        turn(
             base.alloc(),
-            &tools,
+            &input,
             buffer,
             &mut self.clip,
             command,
             journal,
-        );
-        let Tools {
-            plans: _,
-            evaluator: _,
-            tables: _,
-            lexemes: _,
-        } = tools;
-        message
+        )
     }
 
     /// A command that asks nothing of the shelf.

@@ -11,17 +11,17 @@ use Rattle.sg_forest.specs.declared.node_id.NodeId.{NodeId}
 use Rattle.sg_forest.specs.Trees.{Climbs}
 use Rattle.sg_groves.specs.Grove.{Grove, nodes}
 use Rattle.sg_groves.specs.Holds.{IsPlaced}
-use Rattle.sg_terms.specs.Told as told
+use Rattle.sg_terms.specs.Labels as labels
 use Rattle.sg_select.specs.Paths.{is_list_node}
 use Rattle.sg_edits.specs.Choice.{Put, one}
 use Rattle.sg_edits.specs.Edits.{elements_in, emptied, is_list_operator, is_of_list, is_never_empty, is_only, left_at, node_before, paired, rest_behind, without}
 
 module _ (spec : Spec) where
-  pub of_list_is : (count : ℕ) (t : Term) (op : ℕ) → told.op_of t ≡ Some op → is_list_operator spec count op ≡ is_of_list spec count t
+  pub of_list_is : (count : ℕ) (t : Term) (op : ℕ) → labels.op_of t ≡ Some op → is_list_operator spec count op ≡ is_of_list spec count t
   of_list_is count (Leaf p v) op at = absurd (none-some op at)
   of_list_is count (Node o n elided ts) op at = ap (is_list_operator spec count) (sym (same_Some o op at))
 
-  pub of_list_not : (count : ℕ) (t : Term) → told.op_of t ≡ None → false ≡ is_of_list spec count t
+  pub of_list_not : (count : ℕ) (t : Term) → labels.op_of t ≡ None → false ≡ is_of_list spec count t
   of_list_not count (Leaf p v) at = refl
   of_list_not count (Node o n elided ts) at = absurd (none-some o (sym at))
 
@@ -65,20 +65,20 @@ module _ (spec : Spec) where
   put_rest t x u deletes n last = sym (ap (λ b. cond b (emptied spec t deletes u x) (Put u (rest_behind n x) (one (left_at spec t u (rest_behind n x))))) last)
 
   -- the phylum of a list's elements, by its operator
-  pub elements_is : (x : Term) (op : ℕ) → told.op_of x ≡ Some op → unwrap_or (slice_get (args_of spec.ops op) 0) 0 ≡ elements_in spec x
+  pub elements_is : (x : Term) (op : ℕ) → labels.op_of x ≡ Some op → unwrap_or (slice_get (args_of spec.ops op) 0) 0 ≡ elements_in spec x
   elements_is (Leaf p v) op at = absurd (none-some op at)
   elements_is (Node o n elided ts) op at = ap (λ k. unwrap_or (slice_get (args_of spec.ops k) 0) 0) (sym (same_Some o op at))
 
-  pub elements_not : (x : Term) → told.op_of x ≡ None → 0 ≡ elements_in spec x
+  pub elements_not : (x : Term) → labels.op_of x ≡ None → 0 ≡ elements_in spec x
   elements_not (Leaf p v) at = refl
   elements_not (Node o n elided ts) at = absurd (none-some o (sym at))
 
 -- a list's node over others, by its operator
-pub paired_node : (x a r : Term) (op : ℕ) → told.op_of x ≡ Some op → Node op 0 false (AndTerm a (AndTerm r NoTerm)) ≡ paired x a r
+pub paired_node : (x a r : Term) (op : ℕ) → labels.op_of x ≡ Some op → Node op 0 false (AndTerm a (AndTerm r NoTerm)) ≡ paired x a r
 paired_node (Leaf p v) a r op at = absurd (none-some op at)
 paired_node (Node o n elided ts) a r op at = ap (λ k. Node k 0 false (AndTerm a (AndTerm r NoTerm))) (sym (same_Some o op at))
 
-pub paired_leaf : (x a r : Term) → told.op_of x ≡ None → r ≡ paired x a r
+pub paired_leaf : (x a r : Term) → labels.op_of x ≡ None → r ≡ paired x a r
 paired_leaf (Leaf p v) a r at = refl
 paired_leaf (Node o n elided ts) a r at = absurd (none-some o (sym at))
 

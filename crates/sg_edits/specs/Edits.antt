@@ -24,7 +24,7 @@ use Rattle.sg_search.specs.ReplacedAll as replaced
 use Rattle.sg_script.specs.declared.message.Message.{Message}
 use Rattle.sg_script.specs.declared.message.Message.TheVariants as message
 use Rattle.sg_select.specs.Paths.{elements, is_list_node, spine_from}
-use Rattle.sg_unparse.specs.Shown.{scheme_of}
+use Rattle.sg_unparse.specs.Printing.{scheme_of}
 use Rattle.sg_edits.specs.Choice.{Choice, Refused, Put, Picked, one}
 use Rattle.sg_edits.specs.declared.clip.Clip.{Clip}
 

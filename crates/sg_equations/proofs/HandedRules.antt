@@ -1,5 +1,5 @@
 -- The rules that hand far attributes down are those of attributes that equations do not owe, and are well typed.
-use Rattle.std.proofs.Common.{◌≡◌, refl, sym, ap, subst, ◌∙◌, ℕ, zero, suc, Bool, true, false, List, [], ◌∷◌, ◌++◌, Option, Some, None, slice_get}
+use Rattle.std.proofs.Common.{◌≡◌, refl, sym, ap, ◌∙◌, ℕ, suc, Bool, true, false, List, [], ◌∷◌, Option, Some, None, slice_get}
 use Rattle.std.specs.Prelude.{◌&&◌, ◌||◌, not, nat_eq, is_some, option_map, option_and_then, unwrap_or}
 use Rattle.std.specs.List.{AllByRecursion as Each}
 use Rattle.std.proofs.lemmas.Bool.{and_parts}
@@ -20,7 +20,7 @@ use Rattle.sg_names.specs.Drafted.{HasTable, drafted}
 use Rattle.sg_names.specs.declared.table.Table.{Table}
 use Rattle.sg_names.proofs.DraftedLaws.{slot_kept}
 use Rattle.sg_remote.specs.Handing.{source, rule, handing}
-use Rattle.sg_equations.specs.Handed.{HasSource, AreHandedDown}
+use Rattle.sg_equations.specs.Handed.{AreHandedDown}
 use Rattle.sg_equations.specs.Owed.{is_far_slot, is_far_there, owes}
 use Rattle.sg_equations.proofs.HandedOnce.{NoneOf, each_weaker, each_handing, source_far}
 

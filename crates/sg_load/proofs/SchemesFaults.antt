@@ -7,7 +7,7 @@ use Rattle.sg_names.specs.declared.table.Table.{Table}
 use Rattle.sg_remote.specs.Longer.{names_of}
 use Rattle.sg_schemes.specs.NoScheme.{IsNoScheme}
 use Rattle.sg_schemes.specs.Places.{scheme_kids}
-use Rattle.sg_schemes.specs.Shown.{no_scheme}
+use Rattle.sg_schemes.specs.ShownFlags.{no_scheme}
 use Rattle.sg_schemes.specs.Strings.{scheme_text}
 use Rattle.sg_schemes.proofs.FirstMissing.{no_scheme_is, one_answer}
 use Rattle.sg_load.specs.FirstFault.{IsSchemesFault, HasNoFaultOf}

@@ -4,9 +4,15 @@ use Rattle.std.specs.Prelude.{slice_get, nat_eq}
 use Rattle.std.proofs.lemmas.Bool.{eq-eqb}
 use Rattle.sg_kinds.specs.Lexemes.{Lexeme}
 use Rattle.sg_patterns.specs.declared.program.Program.{Program}
+use Rattle.sg_patterns.specs.declared.program.State.{State}
+use Rattle.sg_patterns.specs.declared.program.Rows.{Rows}
+use Rattle.sg_patterns.specs.declared.program.Next.{Next}
+use Rattle.sg_patterns.specs.declared.program.Next.TheVariants.{Dead, To}
+use Rattle.sg_patterns.specs.Rows.{AreRows, IsNext, next_at}
 use Rattle.sg_patterns.specs.LongestMatch.{IsLength, Pattern}
 use Rattle.sg_patterns.specs.Marks.{HasBegins, HasFinalsTo, IsDead}
-use Rattle.sg_patterns.specs.Programs.{flag_at, IsBarred, IsProgram}
+use Rattle.sg_patterns.specs.Flags.{flag_at}
+use Rattle.sg_patterns.specs.Programs.{IsBarred, IsProgram}
 use Rattle.sg_patterns.proofs.LongestSoFar.{matched-none, step-dead}
 
 -- a byte over which no leaf is marked at the beginning
@@ -20,9 +26,22 @@ dead-barred p q none begins finals b h down hb hf dead text at n here m =
     same : (k : ℕ) → true ≡ nat_eq k k
     same k = sym (eq-eqb k k refl)
 
--- the program with these flags
-pub barred-program : (p r : Program) (q : Lexeme) → IsProgram p q → r.nodes ≡ p.nodes → r.above ≡ p.above → r.empties ≡ p.empties → r.root ≡ p.root → ((b : ℕ) → flag_at r.barred.items b ≡ true → IsBarred q b) → IsProgram r q
-barred-program p r q h n a e o bars = record {
+-- what leads in a program leads in one with the same nodes
+module _ (p r : Program) (n : r.nodes ≡ p.nodes) (a : r.above ≡ p.above) (e : r.empties ≡ p.empties) where
+  next-same : (states : List State) (s b : ℕ) (w : Next) → IsNext p states s b w → IsNext r states s b w
+  next-same states s b Dead x = (x.0, (x.1.0, rw (a, e) x.1.1, rw (n, e) x.1.2), rw n x.2)
+  next-same states s b (To t) x = (x.0, x.1, (x.2.0, rw (a, e) x.2.1, rw (n, e) x.2.2))
+
+  rows-same : (x : Rows) → AreRows p x → AreRows r x
+  rows-same x h = record {
+    first = h.first;
+    full = h.full;
+    next = λ s b within byte written. next-same x.states.items s b (next_at x.next.items s b) (h.next s b within byte written);
+  }
+
+-- a program with the same nodes
+pub program-same : (p r : Program) (q : Lexeme) → IsProgram p q → r.nodes ≡ p.nodes → r.above ≡ p.above → r.empties ≡ p.empties → r.root ≡ p.root → ((b : ℕ) → flag_at r.barred.items b ≡ true → IsBarred q b) → AreRows p r.rows → IsProgram r q
+program-same p r q h n a e o bars rows = record {
   tree = h.tree;
   is_pattern = h.is_pattern;
   is_root = h.is_root ∙ sym o;
@@ -30,7 +49,7 @@ barred-program p r q h n a e o bars = record {
   stands = rw (n, a, e) h.stands;
   above_each = rw (n, a) h.above_each;
   empty_each = rw (n, e) h.empty_each;
-  ordered = record { each = rw (n, a) h.ordered.each; parts = rw n h.ordered.parts; order = rw a h.ordered.order };
+  ordered = record { each = rw (n, a) h.ordered.each; parts = rw n h.ordered.parts; order = rw a h.ordered.order; rows = rows-same p r n a e r.rows rows };
   barred = bars;
 }
 

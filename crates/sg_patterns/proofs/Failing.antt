@@ -12,7 +12,8 @@ use Rattle.sg_patterns.specs.declared.program.Program.{Program}
 use Rattle.sg_patterns.specs.declared.failures.Checkpoint.{Checkpoint}
 use Rattle.sg_patterns.specs.declared.failures.Failures.{Failures}
 use Rattle.sg_patterns.specs.Trees.{Tree, Nothing, OneByte, Then, Either, Many, Several, Maybe}
-use Rattle.sg_patterns.specs.Programs.{flag_at, AreLaidOut, IsProgram}
+use Rattle.sg_patterns.specs.Flags.{flag_at}
+use Rattle.sg_patterns.specs.Programs.{AreLaidOut, ArePrograms, IsProgram}
 use Rattle.sg_patterns.specs.Spent.{Rest, IsSpent, IsFailure, AreSpent, AreSpentIf, HasSize, AreFailures, HaveFailures}
 use Rattle.sg_patterns.specs.Marks.{HasBegins, HasFinalsTo, IsDead}
 use Rattle.sg_patterns.specs.LongestMatch.{IsLength, Pattern}
@@ -86,6 +87,13 @@ module _ {A : Type 0} {B : Type 0} (R : A → B → Type 0) where
   pairs-set (x ∷ xs) (y ∷ ys) zero a b is each r (suc k) z w e f = each (suc k) z w e f
   pairs-set (x ∷ xs) (y ∷ ys) (suc n) a b is each r zero z w e f = each zero z w e f
   pairs-set (x ∷ xs) (y ∷ ys) (suc n) a b is each r (suc k) z w e f = pairs-set xs ys n a b is (λ j. each (suc j)) r k z w e f
+
+-- the program of one pattern more
+pub programs-more : (programs : List Program) (ps : List Lexeme) (p : Program) (q : Lexeme) → ArePrograms programs ps → IsProgram p q → ArePrograms (programs ++ p ∷ []) (ps ++ q ∷ [])
+programs-more programs ps p q are is = record {
+  same = omega (arith, are.same, length-append programs (p ∷ []), length-append ps (q ∷ []));
+  each = pairs-more IsProgram programs ps p q (sym are.same) are.each is;
+}
 
 -- what is known of one program more
 pub have-more : (programs : List Program) (text : Bytes) (all : List Failures) (p : Program) (x : Failures) → HaveFailures programs text all → AreFailures p text x → HaveFailures (programs ++ p ∷ []) text (all ++ x ∷ [])

@@ -10,7 +10,8 @@ use Rattle.sg_patterns.specs.declared.program.Node.TheVariants as node
 use Rattle.sg_patterns.specs.declared.program.Above.{Above}
 use Rattle.sg_patterns.specs.declared.program.Above.TheVariants.{Top, Same, After, Again}
 use Rattle.sg_patterns.specs.declared.program.Program.{Program}
-use Rattle.sg_patterns.specs.Programs.{flag_at, IsOrdered, NodeAfter, PartsBefore}
+use Rattle.sg_patterns.specs.Flags.{flag_at}
+use Rattle.sg_patterns.specs.Programs.{IsOrdered, NodeAfter, PartsBefore}
 use Rattle.std.specs.Bool.{OnFalse}
 use Rattle.sg_patterns.specs.Marks.{begin_in, begin_value, final_in, final_value, is_leaf, HasFinalsTo, IsDead}
 

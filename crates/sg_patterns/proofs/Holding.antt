@@ -17,7 +17,9 @@ use Rattle.sg_patterns.specs.Leaves.{leaf_pattern}
 use Rattle.sg_patterns.specs.Trees.{Tree, Nothing, OneByte, Then, Either, Many, Several, Maybe, root_of, pattern_of, IsLaidOut}
 use Rattle.sg_patterns.specs.declared.program.Building.{Building}
 use Rattle.sg_patterns.specs.declared.program.Program.{Program}
-use Rattle.sg_patterns.specs.Programs.{flag_at, AreLaidOut, StandBelow, roots_of, HoldsIn, Holds, Pushes, IsProgram, PartsBefore, NodeAfter, EachAfterParts, EachBeforeNode}
+use Rattle.sg_patterns.specs.Flags.{flag_at}
+use Rattle.sg_patterns.specs.Rows.{AreRows}
+use Rattle.sg_patterns.specs.Programs.{AreLaidOut, StandBelow, roots_of, HoldsIn, Holds, Pushes, IsProgram, PartsBefore, NodeAfter, EachAfterParts, EachBeforeNode}
 
 slice_get-set_other : {A : Type 0} (xs : List A) (i j : ℕ) (v : A) → j ≢ i → slice_get (set xs i v) j ≡ slice_get xs j
 slice_get-set_other [] i j v ne = refl
@@ -376,8 +378,8 @@ pub none-hold : HoldsIn [] [] [] [] []
 none-hold = record { trees = []; patterns = refl; at_roots = refl; stand = tt; above_each = refl; empty_each = refl; parts = λ k x is. absurd (cc); order = λ k a is. absurd (cc) }
 
 -- the tree made last is the program
-pub last-program : (nodes : List Node) (above : List Above) (empties : List Bool) (roots rest : List ℕ) (root : ℕ) (ps : List plain.Lexeme) (p : Program) → HoldsIn nodes above empties roots ps → roots ≡ rest ++ root ∷ [] → p.nodes.items ≡ nodes → p.above.items ≡ above → p.empties.items ≡ empties → p.root ≡ root → p.barred.items ≡ [] → IsProgram p (first_of ps)
-last-program nodes above empties roots rest root ps p h last n a e r none =
+pub last-program : (nodes : List Node) (above : List Above) (empties : List Bool) (roots rest : List ℕ) (root : ℕ) (ps : List plain.Lexeme) (p : Program) → HoldsIn nodes above empties roots ps → roots ≡ rest ++ root ∷ [] → p.nodes.items ≡ nodes → p.above.items ≡ above → p.empties.items ≡ empties → p.root ≡ root → p.barred.items ≡ [] → AreRows p p.rows → IsProgram p (first_of ps)
+last-program nodes above empties roots rest root ps p h last n a e r none rows =
     let d = the-one nodes above empties roots ps h rest root last in
     record {
       tree = d.t;
@@ -387,7 +389,7 @@ last-program nodes above empties roots rest root ps p h last n a e r none =
       stands = rw (n, a, e) d.stands;
       above_each = rw (n, a) h.above_each;
       empty_each = rw (n, e) h.empty_each;
-      ordered = record { each = rw (n, a) h.above_each; parts = rw n h.parts; order = rw a h.order };
+      ordered = record { each = rw (n, a) h.above_each; parts = rw n h.parts; order = rw a h.order; rows = rows };
       barred = λ b up. absurd (let down : false ≡ true = sym (ap (λ fs. flag_at fs b) none) ∙ up in cc);
     }
 

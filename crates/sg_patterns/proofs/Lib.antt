@@ -19,3 +19,4 @@ pub mod Defaults
 pub mod Worked
 pub mod Barring
 pub mod Failing
+pub mod Leading

@@ -16,7 +16,8 @@ use Rattle.sg_patterns.specs.declared.program.Above.TheVariants.{Top}
 use Rattle.sg_patterns.specs.declared.program.Program.{Program}
 use Rattle.sg_patterns.specs.Leaves.{leaf_pattern}
 use Rattle.sg_patterns.specs.Trees.{Tree, Nothing, OneByte, Then, Either, Many, Several, Maybe, root_of, pattern_of, empty_of, HasFinals, Steps}
-use Rattle.sg_patterns.specs.Programs.{flag_at, AreLaidOut}
+use Rattle.sg_patterns.specs.Flags.{flag_at}
+use Rattle.sg_patterns.specs.Programs.{AreLaidOut}
 use Rattle.sg_patterns.specs.Marks.{begin_in, HasBegins, final_in, HasFinalsTo, IsDead}
 use Rattle.sg_patterns.specs.LongestMatch.{IsLength, Pattern}
 use Rattle.sg_patterns.proofs.Matching.{matches-within}

@@ -1,7 +1,9 @@
 pub mod Leaves
 pub mod Trees
-pub mod Programs
+pub mod Flags
 pub mod Marks
+pub mod Rows
+pub mod Programs
 pub mod LongestMatch
 pub mod Lexemes
 pub mod LexemesOf

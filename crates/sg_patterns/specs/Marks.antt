@@ -6,7 +6,7 @@ use Rattle.sg_patterns.specs.declared.program.Above.{Above}
 use Rattle.sg_patterns.specs.declared.program.Above.TheVariants.{Top, Same, After, Again}
 use Rattle.sg_patterns.specs.declared.program.Program.{Program}
 use Rattle.sg_patterns.specs.Leaves.{passes}
-use Rattle.sg_patterns.specs.Programs.{flag_at}
+use Rattle.sg_patterns.specs.Flags.{flag_at}
 
 -- whether a match of a node begins, by what is above it
 abbrev pub begin_by : (empties finals begins : List Bool) → Bool → ℕ → Above → Bool

@@ -1,5 +1,5 @@
 -- Which pattern the nodes of a program make, and which patterns those of a program in the making.
-use Rattle.std.specs.Prelude.{◌≡◌, ℕ, ◌+◌, ◌<◌, ◌≤◌, Bool, false, true, List, [], ◌∷◌, ◌++◌, map, length, Some, slice_get, slice_index_or}
+use Rattle.std.specs.Prelude.{◌≡◌, ℕ, ◌+◌, ◌<◌, ◌≤◌, Bool, true, List, [], ◌∷◌, ◌++◌, map, length, Some, slice_get}
 use Rattle.sg_kinds.specs.Lexemes as plain
 use Rattle.sg_kinds.specs.Matches.{MatchesFrom}
 use Rattle.sg_kinds.specs.Values.{Bytes}
@@ -9,11 +9,9 @@ use Rattle.sg_patterns.specs.declared.program.Node.TheVariants.{Nothing, Leaf, T
 use Rattle.sg_patterns.specs.declared.program.Above.TheVariants.{Top, Same, After, Again}
 use Rattle.sg_patterns.specs.declared.program.Program.{Program}
 use Rattle.sg_patterns.specs.declared.program.Building.{Building}
+use Rattle.sg_patterns.specs.Flags.{flag_at}
+use Rattle.sg_patterns.specs.Rows.{AreRows}
 use Rattle.sg_patterns.specs.Trees.{Tree, root_of, pattern_of, IsLaidOut}
-
--- the flag at a place, and false past the end
-abbrev pub flag_at : List Bool → ℕ → Bool
-flag_at flags k = slice_index_or flags k false
 
 -- the tree stands in these lists
 abbrev pub AreLaidOut : List Node → List Above → List Bool → Tree → Type 0
@@ -77,11 +75,12 @@ pub record Pushes (old new : Building) (node : Node) (empty : Bool) : Type 0 whe
   pub empties : new.empties.items ≡ old.empties.items ++ empty ∷ []
   pub roots : new.roots.items ≡ old.roots.items ++ length old.nodes.items ∷ []
 
--- each node stands behind its parts
+-- each node stands behind its parts, and the rows are those of the nodes
 pub record IsOrdered (p : Program) : Type 0 where
   pub each : length p.above.items ≡ length p.nodes.items
   pub parts : EachAfterParts p.nodes.items
   pub order : EachBeforeNode p.above.items
+  pub rows : AreRows p p.rows
 
 -- no match of some bytes begins with this byte
 abbrev pub IsBarred : plain.Lexeme → ℕ → Type 0

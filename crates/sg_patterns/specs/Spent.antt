@@ -5,7 +5,8 @@ use Rattle.sg_kinds.specs.Lexemes as plain
 use Rattle.sg_kinds.specs.Matches.{Rounds, MatchesFrom}
 use Rattle.sg_kinds.specs.Values.{Bytes}
 use Rattle.sg_patterns.specs.Trees.{Tree, Nothing, OneByte, Then, Either, Many, Several, Maybe, pattern_of}
-use Rattle.sg_patterns.specs.Programs.{flag_at, IsProgram}
+use Rattle.sg_patterns.specs.Flags.{flag_at}
+use Rattle.sg_patterns.specs.Programs.{IsProgram}
 use Rattle.sg_patterns.specs.declared.program.Program.{Program}
 use Rattle.sg_patterns.specs.declared.failures.Checkpoint.{Checkpoint}
 use Rattle.sg_patterns.specs.declared.failures.Failures.{Failures}

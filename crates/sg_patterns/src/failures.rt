@@ -5,7 +5,8 @@ ghost use Rattle.std.specs.Prelude.{◌≡◌, ℕ, ◌+◌, ◌<◌, length, If
 ghost use Rattle.std.specs.Bool.{OnTrue};
 ghost use Rattle.sg_kinds.specs.Lexemes as plain;
 ghost use Rattle.sg_kinds.specs.Values.{Bytes};
-ghost use Rattle.sg_patterns.specs.Programs.{flag_at, IsProgram};
+ghost use Rattle.sg_patterns.specs.Flags.{flag_at};
+ghost use Rattle.sg_patterns.specs.Programs.{IsProgram};
 ghost use Rattle.sg_patterns.specs.Spent.{AreFailures, AreSpentIf, HasSize, HaveFailures, IsSpent};
 ghost use Rattle.sg_patterns.specs.declared.program.Program as plain_program;
 
@@ -36,7 +37,7 @@ pub struct Failures {
 }
 
 /// Whether the flags are the first of the others.
-fn agree(flags: &[bool], others: &[bool]) -> bool
+pub fn agree(flags: &[bool], others: &[bool]) -> bool
     ensures { OnTrue result ((k : ℕ) → k < length flags.now → flag_at flags.now k ≡ flag_at others.now k) }
 {
     for k in 0..flags.len() {

@@ -11,6 +11,7 @@ mod matcher;
 mod program;
 mod reader;
 mod reading;
+mod rows;
 mod scanning;
 
 pub use lexemes::Lexemes;

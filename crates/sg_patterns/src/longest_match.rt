@@ -9,6 +9,7 @@ ghost use Rattle.sg_patterns.specs.Spent.{HaveFailures};
 use crate::failures::{Failures, failures_of};
 use crate::marks::{longest_from, with_barred};
 use crate::program::Program;
+use crate::rows::with_rows;
 use sg_kinds::lexeme::Lexeme;
 use sg_kinds::memory::NoMemory;
 use std::alloc::Global;
@@ -23,21 +24,29 @@ pub fn len_of(found: Option<(usize, usize)>) -> usize
     }
 }
 
-/// The program of a pattern, with the bytes with which no match begins.
-fn ready(alloc: Global, lexeme: &Lexeme) -> Result<Program, NoMemory>
+/// The program of a pattern: with what walks of it come to, where it is to be walked often and that is not much, or else
+/// with the bytes with which no match begins.
+fn ready(alloc: Global, lexeme: &Lexeme, often: bool) -> Result<Program, NoMemory>
     ensures { IfOk result (λ p. IsProgram p lexeme.now) }
 {
     let program = Program::new(alloc, lexeme)?;
-    with_barred(alloc, program)
+    if !often {
+        return with_barred(alloc, program);
+    }
+    let walked = with_rows(alloc, program)?;
+    if walked.rows.states.is_empty() {
+        return with_barred(alloc, walked);
+    }
+    Ok(walked)
 }
 
-/// The programs of patterns.
-pub fn programs_of(alloc: Global, all: &[Lexeme]) -> Result<Vec<Program>, NoMemory>
+/// The programs of patterns, which are to be walked often or not.
+pub fn programs_of(alloc: Global, all: &[Lexeme], often: bool) -> Result<Vec<Program>, NoMemory>
     ensures { IfOk result (λ ps. ArePrograms ps.items all.now) }
 {
     let mut programs = Vec::with_capacity(alloc, all.len())?;
     for lexeme in all {
-        programs.push(ready(alloc, lexeme)?)?;
+        programs.push(ready(alloc, lexeme, often)?)?;
     }
     Ok(programs)
 }
@@ -94,7 +103,7 @@ pub fn longest(
 ) -> Result<Option<(usize, usize)>, NoMemory>
     ensures { IfOk result (λ found. IsAnswer (map Pattern all.now) text.now at found) }
 {
-    let programs = programs_of(alloc, all)?;
+    let programs = programs_of(alloc, all, false)?;
     let room = room_of(programs.as_slice());
     let mut begins = vec![in alloc; false; room]?;
     let mut finals = vec![in alloc; false; room]?;

@@ -4,11 +4,13 @@ ghost use Rattle.sg_kinds.specs.Lexemes as plain;
 ghost use Rattle.sg_patterns.specs.LongestMatch.{IsLength, Pattern};
 ghost use Rattle.sg_patterns.specs.Marks.{begin_value, HasBegins, final_value, HasFinalsTo, is_leaf, IsDead};
 ghost use Rattle.std.specs.Bool.{OnTrue, OnFalse};
-ghost use Rattle.sg_patterns.specs.Programs.{flag_at, IsBarred, IsOrdered, IsProgram};
+ghost use Rattle.sg_patterns.specs.Flags.{flag_at};
+ghost use Rattle.sg_patterns.specs.Programs.{IsBarred, IsOrdered, IsProgram};
 ghost use Rattle.sg_patterns.specs.Spent.{AreFailures};
 
 use crate::failures::Failures;
 use crate::program::{Above, Node, Program, flag};
+use crate::rows::longest_by_rows;
 use sg_kinds::memory::NoMemory;
 use std::alloc::Global;
 
@@ -37,7 +39,7 @@ fn begins_at(program: &Program, starts: bool, finals: &[bool], begins: &[bool], 
 }
 
 /// Says of each node whether a match of it may begin here, from the last node to the first.
-fn mark_begins(program: &Program, starts: bool, finals: &[bool], begins: &mut [bool])
+pub fn mark_begins(program: &Program, starts: bool, finals: &[bool], begins: &mut [bool])
     requires ordered { IsOrdered program.now }
     requires room { vec_len program.now.nodes ≤ length begins.old }
     ensures { HasBegins program.now starts finals.now begins.new }
@@ -73,7 +75,7 @@ fn is_leaf(node: &Node) -> bool
 
 /// Goes over a byte: says of each node whether a match of it ends behind the byte, from the first node to the last.
 /// Returns whether a leaf is marked.
-fn step(program: &Program, byte: u8, begins: &[bool], finals: &mut [bool]) -> bool
+pub fn step(program: &Program, byte: u8, begins: &[bool], finals: &mut [bool]) -> bool
     requires ordered { IsOrdered program.now }
     requires room { vec_len program.now.nodes ≤ length finals.old }
     ensures finals { HasFinalsTo program.now (vec_len program.now.nodes) byte begins.now finals.new }
@@ -130,9 +132,10 @@ fn is_barred(program: &Program, text: &[u8], at: usize) -> bool
     at < text.len() && flag(&program.barred, text[at] as usize)
 }
 
-/// The length of the longest match from a place on that has a byte, or 0 where there is none. The flags are room for
-/// those of the program's nodes. The walk stops where it is known to fail, and what it learns is kept.
-pub fn longest_from(
+/// The length of the longest match from a place on that has a byte, or 0 where there is none, by the
+/// marks of the program's nodes, for which the flags are room. The walk stops where it is known to fail, and what it
+/// learns is kept.
+fn longest_by_marks(
     program: &Program,
     text: &[u8],
     at: usize,
@@ -165,4 +168,28 @@ pub fn longest_from(
         }
     }
     longest
+}
+
+/// The length of the longest match from a place on that has a byte, or 0 where there is none. The flags are room for
+/// those of the program's nodes.
+pub fn longest_from(
+    program: &Program,
+    text: &[u8],
+    at: usize,
+    begins: &mut [bool],
+    finals: &mut [bool],
+    failures: &mut Failures,
+) -> usize
+    requires ordered { IsOrdered program.now }
+    requires begins_room { vec_len program.now.nodes ≤ length begins.old }
+    requires finals_room { vec_len program.now.nodes ≤ length finals.old }
+    requires known { AreFailures program.now text.now failures.old }
+    ensures longest { (p : plain.Lexeme) → IsProgram program.now p → IsLength (Pattern p) text.now at result }
+    ensures known { AreFailures program.now text.now failures.new }
+{
+    if program.rows.states.is_empty() {
+        longest_by_marks(program, text, at, begins, finals, failures)
+    } else {
+        longest_by_rows(program, text, at, failures)
+    }
 }

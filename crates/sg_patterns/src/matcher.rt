@@ -96,7 +96,7 @@ impl Matcher {
         ensures { IfOk result (λ m. m ≡ all.now) }
     {
         let patterns = Row::new(copies(alloc, all)?);
-        let programs = programs_of(alloc, patterns.as_slice())?;
+        let programs = programs_of(alloc, patterns.as_slice(), true)?;
         let room = room_of(programs.as_slice());
         let begins = vec![in alloc; false; room]?;
         let finals = vec![in alloc; false; room]?;

@@ -6,7 +6,10 @@ ghost use Rattle.sg_kinds.specs.LexemeCode.{act, first_of, of_one, of_two};
 ghost use Rattle.sg_kinds.specs.LexemeView.{instruction_of};
 ghost use Rattle.sg_kinds.specs.Lexemes as plain;
 ghost use Rattle.sg_patterns.specs.Leaves.{passes, leaf_pattern};
-ghost use Rattle.sg_patterns.specs.Programs.{flag_at, Holds, HoldsSome, Pushes, IsProgram};
+ghost use Rattle.sg_patterns.specs.Flags.{flag_at};
+ghost use Rattle.sg_patterns.specs.Rows.{AreRows};
+ghost use Rattle.sg_patterns.specs.declared.program.Program as plain_program;
+ghost use Rattle.sg_patterns.specs.Programs.{Holds, HoldsSome, Pushes, IsProgram};
 
 use sg_kinds::lexeme::{Lexeme, LexemeStep};
 use sg_kinds::memory::NoMemory;
@@ -79,6 +82,39 @@ impl Leaf {
     }
 }
 
+/// Where a byte leads: to flags without a marked leaf, or to those of a number.
+#[derive(Clone, Copy)]
+pub enum Next {
+    Dead,
+    To(u8),
+}
+
+/// Flags of a program's nodes at a place of a text.
+#[derive(Drop)]
+pub struct State {
+    pub flags: Vec<bool>,
+}
+
+/// The flags that come about in walks, the first those before any byte; and for each of them, and each byte, where it
+/// leads: 256 entries for each. Or nothing at all.
+#[derive(Drop)]
+pub struct Rows {
+    pub states: Vec<State>,
+    pub next: Vec<Next>,
+}
+
+impl Rows {
+    /// Nothing is worked out.
+    pub fn none(alloc: Global) -> Rows
+        ensures { (p : plain_program.Program) → AreRows p result }
+    {
+        Rows {
+            states: Vec::new(alloc),
+            next: Vec::new(alloc),
+        }
+    }
+}
+
 /// A pattern's tree: its nodes, where matches of them may begin, and which of them match the empty text.
 #[derive(Drop)]
 pub struct Program {
@@ -88,6 +124,8 @@ pub struct Program {
     pub root: usize,
     /// for a byte whether it is known that no match begins with it
     pub barred: Vec<bool>,
+    /// what walks come to, where that was worked out
+    pub rows: Rows,
 }
 
 /// The trees that the steps of a pattern have made so far: their nodes and the numbers of their roots.
@@ -258,6 +296,7 @@ impl Building {
             empties: self.empties,
             root,
             barred: Vec::new(alloc),
+            rows: Rows::none(alloc),
         }
     }
 

@@ -68,7 +68,7 @@ err_before None number line r e is = inl (refl, cc)
 err_before (Some d) number line (Ok es) e is = absurd (cc)
 err_before (Some d) number line (Err x) e is = inr (d, refl, cc)
 
-no_tree : (ms : List Mark) → decl_of ms ≡ None → (d : Decl) → Spells ms d → ⊥
+pub no_tree : (ms : List Mark) → decl_of ms ≡ None → (d : Decl) → Spells ms d → ⊥
 no_tree ms unread d is = let both : None ≡ Some d = sym unread ∙ spelling_reads ms d is in absurd (cc)
 
 -- a fault is no earlier than the first declaration

@@ -222,9 +222,10 @@ fn of_name(alloc: Global, tokens: &mut Tokens<'_>, name: Name) -> Result<Decl, R
     }
 }
 
-/// A declaration.
+/// A declaration, read from the front of tokens: its tree, and behind it the tokens that are left. Where it cannot be
+/// read on, the tokens that are left begin where reading stopped.
 #[tactic(auto, unfolding(sg_ast::specs::Reading::declaration))]
-pub(crate) fn declaration(alloc: Global, tokens: &mut Tokens<'_>) -> Result<Decl, Refusal>
+pub fn declaration(alloc: Global, tokens: &mut Tokens<'_>) -> Result<Decl, Refusal>
     ensures { Reads tree_of (spec.declaration (left_of tokens.old)) result (left_of tokens.new) }
 {
     if tokens.sees_name() {

@@ -5,5 +5,6 @@ mod decl;
 mod fault;
 mod reading;
 
+pub use decl::declaration;
 pub use fault::ReadFault;
 pub use reading::read;

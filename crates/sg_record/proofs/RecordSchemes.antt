@@ -44,11 +44,11 @@ use Rattle.sg_remote.specs.Longer.{names_of}
 use Rattle.sg_schemes.specs.Places as places
 use Rattle.sg_schemes.specs.Places.{places_fault, operator_faults, phylum_faults, kids_fault, scheme_kids}
 use Rattle.sg_schemes.specs.NoScheme.{gives, LacksScheme, IsNoScheme, all_have, first_lacks}
-use Rattle.sg_schemes.specs.Shown.{fault_at}
+use Rattle.sg_schemes.specs.ShownFlags.{fault_at}
 use Rattle.sg_types.specs.Bindings.{local_slot}
 use Rattle.sg_typing.specs.Bodies.{reference_type, target_type}
 use Rattle.sg_typing.specs.Bodies as body
-use Rattle.sg_typing.specs.Shown.{hidden, hidden_item, hidden_scheme, hidden_at, first_hidden}
+use Rattle.sg_typing.specs.ShownTypes.{hidden, hidden_item, hidden_scheme, hidden_at, first_hidden}
 use Rattle.sg_typing.proofs.RecordTyped.{unless_is}
 use Rattle.sg_views.specs.Schemes.{first_slot, shown, item_of, scheme_of, schemes_under, schemes_at, schemes_of}
 use Rattle.sg_views.specs.Views.{view_names, row_of, views_of}

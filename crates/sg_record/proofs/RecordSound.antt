@@ -19,7 +19,7 @@ use Rattle.sg_schemes.specs.Places.{scheme_kids}
 use Rattle.sg_schemes.specs.NoScheme.{IsNoScheme}
 use Rattle.sg_typing.specs.Bodies.{first_mismatch}
 use Rattle.sg_typing.specs.Checked.{first_fault}
-use Rattle.sg_typing.specs.Shown.{first_hidden}
+use Rattle.sg_typing.specs.ShownTypes.{first_hidden}
 use Rattle.sg_typing.proofs.ListsThere.{lists_there}
 use Rattle.sg_record.specs.Entries.{entry_twice, entry_type}
 use Rattle.sg_record.specs.Premises.{AreApart}

@@ -1,5 +1,5 @@
 -- Transformations of the record are well typed.
-use Rattle.std.proofs.Common.{◌≡◌, ℕ, ◌+◌, true, List, [], ◌∷◌, ◌++◌, map, Option, Some, None, slice_get, refl, sym, ap, subst, ◌∙◌, arith}
+use Rattle.std.proofs.Common.{◌≡◌, ℕ, ◌+◌, true, List, [], ◌∷◌, ◌++◌, Option, Some, None, slice_get, refl, sym, ap, subst, ◌∙◌, arith}
 use Rattle.std.specs.Prelude.{option_map, option_and_then, unwrap_or, IsTrue, MatchOption}
 use Rattle.std.specs.List.{AllByRecursion as Each, All}
 use Rattle.std.proofs.lemmas.List.Elements.{All-from_recursion}

@@ -1,14 +1,17 @@
 -- What is known of lists.
-use Rattle.std.proofs.Common.{◌≡◌, ℕ, zero, suc, Bool, true, false, cond, ◌&&◌, nat_eq, List, [], ◌∷◌, ◌++◌, Some, option_map, refl, sym, ap, ◌∙◌, arith}
-use Rattle.std.specs.Prelude.{find}
+use Rattle.std.proofs.Common.{◌≡◌, ℕ, zero, suc, Bool, true, false, cond, ◌&&◌, nat_eq, List, [], ◌∷◌, Vec, Some, refl, sym, ap, ◌∙◌, arith, Decides}
+use Rattle.std.specs.Map.{lookup}
+use Rattle.std.specs.Cmp.Lexicographic.{pointwise}
 use Rattle.std.proofs.lemmas.Bool.{eqb-true, and_parts}
+use Rattle.std.proofs.lemmas.Option.{none-some, same_Some}
+use Rattle.std.proofs.lemmas.Slice.Eq.{slice_eq-Decides}
+use Rattle.indexmap.specs.IndexMap.{insert_entry}
 use Rattle.sg_kinds.specs.Far.{same_far}
 use Rattle.sg_kinds.specs.declared.spec.Far.{Far}
 use Rattle.sg_names.specs.declared.table.Table.{Table}
-use Rattle.sg_remote.specs.Bearing.{is_open, opened}
-use Rattle.sg_remote.specs.NoEnclosing.{AreOpened, known_flag}
-use Rattle.sg_remote.specs.Reach.{flag}
-use Rattle.sg_remote.specs.declared.bare.Known.{Known}
+use Rattle.sg_remote.specs.Bearing.{opened}
+use Rattle.sg_remote.specs.Keys.{key_of, list_of}
+use Rattle.sg_remote.specs.NoEnclosing.{AreOpened}
 
 pub same_list : (fs gs : List Far) → same_far fs gs ≡ true → fs ≡ gs
 same_list [] [] is = refl
@@ -20,27 +23,42 @@ same_list (f ∷ fs) (g ∷ gs) is =
     let same : f ≡ g = ap (λ p. record { phylum = p; slot = f.slot }) (eqb-true f.phylum g.phylum both.0) ∙ ap (λ n. record { phylum = g.phylum; slot = n }) (eqb-true f.slot g.slot both.1) in
     ap (λ h. h ∷ fs) same ∙ ap (λ l. g ∷ l) (same_list fs gs parts.1)
 
-rest_known : (t : Table) (k : Known) (ks : List Known) → AreOpened t (k ∷ ks) → AreOpened t ks
-rest_known t k ks all = λ i d low. all (suc i) d (omega (arith, low))
+-- a list comes back from its key
+pub list_of_key : (fs : List Far) → list_of (key_of fs) ≡ fs
+list_of_key [] = refl
+list_of_key (f ∷ fs) = ap (λ l. f ∷ l) (list_of_key fs)
 
-pub known_is : (t : Table) (known : List Known) (fs : List Far) (p : ℕ) (b : Bool) → AreOpened t known → known_flag known fs p ≡ Some b → b ≡ is_open t fs p
-known_is t [] fs p b all is = absurd (cc is)
-known_is t (k ∷ ks) fs p b all is = by (same_far k.list fs) refl is (known_is t ks fs p b (rest_known t k ks all))
-  where
-    by : (c : Bool) → same_far k.list fs ≡ c → option_map (λ (o : Known). flag o.flags.items p) (cond c (Some k) (find (λ (o : Known). same_far o.list fs) ks)) ≡ Some b → (known_flag ks fs p ≡ Some b → b ≡ is_open t fs p) → b ≡ is_open t fs p
-    by true same got rest =
-        let here : flag k.flags.items p ≡ b = cc got in
-        sym here ∙ ap (λ F. flag F p) (all 0 k (omega arith)) ∙ ap (λ gs. is_open t gs p) (same_list k.list fs same)
-    by false same got rest = rest got
+module _ (E : ℕ × ℕ → ℕ × ℕ → Bool) (decides : (p q : ℕ × ℕ) → Decides (E p q) (p ≡ q)) where
+  met : (ps qs : List (ℕ × ℕ)) → pointwise E ps qs ≡ true → ps ≡ qs
+  met ps qs e = (slice_eq-Decides decides ps qs (pointwise E ps qs) refl).0 e
 
-pub known_more : (t : Table) (known : List Known) (k : Known) → AreOpened t known → k.flags.items ≡ opened t k.list → AreOpened t (known ++ k ∷ [])
-known_more t [] k all is = one
-  where
-    one : AreOpened t (k ∷ [])
-    one zero d low = is
-    one (suc i) d low = absurd (omega (arith, low))
-known_more t (x ∷ xs) k all is = more (known_more t xs k (rest_known t x xs all) is)
-  where
-    more : AreOpened t (xs ++ k ∷ []) → AreOpened t (x ∷ xs ++ k ∷ [])
-    more rest zero d low = all 0 d (omega arith)
-    more rest (suc i) d low = rest i d (omega (arith, low))
+  module _ {A : Type 0} (t : Table) where
+    rest_known : (e : Vec (ℕ × ℕ) A × Vec Bool A) (es : List (Vec (ℕ × ℕ) A × Vec Bool A)) → AreOpened t (e ∷ es) → AreOpened t es
+    rest_known e es all = λ i d low. all (suc i) d (omega (arith, low))
+
+    one_more : (e : Vec (ℕ × ℕ) A × Vec Bool A) (es : List (Vec (ℕ × ℕ) A × Vec Bool A)) → e.1.items ≡ opened t (list_of e.0.items) → AreOpened t es → AreOpened t (e ∷ es)
+    one_more e es is all zero d low = is
+    one_more e es is all (suc i) d low = all i d (omega (arith, low))
+
+    pub known_is : (known : List (Vec (ℕ × ℕ) A × Vec Bool A)) (fs : List Far) (v : Vec Bool A) → AreOpened t known
+        → lookup (λ k. pointwise E (key_of fs) k.items) known ≡ Some v → v.items ≡ opened t fs
+    known_is [] fs v all is = absurd (none-some _ is)
+    known_is (e ∷ es) fs v all is = by (pointwise E (key_of fs) e.0.items) refl is (known_is es fs v (rest_known e es all))
+      where
+        by : (b : Bool) → pointwise E (key_of fs) e.0.items ≡ b → cond b (Some e.1) (lookup (λ (k : Vec (ℕ × ℕ) A). pointwise E (key_of fs) k.items) es) ≡ Some v
+            → (lookup (λ (k : Vec (ℕ × ℕ) A). pointwise E (key_of fs) k.items) es ≡ Some v → v.items ≡ opened t fs) → v.items ≡ opened t fs
+        by true same got rest =
+            let here : e.1 ≡ v = same_Some _ _ got in
+            ap (λ (w : Vec Bool A). w.items) (sym here) ∙ all 0 e (omega arith)
+            ∙ ap (opened t) (ap list_of (sym (met (key_of fs) e.0.items same)) ∙ list_of_key fs)
+        by false same got rest = rest got
+
+    pub known_more : (known : List (Vec (ℕ × ℕ) A × Vec Bool A)) (key : Vec (ℕ × ℕ) A) (v : Vec Bool A) → AreOpened t known
+        → v.items ≡ opened t (list_of key.items) → AreOpened t (insert_entry (λ a b. pointwise E a.items b.items) known key v)
+    known_more [] key v all is = one_more (key, v) [] is all
+    known_more (e ∷ es) key v all is = by (pointwise E key.items e.0.items) refl (known_more es key v (rest_known e es all) is)
+      where
+        by : (b : Bool) → pointwise E key.items e.0.items ≡ b → AreOpened t (insert_entry (λ a b. pointwise E a.items b.items) es key v)
+            → AreOpened t (cond b ((e.0, v) ∷ es) (e ∷ insert_entry (λ a b. pointwise E a.items b.items) es key v))
+        by true same more = one_more (e.0, v) es (is ∙ ap (λ ps. opened t (list_of ps)) (met key.items e.0.items same)) (rest_known e es all)
+        by false same more = one_more e (insert_entry (λ a b. pointwise E a.items b.items) es key v) (all 0 e (omega arith)) more

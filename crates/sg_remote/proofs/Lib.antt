@@ -3,7 +3,9 @@ pub mod Least
 pub mod Members
 pub mod Borne
 pub mod FirstBare
+pub mod Keyed
 pub mod Knowing
 pub mod Longer
 pub mod TextOrder
 pub mod BareNodes
+pub mod Users

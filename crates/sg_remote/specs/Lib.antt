@@ -1,4 +1,5 @@
 pub mod Atoms
+pub mod Keys
 pub mod Lists
 pub mod Reach
 pub mod Bearing

@@ -1,9 +1,8 @@
 -- The first reference to enclosing nodes in the equations of an operator of which some node of a term of the root
 -- phylum has no enclosing node of a listed phylum.
-use Rattle.std.specs.Prelude.{◌≡◌, ℕ, ◌<◌, ◌≤◌, Bool, false, if◌then◌else◌, List, find, Option, Some, None, slice_get, option_map, unwrap_or}
+use Rattle.std.specs.Prelude.{◌≡◌, ℕ, ◌<◌, ◌≤◌, Bool, false, if◌then◌else◌, List, Vec, Option, Some, None, slice_get, option_map, unwrap_or}
 use Rattle.std.specs.List.{All}
 use Rattle.sg_kinds.specs.Enclosing.{near}
-use Rattle.sg_kinds.specs.Far.{same_far}
 use Rattle.sg_kinds.specs.Fits.{Fits}
 use Rattle.sg_kinds.specs.Nets.{Operation, label_of}
 use Rattle.sg_kinds.specs.Places.{Place, sub}
@@ -20,9 +19,8 @@ use Rattle.sg_names.specs.Drafted.{drafted}
 use Rattle.sg_names.specs.declared.table.Table.{Table}
 use Rattle.sg_remote.specs.Atoms.{atoms}
 use Rattle.sg_remote.specs.Bearing.{IsOpen, is_open, opened}
-use Rattle.sg_remote.specs.Reach.{flag}
+use Rattle.sg_remote.specs.Keys.{list_of}
 use Rattle.sg_remote.specs.declared.atoms.Atom.{Atom}
-use Rattle.sg_remote.specs.declared.bare.Known.{Known}
 
 -- a reference of an operator whose phylum is open to its list
 pub record IsBare (t : Table) (a : Atom) : Type 0 where
@@ -59,13 +57,9 @@ first_bare t rs = first (bare_fault t) rs
 abbrev pub no_enclosing : Table → List Decl → Option SpecFault
 no_enclosing t ds = first_bare t (atoms t ds)
 
--- the flags of what is known are those of the phyla that are open
-abbrev pub AreOpened : Table → List Known → Type 0
-AreOpened t known = All (λ (o : Known). o.flags.items ≡ opened t o.list) known
-
-abbrev pub known_flag : List Known → List Far → ℕ → Option Bool
-known_flag known fs p = option_map (λ (o : Known). flag o.flags.items p)
-    (find (λ (o : Known). same_far o.list fs) known)
+-- what is known of lists, by their keys, are the flags of the phyla that are open to them
+abbrev pub AreOpened : {A : Type 0} → Table → List (Vec (ℕ × ℕ) A × Vec Bool A) → Type 0
+AreOpened t known = All (λ e. e.1.items ≡ opened t (list_of e.0.items)) known
 
 -- no bare reference stands before this place
 abbrev pub IsFirstBare : Table → List Decl → Position → Type 0

@@ -7,54 +7,36 @@ ghost use Rattle.sg_remote.specs.NoEnclosing.{IsNoEnclosing};
 
 use crate::atoms::{Atom, atoms};
 use crate::edges::opened;
-use crate::lists::same_far;
+use crate::lists::key_of;
 use crate::reach::flag;
+use indexmap::IndexMap;
 use sg_ast::decl::Decl;
 use sg_kinds::fault::SpecFault;
 use sg_kinds::ids::PhylumId;
 use sg_kinds::memory::NoMemory;
-use sg_kinds::row::Row;
 use sg_kinds::spec::Far;
 use sg_names::names::Names;
 use std::alloc::Global;
 
-/// The flags of the phyla that are open to a list.
-#[derive(Drop)]
-pub struct Known {
-    pub list: Row<Far>,
-    pub flags: Vec<bool>,
-}
-
-/// Whether a phylum is open to a list of which it is known.
-fn known_flag(known: &[Known], list: &[Far], phylum: PhylumId) -> Option<bool>
-    ensures { result ≡ spec.known_flag known.now list.now phylum }
-{
-    let one = known
-        .iter()
-        .find(|one| same_far(one.list.as_slice(), list))?;
-    Some(flag(&one.flags, phylum.number))
-}
-
 /// Whether a phylum is open to a list, from what is known of lists, which is kept.
-#[tactic(auto, using(crate::proofs::Knowing::known_is, crate::proofs::Knowing::known_more))]
 fn is_open(
     alloc: Global,
     names: &Names,
-    known: &mut Vec<Known>,
-    list: &Row<Far>,
+    known: &mut IndexMap<Vec<(u32, u32)>, Vec<bool>>,
+    list: &[Far],
     phylum: PhylumId,
 ) -> Result<bool, NoMemory>
-    requires { spec.AreOpened names.now known.now.items }
+    requires { spec.AreOpened names.now known.now.entries }
     ensures open { IfOk result (λ b. b ≡ bearing.is_open names.now list.now phylum) }
-    ensures known { OnOk result (spec.AreOpened names.now known.new.items) }
+    ensures known { OnOk result (spec.AreOpened names.now known.new.entries) }
 {
-    if let Some(open) = known_flag(known.as_slice(), list.as_slice(), phylum) {
-        return Ok(open);
+    let key = key_of(alloc, list)?;
+    if let Some(flags) = known.get(key.as_slice()) {
+        return Ok(flag(flags, phylum.number));
     }
-    let flags = opened(alloc, names, list.as_slice())?;
+    let flags = opened(alloc, names, list)?;
     let open = flag(&flags, phylum.number);
-    let list = list.copy(alloc)?;
-    known.push(Known { list, flags })?;
+    known.insert(key, flags)?;
     Ok(open)
 }
 
@@ -62,15 +44,15 @@ fn is_open(
 fn is_bare(
     alloc: Global,
     names: &Names,
-    known: &mut Vec<Known>,
+    known: &mut IndexMap<Vec<(u32, u32)>, Vec<bool>>,
     atom: &Atom,
 ) -> Result<bool, NoMemory>
-    requires { spec.AreOpened names.now known.now.items }
+    requires { spec.AreOpened names.now known.now.entries }
     ensures bare { IfOk result (λ b. b ≡ spec.is_bare names.now atom.now) }
-    ensures known { OnOk result (spec.AreOpened names.now known.new.items) }
+    ensures known { OnOk result (spec.AreOpened names.now known.new.entries) }
 {
     match names.table().ops.place(atom.op.number) {
-        Some(operator) => is_open(alloc, names, known, &atom.list, operator.phylum),
+        Some(operator) => is_open(alloc, names, known, atom.list.as_slice(), operator.phylum),
         None => Ok(false),
     }
 }
@@ -79,7 +61,7 @@ fn is_bare(
 fn first_bare(alloc: Global, names: &Names, atoms: &[Atom]) -> Result<Option<SpecFault>, NoMemory>
     ensures { IfOk result (λ f. f ≡ spec.first_bare names.now atoms.now) }
 {
-    let mut known = Vec::new(alloc);
+    let mut known = IndexMap::new(alloc);
     for atom in atoms {
         if is_bare(alloc, names, &mut known, atom)? {
             return Ok(Some(SpecFault::NoEnclosing(atom.place)));

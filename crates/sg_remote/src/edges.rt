@@ -1,13 +1,21 @@
 //! Which phyla bear a far attribute, and which may stand below no listed phylum.
-ghost use Rattle.std.specs.Prelude.{◌≡◌, ◌++◌, OnOk, IfOk};
+ghost use Rattle.std.specs.Prelude.{◌≡◌, ◌++◌, ℕ, List, Some, true, map, slice_get, OnOk, IfOk};
+ghost use Rattle.sg_kinds.specs.declared.spec.Far.{Far};
+ghost use Rattle.sg_names.specs.Rows.{row_at};
 ghost use Rattle.sg_remote.specs.Bearing as spec;
+ghost use Rattle.sg_remote.specs.Keys.{AreDistinct, list_of};
+ghost use Rattle.sg_remote.specs.Lists.{lists_of};
+ghost use Rattle.sg_remote.specs.Reach.{reached};
 
 use crate::atoms::Atom;
-use crate::lists::{listed_slot, same_far};
+use crate::lists::{listed_slot, place_of};
 use crate::reach::{Edge, reached};
+use indexmap::IndexSet;
 use sg_kinds::ids::PhylumId;
 use sg_kinds::memory::NoMemory;
 use sg_kinds::spec::{Far, Operator};
+use sg_names::callables::number;
+use sg_names::groups::Groups;
 use sg_names::names::Names;
 use std::alloc::Global;
 
@@ -68,33 +76,67 @@ fn edges(alloc: Global, up: bool, list: &[Far], ops: &[Operator]) -> Result<Vec<
     Ok(edges)
 }
 
-/// The phyla whose operators use a list.
-fn users(alloc: Global, names: &Names, atoms: &[Atom], list: &[Far]) -> Result<Vec<u32>, NoMemory>
-    ensures { IfOk result (λ v. v.items ≡ spec.users names.now list.now atoms.now) }
+/// Puts the phylum of a reference's operator behind the users of its list.
+fn add_user(
+    alloc: Global,
+    names: &Names,
+    atom: &Atom,
+    lists: &IndexSet<Vec<(u32, u32)>>,
+    users: &mut Groups<u32>,
+) -> Result<(), NoMemory>
+    requires { AreDistinct (map (λ k. list_of k.items) lists.now.keys) }
+    ensures { OnOk result ((k : ℕ) (fs : List Far) → slice_get (map (λ k. list_of k.items) lists.now.keys) k ≡ Some fs
+        → row_at users.new k ≡ row_at users.old k ++ spec.user names.now fs atom.now) }
 {
-    let mut users = Vec::new(alloc);
+    let Some(place) = place_of(alloc, lists, atom.list.as_slice())? else {
+        return Ok(());
+    };
+    let Some(operator) = names.table().ops.place(atom.op.number) else {
+        return Ok(());
+    };
+    users.put(alloc, number(place)?, operator.phylum.number)?;
+    Ok(())
+}
+
+/// The phyla whose operators use each of these lists, a row for each list.
+pub fn users(
+    alloc: Global,
+    names: &Names,
+    atoms: &[Atom],
+    lists: &IndexSet<Vec<(u32, u32)>>,
+) -> Result<Groups<u32>, NoMemory>
+    requires { map (λ k. list_of k.items) lists.now.keys ≡ lists_of atoms.now }
+    ensures { IfOk result (λ g. (k : ℕ) (fs : List Far) → slice_get (lists_of atoms.now) k ≡ Some fs
+        → row_at g k ≡ spec.users names.now fs atoms.now) }
+{
+    let mut users = Groups::new(alloc);
     for atom in atoms {
-        if same_far(atom.list.as_slice(), list)
-            && let Some(operator) = names.table().ops.place(atom.op.number)
-        {
-            users.push(operator.phylum.number)?;
-        }
+        add_user(alloc, names, atom, lists, &mut users)?;
     }
     Ok(users)
 }
 
-/// The flags of the phyla that bear the far attribute of a list.
+/// The users of a list.
+pub fn users_at(users: &Groups<u32>, place: usize) -> &[u32]
+    ensures { result.now ≡ row_at users.now place }
+{
+    match users.rows.get(place) {
+        Some(row) => row.as_slice(),
+        None => &[],
+    }
+}
+
+/// The flags of the phyla that bear the far attribute of a list, from the phyla whose operators use it.
 pub fn borne(
     alloc: Global,
     names: &Names,
-    atoms: &[Atom],
+    users: &[u32],
     list: &[Far],
 ) -> Result<Vec<bool>, NoMemory>
-    ensures { IfOk result (λ v. v.items ≡ spec.borne names.now atoms.now list.now) }
+    ensures { IfOk result (λ v. v.items ≡ reached users.now (spec.edges true list.now names.now.ops)) }
 {
-    let users = users(alloc, names, atoms, list)?;
     let edges = edges(alloc, true, list, names.table().ops.as_slice())?;
-    reached(alloc, &users, &edges)
+    reached(alloc, users, &edges)
 }
 
 /// The flags of the phyla of which some node of a term of the root phylum has no enclosing node of a listed phylum.

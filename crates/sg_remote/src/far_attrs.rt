@@ -1,13 +1,17 @@
 //! Far attributes.
-ghost use Rattle.std.specs.Prelude.{◌≡◌, ◌++◌, ℕ, if◌then◌else◌, [], ◌∷◌, OnOk, IfOk};
+ghost use Rattle.std.specs.Prelude.{◌≡◌, ◌++◌, ℕ, if◌then◌else◌, [], ◌∷◌, map, OnOk, IfOk};
 ghost use Rattle.sg_kinds.specs.Far as fars;
 ghost use Rattle.sg_kinds.specs.Specification.{phylum_name};
 ghost use Rattle.sg_names.specs.Rows.{row_at, row_in};
+ghost use Rattle.sg_remote.specs.Keys.{list_of};
+ghost use Rattle.sg_remote.specs.Lists.{lists_of};
 ghost use Rattle.sg_remote.specs.Longer as spec;
 ghost use Rattle.sg_remote.specs.Reach.{flag as flag_at};
 
 use crate::atoms::Atom;
-use crate::edges::borne;
+use crate::edges::{borne, users, users_at};
+use crate::lists::listed;
+use indexmap::IndexSet;
 use sg_kinds::ids::PhylumId;
 use sg_kinds::marks::Way;
 use sg_kinds::memory::NoMemory;
@@ -17,6 +21,9 @@ use sg_kinds::text::Text;
 use sg_names::groups::Groups;
 use sg_names::names::Names;
 use std::alloc::Global;
+
+/// The most far attributes in all: with more, the relations of the test of order would take over a GiB.
+const MOST_FAR: usize = 1_048_576;
 
 fn phylum_name(names: &Names, phylum: PhylumId) -> &[u8]
     ensures { result.now ≡ phylum_name names.now.phyla phylum }
@@ -120,18 +127,26 @@ fn add_attrs(
     Ok(())
 }
 
-/// The far attributes of each phylum.
+/// The far attributes of each phylum. More than 1,048,576 in all are want of memory.
 pub fn far_attrs(
     alloc: Global,
     names: &Names,
     atoms: &[Atom],
-    lists: &[Row<Far>],
+    lists: &IndexSet<Vec<(u32, u32)>>,
 ) -> Result<Vec<Vec<Attr>>, NoMemory>
-    ensures { IfOk result (λ v. (p : ℕ) → row_in v.items p ≡ spec.more names.now atoms.now lists.now p) }
+    requires { map (λ k. list_of k.items) lists.now.keys ≡ lists_of atoms.now }
+    ensures { IfOk result (λ v. (p : ℕ) → row_in v.items p ≡ spec.more names.now atoms.now (lists_of atoms.now) p) }
 {
+    let users = users(alloc, names, atoms, lists)?;
+    let each = listed(alloc, lists.as_slice())?;
     let mut rows = Groups::new(alloc);
-    for list in lists {
-        let flags = borne(alloc, names, atoms, list.as_slice())?;
+    let mut count = 0usize;
+    for (place, list) in each.iter().enumerate() {
+        let flags = borne(alloc, names, users_at(&users, place), list.as_slice())?;
+        count = count.saturating_add(flags.iter().filter(|stands| **stands).count());
+        if count > MOST_FAR {
+            return Err(NoMemory);
+        }
         add_attrs(alloc, names, list, &flags, &mut rows)?;
     }
     Ok(rows.rows)

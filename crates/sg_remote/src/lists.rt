@@ -1,9 +1,11 @@
 //! The different lists of attributes of enclosing nodes.
-ghost use Rattle.std.specs.Prelude.{◌≡◌, IfOk, OnOk};
+ghost use Rattle.std.specs.Prelude.{◌≡◌, map, position, IfOk, OnOk};
 ghost use Rattle.sg_kinds.specs.Far as far;
+ghost use Rattle.sg_remote.specs.Keys.{key_of, list_of};
 ghost use Rattle.sg_remote.specs.Lists as spec;
 
 use crate::atoms::Atom;
+use indexmap::IndexSet;
 use sg_kinds::ids::PhylumId;
 use sg_kinds::memory::NoMemory;
 use sg_kinds::row::Row;
@@ -25,28 +27,75 @@ pub fn listed_slot(list: &[Far], phylum: PhylumId) -> Option<u32>
     Some(far.slot)
 }
 
-fn is_among(lists: &[Row<Far>], list: &[Far]) -> bool
-    ensures { result ≡ spec.is_among lists.now list.now }
+/// The numbers of phylum and slot of each attribute of a list.
+pub fn key_of(alloc: Global, list: &[Far]) -> Result<Vec<(u32, u32)>, NoMemory>
+    ensures { IfOk result (λ v. v.items ≡ key_of list.now) }
 {
-    lists.iter().any(|other| same_far(other.as_slice(), list))
+    let mut key = Vec::new(alloc);
+    for far in list {
+        key.push((far.phylum.number, far.slot))?;
+    }
+    Ok(key)
 }
 
-fn add_list(alloc: Global, lists: &mut Vec<Row<Far>>, list: &Row<Far>) -> Result<(), NoMemory>
-    ensures { OnOk result (lists.new.items ≡ spec.with_list lists.old.items list.now) }
+/// The list with these numbers.
+fn list_of(alloc: Global, key: &[(u32, u32)]) -> Result<Row<Far>, NoMemory>
+    ensures { IfOk result (λ l. l ≡ list_of key.now) }
 {
-    if !is_among(lists.as_slice(), list.as_slice()) {
-        lists.push(list.copy(alloc)?)?;
+    let mut list = Vec::new(alloc);
+    for &(phylum, slot) in key {
+        list.push(Far {
+            phylum: PhylumId { number: phylum },
+            slot,
+        })?;
     }
+    Ok(Row::new(list))
+}
+
+/// Puts a list behind the others, unless it is among them.
+fn add_list(
+    alloc: Global,
+    lists: &mut IndexSet<Vec<(u32, u32)>>,
+    list: &[Far],
+) -> Result<(), NoMemory>
+    ensures { OnOk result (map (λ k. list_of k.items) lists.new.keys
+        ≡ spec.with_list (map (λ k. list_of k.items) lists.old.keys) list.now) }
+{
+    lists.insert(key_of(alloc, list)?)?;
     Ok(())
 }
 
 /// The different lists of these references, in the order of their first use.
-pub fn lists(alloc: Global, atoms: &[Atom]) -> Result<Vec<Row<Far>>, NoMemory>
-    ensures { IfOk result (λ v. v.items ≡ spec.lists_of atoms.now) }
+pub fn lists(alloc: Global, atoms: &[Atom]) -> Result<IndexSet<Vec<(u32, u32)>>, NoMemory>
+    ensures { IfOk result (λ s. map (λ k. list_of k.items) s.keys ≡ spec.lists_of atoms.now) }
+{
+    let mut lists = IndexSet::new(alloc);
+    for atom in atoms {
+        add_list(alloc, &mut lists, atom.list.as_slice())?;
+    }
+    Ok(lists)
+}
+
+/// The place of a list among these.
+pub fn place_of(
+    alloc: Global,
+    lists: &IndexSet<Vec<(u32, u32)>>,
+    list: &[Far],
+) -> Result<Option<usize>, NoMemory>
+    ensures { IfOk result (λ n. n
+        ≡ position (λ fs. far.same_far fs list.now) (map (λ k. list_of k.items) lists.now.keys)) }
+{
+    let key = key_of(alloc, list)?;
+    Ok(lists.get_index_of(key.as_slice()))
+}
+
+/// The lists with these keys.
+pub fn listed(alloc: Global, keys: &[Vec<(u32, u32)>]) -> Result<Vec<Row<Far>>, NoMemory>
+    ensures { IfOk result (λ v. v.items ≡ map (λ k. list_of k.items) keys.now) }
 {
     let mut lists = Vec::new(alloc);
-    for atom in atoms {
-        add_list(alloc, &mut lists, &atom.list)?;
+    for key in keys {
+        lists.push(list_of(alloc, key.as_slice())?)?;
     }
     Ok(lists)
 }

@@ -12,7 +12,7 @@ use Rattle.sg_forest.specs.declared.node_id.NodeId.{NodeId}
 use Rattle.sg_groves.specs.Grove.{Grove}
 use Rattle.sg_groves.proofs.InstancesOnce.{instances_apart}
 use Rattle.sg_terms.specs.Entries.{Gained, GainedAll}
-use Rattle.sg_turns.specs.Noted.{Noted}
+use Rattle.sg_exchanges.specs.Noted.{Noted}
 use Rattle.sg_commands.proofs.Counting.{gained_most, gained_count}
 use Rattle.sg_report.specs.Lines.{equations}
 

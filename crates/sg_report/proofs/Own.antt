@@ -15,8 +15,8 @@ use Rattle.sg_pool.specs.Pools.{value_at}
 use Rattle.sg_forest.specs.declared.node_id.NodeId.{NodeId}
 use Rattle.sg_groves.specs.Grove.{Grove, IsGrove}
 use Rattle.sg_groves.specs.Stored.{number_at}
-use Rattle.sg_shown.specs.At.{IsAt}
-use Rattle.sg_shown.proofs.Right.{IsKept}
+use Rattle.sg_printing.specs.At.{IsAt}
+use Rattle.sg_printing.proofs.Right.{IsKept}
 use Rattle.sg_report.specs.Lines.{path_text, printed, line_at, of_these, lines_at}
 use Rattle.sg_report.specs.declared.attrs.Named.{Named}
 use Rattle.sg_report.proofs.Stored.{its_kept}

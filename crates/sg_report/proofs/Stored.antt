@@ -36,10 +36,10 @@ use Rattle.sg_plans.proofs.Bearers.{owed_site}
 use Rattle.sg_attrib.proofs.Nodes.{label_op, leaf_value_there}
 use Rattle.sg_build.proofs.Told.{number_there}
 use Rattle.sg_unparse.proofs.Placed as placed
-use Rattle.sg_shown.specs.At.{IsAt}
-use Rattle.sg_shown.specs.Shown.{attributes}
-use Rattle.sg_shown.proofs.Right.{IsKept, kept}
-use Rattle.sg_shown.proofs.Texts.{at_holds, at_live}
+use Rattle.sg_printing.specs.At.{IsAt}
+use Rattle.sg_printing.specs.Shown.{attributes}
+use Rattle.sg_printing.proofs.Right.{IsKept, kept}
+use Rattle.sg_printing.proofs.Texts.{at_holds, at_live}
 
 -- a leaf's phylum has one attribute
 one_value : (p : ℕ) (attrs : List Attr) → IsValue p attrs → length attrs ≡ 1

@@ -18,7 +18,7 @@ use Rattle.sg_forest.specs.Trees.{IsChild, IsLive}
 use Rattle.sg_groves.specs.Grove.{Grove, nodes, IsGrove}
 use Rattle.sg_plans.proofs.Nodes.{fitting_phylum}
 use Rattle.sg_build.proofs.Told.{kids_in, the_term, child_is, kid_told, left_more, none_left}
-use Rattle.sg_shown.specs.At.{IsAt}
+use Rattle.sg_printing.specs.At.{IsAt}
 use Rattle.sg_report.specs.Lines.{is_of, line_at, of_these, lines_at, last_line}
 use Rattle.sg_report.specs.declared.attrs.Named.{Named}
 

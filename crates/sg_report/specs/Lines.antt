@@ -10,7 +10,7 @@ use Rattle.sg_kinds.specs.Instances.{instances}
 use Rattle.sg_kinds.specs.FromScratch.{value_in}
 use Rattle.sg_kinds.specs.Specification.{rules_of}
 use Rattle.sg_kinds.specs.declared.spec.Spec.{Spec}
-use Rattle.sg_unparse.specs.Shown.{fault_text}
+use Rattle.sg_unparse.specs.Printing.{fault_text}
 use Rattle.sg_saved.specs.Spelling.{spelled}
 use Rattle.sg_report.specs.declared.answers.Report.{Report}
 use Rattle.sg_report.specs.declared.attrs.Named.{Named}

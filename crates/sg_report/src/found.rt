@@ -10,6 +10,7 @@ ghost use Rattle.sg_report.specs.Found.{Opens, AreOpens, is_saved, from_saved, t
 
 use crate::answers::{ReportFault, of_entry, of_opening};
 use sg_eval::Evaluator;
+use sg_exchanges::within;
 use sg_input::{enter, entry_of};
 use sg_kinds::limits::FILE_BYTES;
 use sg_kinds::spec::Spec;
@@ -17,7 +18,6 @@ use sg_kinds::term::Term;
 use sg_kinds::value::Value;
 use sg_load::Loaded;
 use sg_saved::read;
-use sg_turns::within;
 use std::alloc::Global;
 
 // whether it begins as a saved file

@@ -11,7 +11,7 @@ ghost use Rattle.sg_forest.specs.Trees.{IsLive};
 ghost use Rattle.sg_groves.specs.Grove.{nodes};
 ghost use Rattle.sg_groves.specs.Holds.{Holds};
 ghost use Rattle.sg_pool.specs.Pools.{value_at};
-ghost use Rattle.sg_shown.specs.At.{IsAt};
+ghost use Rattle.sg_printing.specs.At.{IsAt};
 ghost use Rattle.sg_report.specs.Lines.{path_text, printed, of_these, lines_at, equations, report_on};
 
 use crate::answers::Report;

@@ -16,10 +16,10 @@ use crate::attrs::{Named, attr_in};
 use crate::found::term_of;
 use crate::lines::report_on;
 use sg_eval::{Evaluator, Journal};
+use sg_exchanges::begin;
 use sg_kinds::memory::NoMemory;
 use sg_kinds::term::Term;
 use sg_load::Loaded;
-use sg_turns::begin;
 use std::alloc::Global;
 
 // the report on a term that fits the root phylum and is in the limits, after its equations are evaluated

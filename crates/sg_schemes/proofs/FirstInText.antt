@@ -22,7 +22,7 @@ use Rattle.sg_names.specs.Lookups.{phylum_named, operator_named}
 use Rattle.sg_remote.specs.Longer.{names_of}
 use Rattle.sg_schemes.specs.NoScheme.{IsNoScheme, all_have, first_lacks}
 use Rattle.sg_schemes.specs.Places.{places_fault, is_fitting, is_list_pair, phylum_faults, operator_faults, kids_fault, scheme_kids}
-use Rattle.sg_schemes.specs.Shown.{fault_at}
+use Rattle.sg_schemes.specs.ShownFlags.{fault_at}
 use Rattle.sg_schemes.specs.Strings.{string_fault, scheme_text}
 use Rattle.sg_schemes.specs.Spots.{each_scheme, scheme_places, strings_at, fault_place, IsFirst, IsFirstWithout}
 use Rattle.sg_schemes.proofs.Order.{operators_ordered, schemes_ordered, strings_ordered}

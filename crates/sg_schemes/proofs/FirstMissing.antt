@@ -15,7 +15,7 @@ use Rattle.sg_ast.specs.Declarations.{Decl, Schemes}
 use Rattle.sg_names.specs.Drafted.{drafted}
 use Rattle.sg_names.specs.Lookups.{operator_at}
 use Rattle.sg_names.specs.declared.table.Table.{Table}
-use Rattle.sg_schemes.specs.Shown.{flag, past, past_all, width, shown, give_to, give, give_all, given, fault_at, is_missing, missing_from, no_scheme}
+use Rattle.sg_schemes.specs.ShownFlags.{flag, past, past_all, width, shown, give_to, give, give_all, given, fault_at, is_missing, missing_from, no_scheme}
 use Rattle.sg_schemes.specs.NoScheme.{gives, LacksScheme, IsNoScheme, all_have, first_lacks}
 use Rattle.sg_schemes.proofs.Least.{only_shown, all_shown, length_set, length_false}
 

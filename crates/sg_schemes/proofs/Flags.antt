@@ -7,7 +7,7 @@ use Rattle.sg_kinds.specs.declared.spec.Operator.{Operator}
 use Rattle.sg_kinds.specs.declared.fault.SpecFault.{SpecFault}
 use Rattle.sg_kinds.proofs.Kids.{drop_more}
 use Rattle.sg_names.specs.declared.table.Table.{Table}
-use Rattle.sg_schemes.specs.Shown.{pass, passes, is_missing, fault_at, missing_from}
+use Rattle.sg_schemes.specs.ShownFlags.{pass, passes, is_missing, fault_at, missing_from}
 use mathlib.Core.Bool.{beq}
 
 -- past the end there is no flag

@@ -6,7 +6,7 @@ use Rattle.sg_kinds.specs.Specification.{args_of}
 use Rattle.sg_kinds.specs.declared.spec.Operator.{Operator}
 use Rattle.sg_kinds.specs.declared.spec.Spec.{Spec}
 use Rattle.sg_kinds.specs.Sound.{IsShown, root, argument}
-use Rattle.sg_schemes.specs.Shown.{flag, show_all, show_below, pass, passes, shown_among}
+use Rattle.sg_schemes.specs.ShownFlags.{flag, show_all, show_below, pass, passes, shown_among}
 use Rattle.sg_schemes.proofs.Flags.{settled}
 
 -- how many flags are up

@@ -1,5 +1,5 @@
 pub mod Strings
 pub mod Places
-pub mod Shown
+pub mod ShownFlags
 pub mod NoScheme
 pub mod Spots

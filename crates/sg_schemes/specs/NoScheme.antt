@@ -9,7 +9,7 @@ use Rattle.sg_ast.specs.Declarations.{Decl, Schemes}
 use Rattle.sg_names.specs.Drafted.{drafted}
 use Rattle.sg_names.specs.Lookups.{operator_at}
 use Rattle.sg_names.specs.declared.table.Table.{Table}
-use Rattle.sg_schemes.specs.Shown.{fault_at}
+use Rattle.sg_schemes.specs.ShownFlags.{fault_at}
 
 -- whether a declaration gives an operator schemes in the ordinary view
 abbrev pub gives : Table → ℕ → Decl → Bool

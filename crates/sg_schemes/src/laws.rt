@@ -12,7 +12,7 @@ ghost use Rattle.sg_names.specs.declared.table.Table.{Table};
 ghost use Rattle.sg_remote.specs.Longer.{names_of};
 ghost use Rattle.sg_schemes.specs.NoScheme.{IsNoScheme};
 ghost use Rattle.sg_schemes.specs.Places.{kids_fault, scheme_kids};
-ghost use Rattle.sg_schemes.specs.Shown.{flag, shown, no_scheme};
+ghost use Rattle.sg_schemes.specs.ShownFlags.{flag, shown, no_scheme};
 ghost use Rattle.sg_schemes.specs.Spots.{each_scheme, scheme_places, strings_at, fault_place, IsFirst, IsFirstWithout};
 ghost use Rattle.sg_schemes.specs.Strings.{string_fault, scheme_text};
 

@@ -2,7 +2,7 @@
 ghost use Rattle.std.specs.Prelude.{◌≡◌, ◌≤◌, ◌^◌, ◌↔◌, IsTrue, false, true, slice_set, slice_get, option_map, IfOk};
 ghost use Rattle.sg_ast.specs.View.{tree_of, trees_of};
 ghost use Rattle.sg_schemes.specs.NoScheme.{IsNoScheme};
-ghost use Rattle.sg_schemes.specs.Shown as spec;
+ghost use Rattle.sg_schemes.specs.ShownFlags as spec;
 
 use sg_ast::decl::Decl;
 use sg_kinds::fault::{Position, SpecFault};

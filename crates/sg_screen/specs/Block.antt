@@ -3,7 +3,7 @@ use Rattle.std.specs.Prelude.{ℕ, ◌-◌, nat_eq, if◌then◌else◌, ◌++�
 use Rattle.std.specs.Fmt.{decimal}
 use Rattle.sg_kinds.specs.Values.{Bytes}
 use Rattle.sg_unparse.specs.Page.{Position, Region}
-use Rattle.sg_unparse.specs.Sheet.{told}
+use Rattle.sg_unparse.specs.Sheet.{as_region}
 use Rattle.sg_script.specs.declared.message.Message.{Message}
 use Rattle.sg_screen.specs.declared.blocks.Head.{Head as Given}
 use Rattle.sg_script.specs.Message.{message_text}
@@ -26,7 +26,7 @@ abbrev pub head_of : Given → Head
 head_of h = record {
   name = h.name.now;
   view = option_map (λ v. v.now) h.view;
-  region = told h.region;
+  region = as_region h.region;
   phylum = h.phylum.now;
   count = h.count;
   top = h.top;

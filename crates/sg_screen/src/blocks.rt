@@ -1,7 +1,7 @@
 // Blocks.
 ghost use Rattle.std.specs.Prelude.{◌≡◌, ◌++◌, ◌-◌, take, IfOk, OnOk};
 ghost use Rattle.sg_unparse.specs.Page.{lines_of};
-ghost use Rattle.sg_unparse.specs.Sheet.{told};
+ghost use Rattle.sg_unparse.specs.Sheet.{as_region};
 ghost use Rattle.sg_screen.specs.Block.{head_of, position_text, region_text, phylum_text, name_text, selected_text, counts_text, ending, header, shown_line, shown_lines, block, bare};
 
 use sg_kinds::decimal::write_number;
@@ -36,7 +36,7 @@ fn write_position(alloc: Global, out: &mut Vec<u8>, line: usize, col: usize) -> 
 
 // writes a region
 fn write_region(alloc: Global, out: &mut Vec<u8>, region: Region) -> Result<(), NoMemory>
-    ensures { OnOk result (out.new.items ≡ out.old.items ++ region_text (told region)) }
+    ensures { OnOk result (out.new.items ≡ out.old.items ++ region_text (as_region region)) }
 {
     write_position(alloc, out, region.line, region.col)?;
     out.push(b'-')?;

@@ -1,15 +1,11 @@
 -- What stands behind a place in a list of places, and what is found there.
-use Rattle.std.specs.Prelude.{◌≡◌, refl, ℕ, ◌+◌, Bool, true, false, cond, ◌||◌, bytes_eq, List, [], ◌∷◌, ◌++◌, filter, Contains, Some, None, slice_get, is_some}
+use Rattle.std.specs.Prelude.{◌≡◌, refl, ℕ, ◌+◌, Bool, true, false, cond, ◌||◌, bytes_eq, List, [], ◌∷◌, ◌++◌, filter, Some, is_some}
 use Rattle.std.specs.List.{find, list_any, position_from}
-use Rattle.std.proofs.Common.{sym, ap, ◌∙◌, subst}
+use Rattle.std.proofs.Common.{sym, ap, ◌∙◌}
 use Rattle.std.proofs.lemmas.Bool.{false≢true}
-use Rattle.std.proofs.lemmas.List.Elements.{Contains-append_right}
-use Rattle.std.proofs.lemmas.Option.{none-some, same_Some}
 use Rattle.sg_kinds.specs.Places.{Place}
 use Rattle.sg_kinds.proofs.Elementary.{bytes_is}
-use Rattle.sg_groves.proofs.Lists.{AreApart, contains_first}
 use Rattle.sg_select.specs.RestingPlaces.{behind}
-use Rattle.sg_select.proofs.Neighbours.{behind_at}
 
 -- a list is what stands in front and what stands behind
 pub record IsBehind (u : Place) (xs : List Place) : Type 0 where
@@ -23,30 +19,6 @@ behind_splits u (x ∷ xs) = let p = by (bytes_eq x u) (behind_splits u xs) in r
     by : (b : Bool) → IsBehind u xs → (front : List Place) × (x ∷ xs ≡ front ++ cond b xs (behind u xs))
     by true rest = (x ∷ [], refl)
     by false rest = (x ∷ rest.front, ap (λ l. x ∷ l) rest.is)
-
-first_is : (us : List Place) (v : Place) → slice_get us 0 ≡ Some v → (rest : List Place) × (us ≡ v ∷ rest)
-first_is [] v at = absurd (none-some v at)
-first_is (u ∷ us) v at = (us, ap (λ w. w ∷ us) (same_Some u v at))
-
-pub none_first : (us : List Place) → slice_get us 0 ≡ None → us ≡ []
-none_first [] none = refl
-none_first (u ∷ us) none = absurd (none-some u (sym none))
-
--- the next one of a list that has none twice
-pub record IsNext (u v : Place) (xs : List Place) : Type 0 where
-  pub is : behind u xs ≡ v ∷ behind v xs
-  pub there : Contains xs v
-
-pub next_behind : (xs : List Place) (u v : Place) → AreApart xs → slice_get (behind u xs) 0 ≡ Some v → IsNext u v xs
-next_behind xs u v apart at =
-    let split = behind_splits u xs in
-    let first = first_is (behind u xs) v at in
-    let whole : xs ≡ split.front ++ v ∷ first.0 = split.is ∙ ap (λ l. split.front ++ l) first.1 in
-    let rest : behind v xs ≡ first.0 = ap (behind v) whole ∙ behind_at split.front v first.0 (subst AreApart whole apart) in
-    record {
-      is = first.1 ∙ ap (λ l. v ∷ l) (sym rest);
-      there = subst (λ l. Contains l v) (sym whole) (Contains-append_right split.front (v ∷ first.0) v (contains_first v first.0));
-    }
 
 -- behind a place that passes a test
 pub behind_filter : (test : Place → Bool) (u : Place) → test u ≡ true → (xs : List Place) → behind u (filter test xs) ≡ filter test (behind u xs)

@@ -12,7 +12,7 @@ use Rattle.sg_groves.specs.Grove.{Grove, nodes, IsGrove}
 use Rattle.sg_groves.specs.Holds.{Holds}
 use Rattle.sg_groves.proofs.Held.{part_held}
 use Rattle.sg_terms.specs.Found.{op_at}
-use Rattle.sg_terms.specs.Told.{elided_of, scheme_of}
+use Rattle.sg_terms.specs.Labels.{elided_of, scheme_of}
 use Rattle.sg_build.proofs.Told.{kids_in, leaf_term, opened, the_term, told_only}
 use Rattle.sg_select.specs.Around.{kids}
 use Rattle.sg_select.proofs.Around.{child_is}

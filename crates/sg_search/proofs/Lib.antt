@@ -8,3 +8,4 @@ pub mod Gathers
 pub mod Rows
 pub mod Children
 pub mod Counting
+pub mod Headed

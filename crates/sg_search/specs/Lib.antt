@@ -4,3 +4,4 @@ pub mod ReplacedAll
 pub mod Walked
 pub mod Made
 pub mod Why
+pub mod Heads

@@ -27,8 +27,8 @@ pub fn is_known(spec: &Spec, name: &[u8]) -> bool
     spec.transforms.as_slice().iter().any(|x| has_name(x, name))
 }
 
-// whether a transformation has the name
-fn has_name(x: &Transform, name: &[u8]) -> bool
+/// Whether a transformation has a name.
+pub fn has_name(x: &Transform, name: &[u8]) -> bool
     ensures { result ≡ bytes_eq x.now.name name.now }
 {
     x.name.as_slice() == name

@@ -16,17 +16,17 @@ use Rattle.sg_groves.specs.declared.part.Part.{Part}
 use Rattle.sg_groves.specs.Grove.{Grove, nodes, IsGrove}
 use Rattle.sg_groves.specs.Holds.{Holds}
 use Rattle.sg_terms.specs.Found.{op_at}
-use Rattle.sg_terms.specs.Told as told
+use Rattle.sg_terms.specs.Labels as labels
 use Rattle.sg_build.proofs.Told.{leaf_told, opened, told_only}
 use Rattle.sg_select.specs.Around.{kids}
 use Rattle.sg_select.specs.Paths.{elements, is_list_node, spine_from}
 
 module _ (spec : Spec) where
-  pub list_is : (t : Term) (op : ℕ) → told.op_of t ≡ Some op → is_pair spec op ≡ is_list_node spec t
+  pub list_is : (t : Term) (op : ℕ) → labels.op_of t ≡ Some op → is_pair spec op ≡ is_list_node spec t
   list_is (Leaf p v) op at = absurd (none-some op at)
   list_is (Node o n elided ts) op at = ap (is_pair spec) (sym (same_Some o op at))
 
-  pub list_not : (t : Term) → told.op_of t ≡ None → false ≡ is_list_node spec t
+  pub list_not : (t : Term) → labels.op_of t ≡ None → false ≡ is_list_node spec t
   list_not (Leaf p v) at = refl
   list_not (Node o n elided ts) at = absurd (none-some o (sym at))
 
@@ -70,11 +70,11 @@ list_wide g is n t h list x found = by (op_at g n) refl
   where
     by : (o : Option ℕ) → op_at g n ≡ o → 1 < x.label.arity
     by None at =
-        let seen : told.op_of t ≡ None = ap told.op_of (told_only g is n t h) ∙ leaf_told g is n (record { node = x; found = found }) at in
+        let seen : labels.op_of t ≡ None = ap labels.op_of (told_only g is n t h) ∙ leaf_told g is n (record { node = x; found = found }) at in
         absurd (false≢true (list_not g.spec t seen ∙ list))
     by (Some op) at =
         let over = opened g is n op at in
         let arity = over.arity x found in
-        let seen : told.op_of t ≡ Some op = ap told.op_of (told_only g is n t h ∙ over.node) in
+        let seen : labels.op_of t ≡ Some op = ap labels.op_of (told_only g is n t h ∙ over.node) in
         let two = pair_long g.spec op (list_is g.spec t op seen ∙ list) in
         omega (arith, arity, two)

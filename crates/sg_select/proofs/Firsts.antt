@@ -6,7 +6,7 @@ use Rattle.std.proofs.lemmas.Option.{none-some, same_Some}
 use Rattle.sg_kinds.specs.Terms.{Term, Terms, Leaf, Node, NoTerm, AndTerm, terms_of}
 use Rattle.sg_kinds.specs.Places.{Place, child, sub}
 use Rattle.sg_kinds.specs.declared.spec.Spec.{Spec}
-use Rattle.sg_terms.specs.Told.{elided_of}
+use Rattle.sg_terms.specs.Labels.{elided_of}
 use Rattle.sg_select.specs.RestingPlaces.{above, child_place, is_open, is_shown, rests, rests_under, up_from}
 use Rattle.sg_select.specs.Around.{when, kids, inside, among, part, parts}
 use Rattle.sg_select.proofs.Within.{rests_child}

@@ -15,8 +15,8 @@ use Rattle.sg_groves.specs.declared.part.Part.{Part}
 use Rattle.sg_groves.specs.Grove.{Grove, nodes, IsGrove, IsLeaf, IsOperation}
 use Rattle.sg_groves.specs.Holds.{Holds}
 use Rattle.sg_terms.specs.Found.{op_at}
-use Rattle.sg_terms.specs.Told as told
-use Rattle.sg_unparse.specs.Shown.{current_scheme}
+use Rattle.sg_terms.specs.Labels as labels
+use Rattle.sg_unparse.specs.Printing.{current_scheme}
 use Rattle.sg_unparse.specs.Unparsed.{child_places}
 use Rattle.sg_build.proofs.Told.{leaf_term, the_term, told_only}
 use Rattle.sg_select.specs.Around.{kids}
@@ -49,31 +49,31 @@ module _ (spec : Spec) (t : Term) where
       by (Leaf p v) is = absurd (none-some s is)
       by (Node op n elided ts) is = ap (λ o. unwrap_or (option_map (λ (z : Scheme). z.rests) o) false) (sym is)
 
-  pub begins_none : (o : Option ℕ) → current_scheme spec t ≡ None → o ≡ told.op_of t → not (is_some o) ≡ begins_resting spec t
+  pub begins_none : (o : Option ℕ) → current_scheme spec t ≡ None → o ≡ labels.op_of t → not (is_some o) ≡ begins_resting spec t
   begins_none o is seen = by t is seen
     where
-      by : (x : Term) → current_scheme spec x ≡ None → o ≡ told.op_of x → not (is_some o) ≡ begins_resting spec x
+      by : (x : Term) → current_scheme spec x ≡ None → o ≡ labels.op_of x → not (is_some o) ≡ begins_resting spec x
       by (Leaf p v) is seen = ap (λ z. not (is_some z)) seen
       by (Node op n elided ts) is seen = ap (λ z. not (is_some z)) seen ∙ ap (λ o. unwrap_or (option_map (λ (z : Scheme). z.rests) o) false) (sym is)
 
-  pub rest_is : (op k : ℕ) → told.op_of t ≡ Some op → nat_eq k 1 ≡ true → is_pair spec op ≡ is_rest spec t k
+  pub rest_is : (op k : ℕ) → labels.op_of t ≡ Some op → nat_eq k 1 ≡ true → is_pair spec op ≡ is_rest spec t k
   rest_is op k seen one = by t seen
     where
-      by : (x : Term) → told.op_of x ≡ Some op → is_pair spec op ≡ is_rest spec x k
+      by : (x : Term) → labels.op_of x ≡ Some op → is_pair spec op ≡ is_rest spec x k
       by (Leaf p v) seen = absurd (none-some op seen)
       by (Node o n elided ts) seen = ap (is_pair spec) (sym (same_Some o op seen)) ∙ ap (λ b. b && is_pair spec o) (sym one)
 
-  pub rest_not : (op k : ℕ) → told.op_of t ≡ Some op → nat_eq k 1 ≡ false → false ≡ is_rest spec t k
+  pub rest_not : (op k : ℕ) → labels.op_of t ≡ Some op → nat_eq k 1 ≡ false → false ≡ is_rest spec t k
   rest_not op k seen other = by t seen
     where
-      by : (x : Term) → told.op_of x ≡ Some op → false ≡ is_rest spec x k
+      by : (x : Term) → labels.op_of x ≡ Some op → false ≡ is_rest spec x k
       by (Leaf p v) seen = refl
       by (Node o n elided ts) seen = ap (λ b. b && is_pair spec o) (sym other)
 
-  pub rest_none : (k : ℕ) → told.op_of t ≡ None → false ≡ is_rest spec t k
+  pub rest_none : (k : ℕ) → labels.op_of t ≡ None → false ≡ is_rest spec t k
   rest_none k seen = by t seen
     where
-      by : (x : Term) → told.op_of x ≡ None → false ≡ is_rest spec x k
+      by : (x : Term) → labels.op_of x ≡ None → false ≡ is_rest spec x k
       by (Leaf p v) seen = refl
       by (Node o n elided ts) seen = absurd (none-some o (sym seen))
 

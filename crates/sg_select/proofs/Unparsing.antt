@@ -11,7 +11,7 @@ use Rattle.sg_kinds.specs.declared.spec.Spec.{Spec}
 use Rattle.sg_kinds.specs.declared.marks.ChildPlace.{ChildPlace}
 use Rattle.sg_kinds.specs.declared.marks.ChildPlace.TheVariants.{Resting, Passed, Hidden}
 use Rattle.sg_groves.proofs.Lists.{contains_first, contains_later}
-use Rattle.sg_terms.specs.Told.{elided_of}
+use Rattle.sg_terms.specs.Labels.{elided_of}
 use Rattle.sg_unparse.specs.Cells.{items_of}
 use Rattle.sg_unparse.specs.Unparsed.{below_scheme, child_places, places_under, shown_below, shows_scheme, unparsed_places}
 use Rattle.sg_select.specs.RestingPlaces.{above, child_place, is_open, is_shown}

@@ -10,8 +10,8 @@ use Rattle.sg_kinds.specs.declared.spec.Scheme.{Scheme}
 use Rattle.sg_kinds.specs.declared.marks.ChildPlace.{ChildPlace}
 use Rattle.sg_kinds.specs.declared.marks.ChildPlace.TheVariants.{Resting, Hidden}
 use Rattle.sg_groves.specs.Evaluated.{is_at_or_below}
-use Rattle.sg_terms.specs.Told.{elided_of}
-use Rattle.sg_unparse.specs.Shown.{scheme_of}
+use Rattle.sg_terms.specs.Labels.{elided_of}
+use Rattle.sg_unparse.specs.Printing.{scheme_of}
 use Rattle.sg_unparse.specs.Cells.{items_of}
 use Rattle.sg_unparse.specs.Unparsed.{child_places}
 

@@ -1,5 +1,5 @@
 // What the schemes of a node and of its parent say of it.
-ghost use Rattle.std.specs.Prelude.{◌≡◌, ◌<◌, length, slice_get, unwrap_or, Some};
+ghost use Rattle.std.specs.Prelude.{◌≡◌, ◌<◌, ℕ, length, slice_get, unwrap_or, Some};
 ghost use Rattle.sg_kinds.specs.Sound.{is_pair};
 ghost use Rattle.sg_kinds.specs.Terms.{Term};
 ghost use Rattle.sg_forest.specs.Trees.{IsLive};
@@ -16,8 +16,8 @@ use sg_kinds::spec::{Item, Spec};
 use sg_terms::Terms;
 use sg_unparse::current;
 
-// the place of child `k` among the items of a scheme; `..` where there is none
-fn place_in(items: &[Item], k: usize) -> ChildPlace
+/// The place of child `k` among the items of a scheme, counted from 0; `..` where there is none.
+pub fn place_in(items: &[Item], k: usize) -> ChildPlace
     ensures { result ≡ unwrap_or (slice_get (child_places items.now) k) ChildPlace.Hidden }
 {
     let mut left = k;
@@ -32,16 +32,25 @@ fn place_in(items: &[Item], k: usize) -> ChildPlace
     ChildPlace::Hidden
 }
 
+/// The items of the current scheme of a node; none where it has no scheme.
+pub fn items_of(terms: &Terms, n: NodeId) -> &[Item]
+    requires { IsLive (nodes terms.now) n }
+    ensures { (t : Term) → Holds terms.now n t → (k : ℕ)
+        → unwrap_or (slice_get (child_places result.now) k) ChildPlace.Hidden ≡ place_of_child (spec_shown terms.now) t k }
+{
+    terms.facts();
+    match current(terms, n) {
+        Some(scheme) => scheme.items.as_slice(),
+        None => &[],
+    }
+}
+
 /// The place of a child in the current scheme of a node; `..` where it has none there.
 pub fn child_place(terms: &Terms, n: NodeId, k: usize) -> ChildPlace
     requires { IsLive (nodes terms.now) n }
     ensures { (t : Term) → Holds terms.now n t → result ≡ place_of_child (spec_shown terms.now) t k }
 {
-    terms.facts();
-    match current(terms, n) {
-        Some(scheme) => place_in(scheme.items.as_slice(), k),
-        None => ChildPlace::Hidden,
-    }
+    place_in(items_of(terms, n), k)
 }
 
 /// Whether a node shows a child that has this place in its current scheme: the place is not `..`.

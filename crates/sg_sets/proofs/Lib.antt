@@ -8,6 +8,7 @@ pub mod LengthenLemmas
 pub mod MembersLemmas
 pub mod OptionLemmas
 pub mod PathsLemmas
+pub mod RestLemmas
 pub mod RowsLemmas
 pub mod WaysLemmas
 pub mod WordsLemmas

@@ -141,10 +141,3 @@ SharedBit-bits_of width x y a p q s = (sym (has-packed width x a p) ∙ s.0, sym
 -- words that are packed for one width are as many
 pub length-packed : (width : ℕ) (x y : List ℕ) → IsPacked width x → IsPacked width y → length x ≡ length y
 length-packed width x y p q = let a = p.room in let b = p.tight in let c = q.room in let d = q.tight in omega (arith, a, b, c, d)
-
--- no number of a word of zeros is in the set
-pub has-zero-word : (width : ℕ) (words : List ℕ) (k a : ℕ) → IsPacked width words → get_or words k 0 ≡ 0 → a / 64 ≡ k → has (bits_of width words) a ≡ false
-has-zero-word width words k a p zero at =
-    has-packed width words a p
-    ∙ ap (λ w. nat_eq (bit_at w (a % 64)) 1) (ap (λ j. get_or words j 0) at ∙ zero)
-    ∙ ap (λ n. nat_eq n 1) (bit_at-zero (a % 64))

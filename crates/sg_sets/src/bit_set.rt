@@ -104,15 +104,14 @@ impl BitSet {
         ensures least { IfSome result (IsNext self.now from) }
         ensures low { IfSome result (λ m. m < usize.MAX) }
     {
+        let words = self.words.as_slice();
         let mut at = from;
         while at < self.width {
-            if at % 64 == 0 && self.words[at / 64] == 0 {
-                at = at.saturating_add(64);
-            } else if self.contains(at) {
-                return Some(at);
-            } else {
-                at += 1;
+            let rest = words[at / 64] >> (at % 64);
+            if rest != 0 {
+                return Some(at + rest.trailing_zeros() as usize);
             }
+            at = at.saturating_add(64 - at % 64);
         }
         None
     }

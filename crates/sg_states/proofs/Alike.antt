@@ -19,7 +19,7 @@ use Rattle.sg_kinds.specs.declared.marks.ChildPlace.{ChildPlace}
 use Rattle.sg_kinds.specs.declared.marks.ChildPlace.TheVariants.{Resting, Passed, Hidden}
 use Rattle.sg_kinds.proofs.Elementary.{slice_get-All}
 use Rattle.sg_unparse.specs.Cells.{Mark, Closed, Writing, nothing, in_turn, plain, pieces, cells_in, ended, placed, goes_on, items_of, shows, items, content, reference, unparsed, unparsed_among, marks_of}
-use Rattle.sg_unparse.specs.Shown.{value_text}
+use Rattle.sg_unparse.specs.Printing.{value_text}
 
 abbrev pub Same : Writing → Writing → Type 0
 Same f g = (m : ℕ) → f m ≡ g m

@@ -33,7 +33,7 @@ use Rattle.sg_unparse.proofs.Told.{page_told, line_told}
 use Rattle.sg_states.specs.Beginnings.{Begins, BeginsAlone, Foretells, WillForetell, foretold, marks_alone}
 use Rattle.sg_states.specs.Paged.{IsForetold, IsWhole, page_seen}
 use Rattle.sg_states.specs.Seen.{first_line, marks_seen, nothing_typed}
-use Rattle.sg_states.specs.declared.begins.Before.{Before}
+use Rattle.sg_states.specs.declared.forecast.Before.{Before}
 use Rattle.sg_states.proofs.Looking.{all_tell, placed_at}
 use Rattle.sg_states.proofs.Righted.{stored_alone}
 use Rattle.sg_states.proofs.Sheeted.{marks_of_term, marks_there}

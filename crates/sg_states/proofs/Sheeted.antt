@@ -11,7 +11,7 @@ use Rattle.sg_kinds.specs.Nets.{Reference}
 use Rattle.sg_kinds.specs.declared.spec.Spec.{Spec}
 use Rattle.sg_forest.specs.declared.node_id.NodeId.{NodeId}
 use Rattle.sg_unparse.specs.Cells.{Mark, Writes, Closed, Writing, plain, cells_in, ended, goes_on, items_of, items, content, unparsed, unparsed_among}
-use Rattle.sg_unparse.specs.Shown.{value_text}
+use Rattle.sg_unparse.specs.Printing.{value_text}
 use Rattle.sg_unparse.specs.Page.{Cell, Position, Region, Span as SpanOf, all_cells, cells_of, is_newline, bytes_of, region_in, region_of, spans_behind, stands_at, owner_at}
 use Rattle.sg_unparse.specs.Sheet.{region_on, is_of}
 use Rattle.sg_unparse.specs.Written.{by_node, on_page, sheet_of}

@@ -10,7 +10,7 @@ use Rattle.sg_unparse.specs.Begins.{AreAlikeOutside, begins_in}
 use Rattle.sg_unparse.specs.Cells.{Mark, unparsed}
 use Rattle.sg_unparse.specs.declared.page.Beginning.{Beginning}
 use Rattle.sg_states.specs.Seen.{nothing_typed, marks_seen}
-use Rattle.sg_states.specs.declared.begins.Before.{Before}
+use Rattle.sg_states.specs.declared.forecast.Before.{Before}
 
 -- a place begins behind so many newlines, and behind at most so many cells
 pub record Begins (spec : Spec) (v : ℕ) (t : Term) (u : Place) (b : Beginning) : Type 0 where

@@ -17,7 +17,7 @@ use Rattle.sg_unparse.specs.Written.{sheet_of}
 use Rattle.sg_states.specs.Selections.{place_in}
 use Rattle.sg_states.specs.Seen.{nothing_typed, marks_seen, first_line}
 use Rattle.sg_states.specs.Beginnings.{Begins, Foretells}
-use Rattle.sg_states.specs.declared.begins.Before.{Before}
+use Rattle.sg_states.specs.declared.forecast.Before.{Before}
 use Rattle.sg_states.specs.declared.looks.Found.{Found}
 use Rattle.sg_states.specs.declared.looks.Look.{Look}
 

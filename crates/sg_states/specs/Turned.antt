@@ -3,7 +3,7 @@ use Rattle.std.specs.Prelude.{ℕ, ◌+◌, ◌%◌, Bool, not, nat_lt, if◌the
 use Rattle.sg_kinds.specs.Terms.{Term, Leaf, Node}
 use Rattle.sg_kinds.specs.declared.spec.Spec.{Spec}
 use Rattle.sg_changes.specs.declared.step.Marks.{Marks}
-use Rattle.sg_unparse.specs.Shown.{count_of}
+use Rattle.sg_unparse.specs.Printing.{count_of}
 use Rattle.sg_states.specs.declared.marks.Mark.{Mark}
 use Rattle.sg_states.specs.declared.marks.Mark.TheVariants.{Alternate, Elide}
 

@@ -15,7 +15,7 @@ ghost use Rattle.sg_states.specs.Seen.{first_line as line_of, nothing_typed, set
 ghost use Rattle.sg_states.specs.States.{target as target_from};
 ghost use Rattle.sg_states.specs.Paged.{IsForetold, IsFound, IsLook, IsWhole, page_seen};
 
-use crate::begins::{Before, begins_after, begins_here};
+use crate::forecast::{Before, begins_after, begins_here};
 use crate::marks::Move;
 use sg_changes::{Selection, Spot, topped};
 use sg_forest::NodeId;

@@ -17,7 +17,7 @@ use Rattle.sg_groves.specs.declared.part.Part.{Part}
 use Rattle.sg_groves.specs.Grove.{Grove, nodes, IsLeaf, IsOperation, IsGrove}
 use Rattle.sg_groves.specs.Stored.{kept, number_at}
 use Rattle.sg_groves.specs.Holds.{term_over, term_of, terms_under, Holds}
-use Rattle.sg_terms.specs.Told.{op_of, scheme_of, elided_of}
+use Rattle.sg_terms.specs.Labels.{op_of, scheme_of, elided_of}
 use Rattle.sg_terms.specs.Kept.{AllHold}
 
 -- the term that a node holds is one over what it is and keeps

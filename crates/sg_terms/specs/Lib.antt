@@ -1,5 +1,5 @@
 pub mod Found
-pub mod Told
+pub mod Labels
 pub mod Occurrences
 pub mod Storable
 pub mod Kept

@@ -19,7 +19,7 @@ ghost use Rattle.sg_groves.specs.Grove.{nodes, IsGrove};
 ghost use Rattle.sg_groves.specs.Stored.{number_at};
 ghost use Rattle.sg_groves.specs.Holds.{Holds};
 ghost use Rattle.sg_groves.specs.Unchanged.{OnlyStored};
-ghost use Rattle.sg_terms.specs.Told.{op_of, scheme_of, elided_of, with_scheme, with_elided};
+ghost use Rattle.sg_terms.specs.Labels.{op_of, scheme_of, elided_of, with_scheme, with_elided};
 ghost use Rattle.sg_terms.specs.Found.{op_at};
 ghost use Rattle.sg_terms.specs.Storable.{IsStorable, IsSlot, IsNoSlot};
 ghost use Rattle.sg_terms.specs.Occurrences.{value_for, IsBearer, NotedAtMost};

@@ -4,7 +4,7 @@
 pub mod bindings;
 pub mod expr;
 pub mod found;
-mod operators;
+pub mod operators;
 pub mod pattern;
 pub mod scope;
 pub mod types;

@@ -17,7 +17,7 @@ use std::alloc::Global;
 use std::boxed::Box;
 
 /// What a prefix takes and gives.
-pub(crate) fn prefix_type(prefix: Prefix) -> PhylumId
+pub fn prefix_type(prefix: Prefix) -> PhylumId
     ensures { result ≡ spec.prefix_type prefix }
 {
     match prefix {
@@ -36,8 +36,8 @@ pub(crate) fn prefix_of(prefix: Prefix) -> Unary
     }
 }
 
-// what an operator takes, but for `==`, `!=` and `::`
-fn taken(sign: Infix) -> PhylumId
+/// What an operator takes on both sides, but for `==`, `!=` and `::`.
+pub fn taken(sign: Infix) -> PhylumId
     ensures { result ≡ spec.taken sign }
 {
     match sign {
@@ -47,12 +47,12 @@ fn taken(sign: Infix) -> PhylumId
     }
 }
 
-// what it gives, by its right operand
-fn given(sign: Infix, right: &Found) -> Option<PhylumId>
-    ensures { result ≡ spec.given sign right.now.of }
+/// What an operator gives, by the type of its right operand.
+pub fn given(sign: Infix, right: &Option<PhylumId>) -> Option<PhylumId>
+    ensures { result ≡ spec.given sign right.now }
 {
     match sign {
-        Infix::Cons => right.of,
+        Infix::Cons => *right,
         Infix::Join => Some(STR),
         Infix::Add | Infix::Sub | Infix::Mul | Infix::Div | Infix::Rem => Some(INT),
         _ => Some(BOOL),
@@ -80,7 +80,7 @@ fn sign_of(sign: Infix) -> Sign
 }
 
 /// The binary operator of a list phylum, and the phylum of its elements.
-pub(crate) type Pair = (OpId, PhylumId);
+pub type Pair = (OpId, PhylumId);
 
 // of a phylum that is a list
 fn pair_at(names: &Names, list: PhylumId) -> Option<Pair>
@@ -97,7 +97,8 @@ fn pair_at(names: &Names, list: PhylumId) -> Option<Pair>
     }
 }
 
-fn pair_of(names: &Names, of: &Option<PhylumId>) -> Option<Pair>
+/// That of a type, where it is a list.
+pub fn pair_of(names: &Names, of: &Option<PhylumId>) -> Option<Pair>
     ensures { result ≡ types.list_of names.now of.now }
 {
     match of {
@@ -188,7 +189,7 @@ pub(crate) fn between(
         ≡ spec.at_infix names.now sign left.of right.of left.place right.place left.mismatch right.mismatch) }
 {
     let mismatch = at_infix(names, sign, &left, &right);
-    let of = given(sign, &right);
+    let of = given(sign, &right.of);
     let pair = pair_of(names, &right.of);
     Ok(Found {
         tree: infix_tree(alloc, sign, &pair, left.tree, right.tree)?,

@@ -102,8 +102,8 @@ fn made_term(
     leaf(PatternTree::Made(made, phylum), fits, place)
 }
 
-// whether an operator is of the phylum that is wanted
-fn is_operator_of(names: &Names, op: &Option<OpId>, wanted: &Option<PhylumId>) -> bool
+/// Whether an operator is of the phylum that is wanted.
+pub fn is_operator_of(names: &Names, op: &Option<OpId>, wanted: &Option<PhylumId>) -> bool
     ensures { result ≡ spec.is_operator_of names.now op.now wanted.now }
 {
     let Some(op) = op else {
@@ -115,8 +115,8 @@ fn is_operator_of(names: &Names, op: &Option<OpId>, wanted: &Option<PhylumId>) -
     }
 }
 
-// the types of an operator's arguments
-fn parts_of<'a>(names: &'a Names, op: &Option<OpId>) -> &'a [PhylumId]
+/// The types of an operator's arguments, none where it is not there.
+pub fn parts_of<'a>(names: &'a Names, op: &Option<OpId>) -> &'a [PhylumId]
     ensures { result.now ≡ spec.parts_of names.now op.now }
 {
     match op {

@@ -10,13 +10,13 @@ use sg_kinds::fault::Position;
 use sg_kinds::ids::{OpId, PhylumId};
 use sg_names::names::Names;
 
-pub(crate) const BOOL: PhylumId = PhylumId { number: 0 };
+pub const BOOL: PhylumId = PhylumId { number: 0 };
 
 pub(crate) const NO_OP: OpId = OpId { number: 0 };
 
-pub(crate) const INT: PhylumId = PhylumId { number: 1 };
+pub const INT: PhylumId = PhylumId { number: 1 };
 
-pub(crate) const STR: PhylumId = PhylumId { number: 2 };
+pub const STR: PhylumId = PhylumId { number: 2 };
 
 /// The place, where a fact does not hold.
 pub fn unless(fact: bool, place: Position) -> Option<Position>
@@ -66,7 +66,7 @@ pub(crate) fn untyped(of: &Option<PhylumId>, place: Position) -> Option<Position
 }
 
 /// Whether a type is the one that is wanted.
-pub(crate) fn is_wanted(of: PhylumId, wanted: &Option<PhylumId>) -> bool
+pub fn is_wanted(of: PhylumId, wanted: &Option<PhylumId>) -> bool
     ensures { result ≡ is_wanted of wanted.now }
 {
     match wanted {
@@ -83,7 +83,7 @@ pub(crate) fn is_textual(names: &Names, of: PhylumId) -> bool
 }
 
 /// Whether texts are of the type that is wanted.
-pub(crate) fn takes_texts(names: &Names, wanted: &Option<PhylumId>) -> bool
+pub fn takes_texts(names: &Names, wanted: &Option<PhylumId>) -> bool
     ensures { result ≡ takes_texts names.now wanted.now }
 {
     match wanted {
@@ -106,7 +106,7 @@ pub fn fits_where(names: &Names, wanted: &Option<PhylumId>, found: &Option<Phylu
 }
 
 /// Whether the types of two operands of `==` agree: where they are equal, or both are of texts.
-pub(crate) fn do_agree(names: &Names, left: &Option<PhylumId>, right: &Option<PhylumId>) -> bool
+pub fn do_agree(names: &Names, left: &Option<PhylumId>, right: &Option<PhylumId>) -> bool
     ensures { result ≡ spec.do_agree names.now left.now right.now }
 {
     match (left, right) {

@@ -6,7 +6,7 @@ use Rattle.sg_kinds.specs.declared.fault.Position.{Position}
 use Rattle.sg_ast.specs.Declarations.{Decl, Schemes}
 use Rattle.sg_ast.specs.FirstFault.{first, or_else}
 use Rattle.sg_ast.specs.Parts.{target_place}
-use Rattle.sg_ast.specs.Rising.{RiseFrom, kept_places, places_of}
+use Rattle.sg_ast.specs.Rising.{RiseFrom, places_of}
 use Rattle.sg_ast.specs.Spelling.{spell_item, spell_scheme, spell_target, spell_view}
 use Rattle.sg_ast.specs.declared.decl.Item.{Item}
 use Rattle.sg_ast.specs.declared.decl.Item.TheVariants.{Writes, Child, Shows, Separates}
@@ -16,7 +16,7 @@ use Rattle.sg_ast.specs.declared.decl.Target.TheVariants.{Attribute, Local}
 use Rattle.sg_names.specs.declared.table.Table.{Table}
 use Rattle.sg_typing.specs.Bodies.{operator, target_type}
 use Rattle.sg_typing.specs.Mismatches.{listed}
-use Rattle.sg_typing.specs.Shown.{all_hidden, first_hidden, hidden, hidden_at, hidden_item, hidden_places, hidden_scheme}
+use Rattle.sg_typing.specs.ShownTypes.{all_hidden, first_hidden, hidden, hidden_at, hidden_item, hidden_places, hidden_scheme}
 use Rattle.sg_typing.proofs.MismatchHead.{head, head_both}
 use Rattle.sg_typing.proofs.MismatchOrder.{Met, none, past, here, met_then, least_first, In, closed, opened, each_in, Begins, occurrence_begins, unless_in}
 

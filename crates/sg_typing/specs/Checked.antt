@@ -7,7 +7,7 @@ use Rattle.sg_ast.specs.FirstFault.{first_of}
 use Rattle.sg_names.specs.declared.table.Table.{Table}
 use Rattle.sg_typing.specs.declared.checking.Typed.{Typed}
 use Rattle.sg_typing.specs.Bodies.{exprs_in, patterns_in, first_mismatch}
-use Rattle.sg_typing.specs.Shown.{first_hidden}
+use Rattle.sg_typing.specs.ShownTypes.{first_hidden}
 
 -- the expressions and patterns of the record
 abbrev pub typed_of : Table → List Decl → Typed

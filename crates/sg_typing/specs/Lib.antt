@@ -1,7 +1,7 @@
 pub mod Arguments
 pub mod Bodies
 pub mod BodiesView
-pub mod Shown
+pub mod ShownTypes
 pub mod Checked
 pub mod Written
 pub mod Known

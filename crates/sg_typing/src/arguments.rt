@@ -140,7 +140,7 @@ fn collect_cases(
 }
 
 /// The arguments of an equation of an operator.
-pub(crate) fn args_in(
+pub fn args_in(
     alloc: Global,
     names: &Names,
     op: OpId,

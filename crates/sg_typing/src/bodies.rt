@@ -92,7 +92,7 @@ fn walked(names: &Names, found: Found, wanted: &Option<PhylumId>, args: Vec<Occu
 }
 
 /// The type of what an equation defines, or a scheme shows.
-pub(crate) fn target_type(names: &Names, op: OpId, target: &Target) -> Option<PhylumId>
+pub fn target_type(names: &Names, op: OpId, target: &Target) -> Option<PhylumId>
     ensures { result ≡ spec.target_type names.now op target.now }
 {
     match target {
@@ -108,7 +108,7 @@ pub(crate) fn target_type(names: &Names, op: OpId, target: &Target) -> Option<Ph
 }
 
 /// The operator of a phylum, 0 where the names mean nothing.
-pub(crate) fn operator(names: &Names, phylum: &Name, op: &Name) -> OpId
+pub fn operator(names: &Names, phylum: &Name, op: &Name) -> OpId
     ensures { result ≡ spec.operator names.now phylum.now op.now }
 {
     op_or_none(names.operator_at(phylum, op))
@@ -186,8 +186,8 @@ fn right(alloc: Global, names: &Names, left: &Name, right: &Right) -> Result<Che
     Ok(walked(names, found, &wanted, Vec::new(alloc)))
 }
 
-// the type of the first attribute of a nonterminal
-fn result_type(names: &Names, left: &Name) -> Option<PhylumId>
+/// The type of the first attribute of a nonterminal, its result.
+pub fn result_type(names: &Names, left: &Name) -> Option<PhylumId>
     ensures { result ≡ spec.result_type names.now left.now }
 {
     let attr = names.symbol_attrs(&left.text).first()?;
@@ -215,7 +215,8 @@ fn rights(
     Ok(None)
 }
 
-fn parameters(alloc: Global, names: &Names, params: &[Param]) -> Result<Scope, NoMemory>
+/// The parameters of a function as its variables, each with the type of its phylum if that is known.
+pub fn parameters(alloc: Global, names: &Names, params: &[Param]) -> Result<Scope, NoMemory>
     ensures { IfOk result (λ scope. scope ≡ map (spec.parameter names.now) params.now) }
 {
     let mut scope = Scope::new(alloc);

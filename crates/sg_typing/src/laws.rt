@@ -27,7 +27,7 @@ ghost use Rattle.sg_typing.specs.Arguments.{args_in};
 ghost use Rattle.sg_typing.specs.Bodies as body;
 ghost use Rattle.sg_typing.specs.Known.{AreKnown, HasArguments, HasFars, SeesVariables, site_of};
 ghost use Rattle.sg_typing.specs.Mismatches.{mismatches};
-ghost use Rattle.sg_typing.specs.Shown.{all_hidden, first_hidden};
+ghost use Rattle.sg_typing.specs.ShownTypes.{all_hidden, first_hidden};
 ghost use Rattle.sg_typing.specs.Written.{HasLists, AreOutside, known};
 
 /// A pattern without a mismatch binds its variables in the record too, each with its type.

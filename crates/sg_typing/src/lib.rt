@@ -7,5 +7,6 @@ mod checking;
 pub mod laws;
 mod shown;
 
-pub use bodies::{TypedExpr, expr_count};
+pub use arguments::args_in;
+pub use bodies::{TypedExpr, expr_count, operator, parameters, result_type, target_type};
 pub use checking::{Typed, check};

@@ -3,7 +3,7 @@ ghost use Rattle.std.specs.Prelude.{◌≡◌};
 ghost use Rattle.sg_ast.specs.FirstFault.{first};
 ghost use Rattle.sg_ast.specs.View.{tree_of, trees_of};
 ghost use Rattle.sg_kinds.specs.Specification.{has_shape, is_leaf_shape};
-ghost use Rattle.sg_typing.specs.Shown as spec;
+ghost use Rattle.sg_typing.specs.ShownTypes as spec;
 
 use crate::bodies::{operator, target_type};
 use sg_ast::decl::{Decl, Item, SchemeDecl};

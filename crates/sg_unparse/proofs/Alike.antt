@@ -13,7 +13,7 @@ use Rattle.sg_kinds.specs.declared.spec.Item.TheVariants.{Writes as WritesPieces
 use Rattle.sg_groves.specs.Evaluated.{IsAtOrBelow}
 use Rattle.sg_groves.proofs.Below.{below_itself, below_by_child}
 use Rattle.sg_unparse.specs.Cells.{Writing, nothing, in_turn, plain, pieces, ended, placed, goes_on, reference, items_of, shows, items, content, unparsed, unparsed_among}
-use Rattle.sg_unparse.specs.Shown.{value_text}
+use Rattle.sg_unparse.specs.Printing.{value_text}
 use Rattle.sg_unparse.specs.Begins.{none_typed}
 use Rattle.sg_unparse.proofs.Owners.{under_child}
 

@@ -14,7 +14,7 @@ use Rattle.sg_kinds.specs.declared.spec.Item.TheVariants.{Writes as WritesPieces
 use Rattle.sg_kinds.specs.declared.marks.ChildPlace.{ChildPlace}
 use Rattle.sg_kinds.specs.declared.marks.ChildPlace.TheVariants.{Resting, Passed, Hidden}
 use Rattle.sg_unparse.specs.Cells.{Mark, Writes, Writing, nothing, in_turn, as_they_are, newline, plain, piece, pieces, placed, reference, shows, items, content}
-use Rattle.sg_unparse.specs.Shown.{value_text}
+use Rattle.sg_unparse.specs.Printing.{value_text}
 
 abbrev pub Each : (Mark → Type 0) → Writing → Type 0
 Each P f = (m : ℕ) → AllByRecursion P (f m).0

@@ -15,7 +15,7 @@ use Rattle.sg_kinds.specs.declared.spec.Item.TheVariants.{Writes as WritesPieces
 use Rattle.sg_kinds.specs.declared.marks.ChildPlace.{ChildPlace}
 use Rattle.sg_kinds.specs.declared.marks.ChildPlace.TheVariants.{Resting, Passed, Hidden}
 use Rattle.sg_unparse.specs.Cells.{Mark, Writes, Closed, Writing, nothing, in_turn, as_they_are, newline, plain, piece, pieces, cells_in, ended, goes_on, reference, items_of, shows, items, content, unparsed, unparsed_among}
-use Rattle.sg_unparse.specs.Shown.{value_text}
+use Rattle.sg_unparse.specs.Printing.{value_text}
 use Rattle.sg_unparse.specs.Unparsed.{ends_of, child_places, shown_below, shows_scheme, below_scheme, unparsed_places, places_under}
 
 -- from every margin the same nodes end

@@ -17,8 +17,8 @@ use Rattle.sg_kinds.specs.declared.marks.ChildPlace.{ChildPlace}
 use Rattle.sg_kinds.specs.declared.marks.ChildPlace.TheVariants.{Resting, Passed, Hidden}
 use Rattle.sg_forest.specs.declared.node_id.NodeId.{NodeId}
 use Rattle.sg_groves.specs.Grove.{Grove, spec_shown}
-use Rattle.sg_terms.specs.Told.{elided_of}
-use Rattle.sg_unparse.specs.Shown.{scheme_of}
+use Rattle.sg_terms.specs.Labels.{elided_of}
+use Rattle.sg_unparse.specs.Printing.{scheme_of}
 use Rattle.sg_unparse.specs.Along.{node_along, stored, is_captured, typed_in, items_in, shows_in, kids_in, own_in, content_in, unparsed_in}
 use Rattle.sg_unparse.specs.Cells.{Mark, Writes, Closed, Writing, nothing, in_turn, as_they_are, plain, pieces, placed, ended, cells_in, content, items_of, goes_on, unparsed_among}
 use Rattle.sg_unparse.specs.Page.{all_cells, cells_of, spans_behind}

@@ -10,7 +10,7 @@ use Rattle.sg_kinds.specs.declared.spec.Spec.{Spec}
 use Rattle.sg_groves.specs.Evaluated.{IsAtOrBelow}
 use Rattle.sg_groves.proofs.Below.{below_itself}
 use Rattle.sg_unparse.specs.Cells.{Mark, Closed, Writing, plain, cells_in, ended, goes_on, items_of, items, content, unparsed, unparsed_among}
-use Rattle.sg_unparse.specs.Shown.{value_text}
+use Rattle.sg_unparse.specs.Printing.{value_text}
 use Rattle.sg_unparse.specs.Owned.{place_of_mark, AreOwned}
 use Rattle.sg_unparse.proofs.Each.{Each, append_each, plain_each, items_each, content_each}
 

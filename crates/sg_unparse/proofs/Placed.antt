@@ -27,7 +27,7 @@ use Rattle.sg_groves.specs.Holds.{Holds}
 use Rattle.sg_groves.specs.Stored.{number_at, value_there}
 use Rattle.sg_groves.proofs.Held.{held_fits}
 use Rattle.sg_terms.specs.Found.{op_at}
-use Rattle.sg_terms.specs.Told.{op_of}
+use Rattle.sg_terms.specs.Labels.{op_of}
 use Rattle.sg_terms.specs.Occurrences.{node_there}
 use Rattle.sg_terms.proofs.Holding.{op_told}
 use Rattle.sg_terms.proofs.Typed.{IsStored, stored_for}
@@ -35,7 +35,7 @@ use Rattle.sg_terms.proofs.Written.{op_node}
 use Rattle.std.proofs.lemmas.Option.{slice_get_within}
 use Rattle.sg_unparse.specs.Along.{node_along, kid_of, stored}
 use Rattle.sg_unparse.specs.Cells.{goes_on, has_kids, reference}
-use Rattle.sg_unparse.specs.Shown.{scheme_of}
+use Rattle.sg_unparse.specs.Printing.{scheme_of}
 
 module _ (g : Grove) where
   -- what a node is of

@@ -20,7 +20,7 @@ use Rattle.sg_kinds.specs.declared.spec.Item.TheVariants.{Writes as WritesPieces
 use Rattle.sg_kinds.specs.declared.marks.ChildPlace.{ChildPlace}
 use Rattle.sg_kinds.specs.declared.marks.ChildPlace.TheVariants.{Resting, Passed, Hidden}
 use Rattle.sg_unparse.specs.Cells.{Writing, nothing, in_turn, as_they_are, newline, plain, piece, pieces, placed, goes_on, reference, items_of, shows, items, content, unparsed, unparsed_among}
-use Rattle.sg_unparse.specs.Shown.{value_text}
+use Rattle.sg_unparse.specs.Printing.{value_text}
 use Rattle.sg_unparse.specs.Margins.{ons_of_piece, ons_of_pieces, ons_of_item, ons_of_items, ons_of_schemes, ons_of}
 
 -- the margin behind a writing is wider by at most so much

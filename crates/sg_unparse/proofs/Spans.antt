@@ -18,7 +18,7 @@ use Rattle.sg_kinds.proofs.Elementary.{bytes_is, bytes_itself}
 use Rattle.sg_groves.specs.Evaluated.{IsAtOrBelow}
 use Rattle.sg_groves.proofs.Below.{below_itself, below_by_child, below_or_not}
 use Rattle.sg_unparse.specs.Cells.{Mark, Writes, Closed, Writing, nothing, in_turn, plain, pieces, cells_in, ended, placed, goes_on, items_of, shows, items, content, unparsed, unparsed_among}
-use Rattle.sg_unparse.specs.Shown.{value_text}
+use Rattle.sg_unparse.specs.Printing.{value_text}
 use Rattle.sg_unparse.specs.Page.{Cell, Span, Region, all_cells, cells_of, spans_behind, span_of, region_in, region_of}
 use Rattle.sg_unparse.specs.Owned.{place_of_mark, AreOwned, IsSpanOf}
 use Rattle.sg_unparse.specs.Unparsed.{ends_of, unparsed_places}

@@ -13,7 +13,7 @@ use Rattle.sg_kinds.specs.declared.marks.ChildPlace.TheVariants.{Resting, Passed
 use Rattle.sg_groves.specs.Evaluated.{IsAtOrBelow, is_at_or_below}
 use Rattle.sg_groves.proofs.Below.{below_or_not, below_to}
 use Rattle.sg_unparse.specs.Cells.{Mark, Closed, Writing, nothing, in_turn, plain, pieces, cells_in, ended, placed, goes_on, items_of, shows, items, content, unparsed, unparsed_among}
-use Rattle.sg_unparse.specs.Shown.{value_text}
+use Rattle.sg_unparse.specs.Printing.{value_text}
 use Rattle.sg_unparse.specs.Owned.{place_of_mark, AreOwned, before, AreTypedAlike}
 use Rattle.sg_unparse.proofs.Owners.{over, unparsed_owned}
 

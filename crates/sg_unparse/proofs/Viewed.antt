@@ -12,7 +12,7 @@ use Rattle.sg_kinds.specs.declared.spec.Scheme.{Scheme}
 use Rattle.sg_kinds.proofs.InView.{op_in_view, count_in_view}
 use Rattle.sg_groves.specs.Grove.{Grove, spec_shown}
 use Rattle.sg_unparse.specs.Margins.{ons_of, ons_of_operators, ons_of_schemes}
-use Rattle.sg_unparse.specs.Shown.{count_of, scheme_of, schemes_of, value_text}
+use Rattle.sg_unparse.specs.Printing.{count_of, scheme_of, schemes_of, value_text}
 
 -- the specification that is seen, by the parts that are read
 pub as_shown : (g : Grove) (spec : Spec) (v : ℕ) → spec ≡ g.spec → v ≡ g.view → in_view spec v ≡ spec_shown g

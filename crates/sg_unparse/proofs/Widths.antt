@@ -17,7 +17,7 @@ use Rattle.sg_kinds.specs.declared.marks.ChildPlace.TheVariants.{Resting, Passed
 use Rattle.std.specs.List.{AllByRecursion}
 use Rattle.sg_groves.specs.Evaluated.{is_at_or_below}
 use Rattle.sg_unparse.specs.Cells.{Mark, Writes, Closed, Writing, nothing, in_turn, as_they_are, newline, plain, piece, pieces, cells_in, ended, placed, goes_on, reference, items_of, shows, items, content, unparsed, unparsed_among}
-use Rattle.sg_unparse.specs.Shown.{value_text}
+use Rattle.sg_unparse.specs.Printing.{value_text}
 use Rattle.sg_unparse.specs.Page.{is_newline}
 use Rattle.sg_unparse.specs.Owned.{before}
 

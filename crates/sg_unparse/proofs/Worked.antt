@@ -19,7 +19,7 @@ use Rattle.sg_kinds.specs.declared.marks.ChildPlace.TheVariants.{Resting, Passed
 use Rattle.sg_kinds.specs.declared.marks.Shape.TheVariants.{Lexemes, Ordinary, Listed}
 use Rattle.sg_kinds.proofs.Languages.{base, syn, at}
 use Rattle.sg_kinds.specs.declared.marks.FaultKind.TheVariants.{NoMatch}
-use Rattle.sg_unparse.specs.Shown.{value_text}
+use Rattle.sg_unparse.specs.Printing.{value_text}
 use Rattle.sg_unparse.specs.Cells.{Mark, Writes as WritesByte, reference, marks_of}
 use Rattle.sg_unparse.specs.Page.{Region, Cell, all_cells, region_in, cells_of, lines_of, is_cut, region_of, owner_at}
 

@@ -10,9 +10,9 @@ use Rattle.sg_forest.specs.declared.node_id.NodeId.{NodeId}
 use Rattle.sg_groves.specs.Grove.{Grove, nodes, spec_shown}
 use Rattle.sg_groves.specs.Holds.{Holds}
 use Rattle.sg_groves.specs.Stored.{value_there}
-use Rattle.sg_terms.specs.Told.{elided_of}
+use Rattle.sg_terms.specs.Labels.{elided_of}
 use Rattle.sg_unparse.specs.Cells.{Writing, plain, content, items, items_of, goes_on, shows, unparsed, unparsed_among}
-use Rattle.sg_unparse.specs.Shown.{value_text}
+use Rattle.sg_unparse.specs.Printing.{value_text}
 
 -- the k-th child of a node, and of a node that has none the node itself
 abbrev pub kid_of : Grove → NodeId → ℕ → Option NodeId

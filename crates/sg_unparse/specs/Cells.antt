@@ -14,7 +14,7 @@ use Rattle.sg_kinds.specs.declared.spec.Item.{Item}
 use Rattle.sg_kinds.specs.declared.spec.Item.TheVariants.{Writes as WritesPieces, Child, Shows, Separates}
 use Rattle.sg_kinds.specs.declared.marks.ChildPlace.{ChildPlace}
 use Rattle.sg_kinds.specs.declared.marks.ChildPlace.TheVariants.{Resting, Passed, Hidden}
-use Rattle.sg_unparse.specs.Shown.{value_text, scheme_of}
+use Rattle.sg_unparse.specs.Printing.{value_text, scheme_of}
 
 -- a byte of a cell with its owner, or the end of a node with how many cells were written for it
 pub data Mark : Type 0 where

@@ -5,6 +5,6 @@ pub mod Margins
 pub mod Owned
 pub mod Page
 pub mod Sheet
-pub mod Shown
+pub mod Printing
 pub mod Unparsed
 pub mod Written

@@ -28,8 +28,8 @@ abbrev pub region_on : Sheet → NodeId → Option RegionOf
 region_on p n = option_map (λ (s : Span). region_in p.cells s.from s.to) (find (is_of n) p.spans)
 
 -- what a region of the code tells
-abbrev pub told : Region → RegionOf
-told r = record { first = record { line = r.line; column = r.col }; last = record { line = r.end_line; column = r.end_col } }
+abbrev pub as_region : Region → RegionOf
+as_region r = record { first = record { line = r.line; column = r.col }; last = record { line = r.end_line; column = r.end_col } }
 
 -- where lines begin, but the first: behind each newline, where the first of the bytes has a number
 abbrev pub starts_from : ℕ → Bytes → List ℕ

@@ -4,7 +4,7 @@ ghost use Rattle.std.specs.List.{slice_split, range_with_len};
 ghost use Rattle.std.specs.List.Sorted.{IsNonDecreasingBy};
 ghost use Rattle.sg_unparse.specs.Page.{bytes_of, lines_of, is_newline, owner_at, position_at, stands_at};
 ghost use Rattle.sg_unparse.specs.Begins.{begins_on};
-ghost use Rattle.sg_unparse.specs.Sheet.{told, line_on, region_on, is_of, no_node, owner_in, starts_from, kept_cells, IsWritten};
+ghost use Rattle.sg_unparse.specs.Sheet.{as_region, line_on, region_on, is_of, no_node, owner_in, starts_from, kept_cells, IsWritten};
 
 use crate::writer::Writer;
 use sg_forest::NodeId;
@@ -223,7 +223,7 @@ impl Page {
 
     /// The region of a node; None exactly where it was not written.
     pub fn region(&self, n: NodeId) -> Option<Region>
-        ensures { option_map told result ≡ region_on self.now n }
+        ensures { option_map as_region result ≡ region_on self.now n }
     {
         let span = find_span(&self.spans, n)?;
         let (line, col) = self.position(span.from);

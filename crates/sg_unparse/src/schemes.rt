@@ -5,7 +5,7 @@ ghost use Rattle.sg_kinds.specs.Terms.{Term};
 ghost use Rattle.sg_forest.specs.Trees.{IsLive};
 ghost use Rattle.sg_groves.specs.Grove.{nodes, spec_shown};
 ghost use Rattle.sg_groves.specs.Holds.{Holds};
-ghost use Rattle.sg_unparse.specs.Shown.{count_of, current_scheme, scheme_count};
+ghost use Rattle.sg_unparse.specs.Printing.{count_of, current_scheme, scheme_count};
 
 use crate::shown::{scheme_of, schemes_in};
 use sg_forest::NodeId;

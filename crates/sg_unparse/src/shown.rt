@@ -3,7 +3,7 @@ ghost use Rattle.std.specs.Prelude.{◌≡◌, ◌%◌, ◌<◌, ◌++◌, lengt
 ghost use Rattle.sg_kinds.specs.InView.{in_view};
 ghost use Rattle.sg_kinds.specs.Specification.{has_shape, is_lexical_shape, phylum_name};
 ghost use Rattle.sg_pool.specs.Pools.{value_at};
-ghost use Rattle.sg_unparse.specs.Shown.{fault_text, text_shown, value_text, scheme_of, schemes_of};
+ghost use Rattle.sg_unparse.specs.Printing.{fault_text, text_shown, value_text, scheme_of, schemes_of};
 
 use itoa::Buffer;
 use sg_kinds::ids::{OpId, PhylumId, ValueId};

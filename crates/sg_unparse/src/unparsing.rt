@@ -16,7 +16,7 @@ ghost use Rattle.sg_terms.specs.Found.{op_at};
 ghost use Rattle.sg_terms.specs.Occurrences.{node_there};
 ghost use Rattle.sg_unparse.specs.Along.{IsAlong, is_captured, node_along, stored, typed_in, content_in, items_in, kids_in, own_in, shows_in, unparsed_in};
 ghost use Rattle.sg_unparse.specs.Cells.{goes_on as does_go_on, marks_of, plain as plain_text};
-ghost use Rattle.sg_unparse.specs.Shown.{value_text};
+ghost use Rattle.sg_unparse.specs.Printing.{value_text};
 ghost use Rattle.sg_unparse.specs.Written.{Wrote, sheet_of};
 ghost use Rattle.sg_unparse.specs.declared.writer.Writer.{Writer as AWriter};
 

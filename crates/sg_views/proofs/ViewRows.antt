@@ -1,10 +1,9 @@
 -- The rows of views, one more at a time, and what is put together of them.
-use Rattle.std.proofs.Common.{◌≡◌, ℕ, suc, ◌+◌, List, [], ◌∷◌, ◌++◌, map, refl, sym, ap, ◌∙◌, arith}
+use Rattle.std.proofs.Common.{◌≡◌, ℕ, suc, ◌+◌, List, [], ◌∷◌, ◌++◌, map, ap, ◌∙◌, arith}
 use Rattle.std.proofs.lemmas.List.{map-append}
 use Rattle.sg_kinds.specs.Instances.{below}
 use Rattle.sg_kinds.specs.Values.{Bytes}
 use Rattle.sg_kinds.specs.declared.spec.Scheme.{Scheme}
-use Rattle.sg_kinds.specs.declared.views.Views.{Views}
 use Rattle.sg_ast.specs.Declarations.{Decl}
 use Rattle.sg_names.specs.declared.table.Table.{Table}
 use Rattle.sg_views.specs.Views.{view_names, row_of, views_of}

@@ -8,7 +8,7 @@ use Rattle.sg_kinds.specs.declared.spec.Spec.{Spec}
 use Rattle.sg_script.specs.declared.command.Command.{Command}
 use Rattle.sg_script.specs.declared.message.Message.TheVariants.{Fine}
 use Rattle.sg_states.specs.States.{State}
-use Rattle.sg_shown.specs.Shown.{shown}
+use Rattle.sg_printing.specs.Shown.{shown}
 use Rattle.sg_workload.specs.Workload.{workload}
 use Rattle.sg_editor.specs.Session.{Session, start, current_of}
 use Rattle.sg_editor.specs.Ask.{Readers, Step, Ask, Tells, Asks, says, ask}

@@ -6,7 +6,7 @@ ghost use Rattle.sg_workload.specs.Loads.{nodes_in, errors_in, line_of};
 use sg_editor::Editor;
 use sg_kinds::decimal::write_number;
 use sg_kinds::memory::NoMemory;
-use sg_shown::shown;
+use sg_printing::shown;
 use std::alloc::Global;
 
 /// How many nodes the term of the current buffer has; none without one.

@@ -15,22 +15,22 @@ use Rattle.sg_commands.proofs.Typed.{entry_none, entry_read, not_in_text, typed_
 use Rattle.sg_commands.proofs.entering.enter_typed.Goals as goal
 
 pub enter-read-requires-clause-grammar : goal.enter-read-requires-clause-grammar
-enter-read-requires-clause-grammar c = c.requires.tools.grammar ∙ ap grammar_of (sym c.requires.tools.same)
+enter-read-requires-clause-grammar c = c.requires.input.grammar ∙ ap grammar_of (sym (c.evaluator.ensures ∙ c.attribution.ensures))
 
 pub enter-read-requires-clause-sound : goal.enter-read-requires-clause-sound
-enter-read-requires-clause-sound c = subst IsSound (sym c.requires.tools.same) c.requires.tools.sound
+enter-read-requires-clause-sound c = subst IsSound (sym (c.evaluator.ensures ∙ c.attribution.ensures)) c.sound.ensures
 
 pub enter-read-requires-clause-entry : goal.enter-read-requires-clause-entry
-enter-read-requires-clause-entry c = low_there c.args.buffer.now c.args.tools.now.evaluator.now c.requires.tools.same c.in-Some-entry_here.entry (sym c.entry_here.ensures ∙ c.in-Some-entry_here.is)
+enter-read-requires-clause-entry c = low_there c.args.buffer.now c.evaluator.result.now (c.evaluator.ensures ∙ c.attribution.ensures) c.in-Some-entry_here.entry (sym c.entry_here.ensures ∙ c.in-Some-entry_here.is)
 
 pub enter-read-requires-clause-lexemes : goal.enter-read-requires-clause-lexemes
-enter-read-requires-clause-lexemes c = subst (λ (s : Spec). AreLexemesOf s c.args.tools.now.lexemes.now) (sym c.requires.tools.same) c.requires.tools.lexemes
+enter-read-requires-clause-lexemes c = subst (λ (s : Spec). AreLexemesOf s c.args.input.now.lexemes.now) (sym (c.evaluator.ensures ∙ c.attribution.ensures)) c.requires.input.lexemes
 
 pub put_read-requires-clause-fits : goal.put_read-requires-clause-fits
-put_read-requires-clause-fits c = fits_there c.args.buffer.now c.args.tools.now.evaluator.now c.requires.tools.same c.in-Some-entry_here.entry (sym c.entry_here.ensures ∙ c.in-Some-entry_here.is) c.enter-read.result c.enter-read.ensures.fits
+put_read-requires-clause-fits c = fits_there c.args.buffer.now c.evaluator.result.now (c.evaluator.ensures ∙ c.attribution.ensures) c.in-Some-entry_here.entry (sym c.entry_here.ensures ∙ c.in-Some-entry_here.is) c.enter-read.result c.enter-read.ensures.fits
 
 pub put_read-requires-clause-within : goal.put_read-requires-clause-within
-put_read-requires-clause-within c = within_typed c.args.buffer.now.capture c.in-Some.text.now c.enter-read.result c.in-Some.ensures (stops_within c.args.tools.now.evaluator.now c.in-Some-entry_here.entry c.in-Some.text.now c.enter-read.result c.enter-read.ensures.right)
+put_read-requires-clause-within c = within_typed c.args.buffer.now.capture c.in-Some.text.now c.enter-read.result c.in-Some.ensures (stops_within c.evaluator.result.now c.in-Some-entry_here.entry c.in-Some.text.now c.enter-read.result c.enter-read.ensures.right)
 
 pub returns-in_default-clause-did : goal.returns-in_default-clause-did
 returns-in_default-clause-did c = λ clip reads are.
@@ -48,10 +48,10 @@ pub returns-clause-did : goal.returns-clause-did
 returns-clause-did c = λ clip reads are.
     let b = c.args.buffer.now in
     subst (λ (t : Turn). IfOk c.put_read.result (λ (m : Message). Did t m c.put_read.new.buffer clip (now_of c.args.journal.now) (now_of c.put_read.new.journal))) (sym ((let typed = typed_text c.args.buffer.now.capture c.in-Some.text.now c.in-Some.ensures in entry_read b clip reads typed.capture typed.is c.in-Some-entry_here.entry c.in-Some.text.now typed.text_is (sym c.entry_here.ensures ∙ c.in-Some-entry_here.is))))
-    (c.put_read.ensures.did clip (reads c.in-Some-entry_here.entry c.in-Some.text.now) (reads_there c.args.buffer.now c.args.tools.now.evaluator.now c.requires.tools.same c.in-Some-entry_here.entry (sym c.entry_here.ensures ∙ c.in-Some-entry_here.is) c.in-Some.text.now c.enter-read.result c.enter-read.ensures.only reads are))
+    (c.put_read.ensures.did clip (reads c.in-Some-entry_here.entry c.in-Some.text.now) (reads_there c.args.buffer.now c.evaluator.result.now (c.evaluator.ensures ∙ c.attribution.ensures) c.in-Some-entry_here.entry (sym c.entry_here.ensures ∙ c.in-Some-entry_here.is) c.in-Some.text.now c.enter-read.result c.enter-read.ensures.only reads are))
 
 pub returns-clause-gave_up : goal.returns-clause-gave_up
 returns-clause-gave_up c = λ clip reads are.
     let b = c.args.buffer.now in
     subst (λ (t : Turn). OnErr c.put_read.result (GaveUp b.grove.spec t b c.put_read.new.buffer clip clip (now_of c.args.journal.now) (now_of c.put_read.new.journal))) (sym ((let typed = typed_text c.args.buffer.now.capture c.in-Some.text.now c.in-Some.ensures in entry_read b clip reads typed.capture typed.is c.in-Some-entry_here.entry c.in-Some.text.now typed.text_is (sym c.entry_here.ensures ∙ c.in-Some-entry_here.is))))
-    (c.put_read.ensures.gave_up clip (reads c.in-Some-entry_here.entry c.in-Some.text.now) (reads_there c.args.buffer.now c.args.tools.now.evaluator.now c.requires.tools.same c.in-Some-entry_here.entry (sym c.entry_here.ensures ∙ c.in-Some-entry_here.is) c.in-Some.text.now c.enter-read.result c.enter-read.ensures.only reads are))
+    (c.put_read.ensures.gave_up clip (reads c.in-Some-entry_here.entry c.in-Some.text.now) (reads_there c.args.buffer.now c.evaluator.result.now (c.evaluator.ensures ∙ c.attribution.ensures) c.in-Some-entry_here.entry (sym c.entry_here.ensures ∙ c.in-Some-entry_here.is) c.in-Some.text.now c.enter-read.result c.enter-read.ensures.only reads are))

@@ -11,8 +11,8 @@ use Rattle.sg_commands.proofs.Putting.{gave_up_before, then_on_err}
 use Rattle.sg_commands.proofs.Typed.{point_within, told_of}
 use Rattle.sg_commands.proofs.entering.put_read.Goals as goal
 
-pub put_value-requires-clause-fits : goal.put_value-requires-clause-fits
-put_value-requires-clause-fits c = subst (λ (r : Result Value EntryFault). IfOk r (FitsHere c.args.buffer.now)) c.in-Ok.is c.requires.fits
+pub put_value-requires : goal.put_value-requires
+put_value-requires c = record { fits = subst (λ (r : Result Value EntryFault). IfOk r (FitsHere c.args.buffer.now)) c.in-Ok.is c.requires.fits }
 
 pub tell-requires : goal.tell-requires
 tell-requires c = point_within c.args.buffer.now.capture c.args.read (Err c.in-Err.fault) c.in-Err.is c.requires.within

@@ -17,7 +17,7 @@ returns-in_err-done-in-Back-clause-gave_up c = λ clip.
     let p = err_from_is_err_and c.from_residual.result c.from_residual.ensures.1 in
     rw p.1
     (subst (λ (d : Direction). GaveUp b.grove.spec (travels b.grove.spec b.height clip (state_of b) d (ahead d (state_of b))) b c.undo.new.self clip clip (now_of c.args.journal.now) (now_of c.undo.new.journal)) (sym c.in-Back.is)
-    (travel_gave_up b c.undo.new.self c.requires.tools.sound clip (now_of c.args.journal.now) (now_of c.undo.new.journal) Back e.as_before.state e.some e.noted))
+    (travel_gave_up b c.undo.new.self c.sound.ensures clip (now_of c.args.journal.now) (now_of c.undo.new.journal) Back e.as_before.state e.some e.noted))
 
 pub returns-in_ok-done-in-Back-clause-did : goal.returns-in_ok-done-in-Back-clause-did
 returns-in_ok-done-in-Back-clause-did c = λ clip.
@@ -26,7 +26,7 @@ returns-in_ok-done-in-Back-clause-did c = λ clip.
     let now = now_of c.undo.new.journal in
     subst (λ (d : Direction). Did (travels b.grove.spec b.height clip (state_of b) d (ahead d (state_of b))) c.said.result c.undo.new.self clip was now) (sym c.in-Back.is)
     (subst (λ m. Did (travels b.grove.spec b.height clip (state_of b) Back (state_of b).past) m c.undo.new.self clip was now) (sym c.said.ensures)
-    (travelled b c.undo.new.self c.requires.tools.sound clip was now Back c.in_ok-done-in-Back.done c.in_ok-done-in-Back.ensures.went))
+    (travelled b c.undo.new.self c.sound.ensures clip was now Back c.in_ok-done-in-Back.done c.in_ok-done-in-Back.ensures.went))
 
 pub returns-in_err-done-in-Forth-clause-gave_up : goal.returns-in_err-done-in-Forth-clause-gave_up
 returns-in_err-done-in-Forth-clause-gave_up c = λ clip.
@@ -35,7 +35,7 @@ returns-in_err-done-in-Forth-clause-gave_up c = λ clip.
     let p = err_from_is_err_and c.from_residual-in_err-done-in-Forth.result c.from_residual-in_err-done-in-Forth.ensures.1 in
     rw p.1
     (subst (λ (d : Direction). GaveUp b.grove.spec (travels b.grove.spec b.height clip (state_of b) d (ahead d (state_of b))) b c.redo.new.self clip clip (now_of c.args.journal.now) (now_of c.redo.new.journal)) (sym c.in-Forth.is)
-    (travel_gave_up b c.redo.new.self c.requires.tools.sound clip (now_of c.args.journal.now) (now_of c.redo.new.journal) Forth e.as_before.state e.some e.noted))
+    (travel_gave_up b c.redo.new.self c.sound.ensures clip (now_of c.args.journal.now) (now_of c.redo.new.journal) Forth e.as_before.state e.some e.noted))
 
 pub returns-in_ok-done-in-Forth-clause-did : goal.returns-in_ok-done-in-Forth-clause-did
 returns-in_ok-done-in-Forth-clause-did c = λ clip.
@@ -44,4 +44,4 @@ returns-in_ok-done-in-Forth-clause-did c = λ clip.
     let now = now_of c.redo.new.journal in
     subst (λ (d : Direction). Did (travels b.grove.spec b.height clip (state_of b) d (ahead d (state_of b))) c.said-in-Forth.result c.redo.new.self clip was now) (sym c.in-Forth.is)
     (subst (λ m. Did (travels b.grove.spec b.height clip (state_of b) Forth (state_of b).future) m c.redo.new.self clip was now) (sym c.said-in-Forth.ensures)
-    (travelled b c.redo.new.self c.requires.tools.sound clip was now Forth c.in_ok-done-in-Forth.done c.in_ok-done-in-Forth.ensures.went))
+    (travelled b c.redo.new.self c.sound.ensures clip was now Forth c.in_ok-done-in-Forth.done c.in_ok-done-in-Forth.ensures.went))

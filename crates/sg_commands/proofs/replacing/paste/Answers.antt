@@ -15,8 +15,8 @@ use Rattle.sg_commands.specs.Replaced.{chosen_of, puts_in}
 use Rattle.sg_commands.proofs.Putting.{refused_did}
 use Rattle.sg_commands.proofs.replacing.paste.Goals as goal
 
-pub paste_clip-requires-clause-clip : goal.paste_clip-requires-clause-clip
-paste_clip-requires-clause-clip c = MatchOption-at_some ⊤ (λ (x : Clip). Fits c.args.buffer.now.grove.spec x.term x.phylum) c.in-Some.copy c.in-Some.is c.requires.clip
+pub paste_clip-requires : goal.paste_clip-requires
+paste_clip-requires c = record { clip = MatchOption-at_some ⊤ (λ (x : Clip). Fits c.args.buffer.now.grove.spec x.term x.phylum) c.in-Some.copy c.in-Some.is c.requires.clip }
 
 pub returns-in-Some-clause-did : goal.returns-in-Some-clause-did
 returns-in-Some-clause-did c =

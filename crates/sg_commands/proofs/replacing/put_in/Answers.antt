@@ -9,7 +9,7 @@ pub returns-in-Ok-clause-did : goal.returns-in-Ok-clause-did
 returns-in-Ok-clause-did c = λ clip.
     let e = c.in-Ok.ensures in
     put_did c.args.buffer.now c.replace.new.self clip (now_of c.args.journal.now) (now_of c.replace.new.journal) (place_of c.args.at.now) c.args.t.now c.args.select.now
-    c.requires.tools.sound e.large e.state e.evaluated
+    c.sound.ensures e.large e.state e.evaluated
 
 pub returns-in-Err-Size-clause-did : goal.returns-in-Err-Size-clause-did
 returns-in-Err-Size-clause-did c = λ clip.
@@ -25,4 +25,4 @@ returns-in-Err-NoMemory-clause-gave_up c = λ clip.
     let fault = c.in-Err-NoMemory.field-0 in
     let none = c.in-Err-NoMemory.field-0-is in
     put_gave_up c.args.buffer.now c.replace.new.self clip (now_of c.args.journal.now) (now_of c.replace.new.journal) (place_of c.args.at.now) c.args.t.now c.args.select.now
-    c.requires.tools.sound (λ big. (let size = e.large big in no_size fault none size.0 size.1)) (e.as_before (ap Err none)).state (e.noted (ap Err none))
+    c.sound.ensures (λ big. (let size = e.large big in no_size fault none size.0 size.1)) (e.as_before (ap Err none)).state (e.noted (ap Err none))

@@ -21,8 +21,8 @@ removed-requires-clause-live c = live_here c.args.buffer.now c.facts.ensures c.t
 pub removed-requires-clause-run : goal.removed-requires-clause-run
 removed-requires-clause-run c = run_here c.args.buffer.now c.facts.ensures c.terms.result.now c.terms.ensures c.selected.result c.selected.ensures.place c.count.result c.count.ensures
 
-pub put_choice-requires-clause-fits : goal.put_choice-requires-clause-fits
-put_choice-requires-clause-fits c = fits_here c.args.buffer.now c.facts.ensures c.terms.result.now c.terms.ensures c.selected.result c.selected.ensures.place c.in_ok-choice.choice c.in_ok-choice.ensures.fits
+pub put_choice-requires : goal.put_choice-requires
+put_choice-requires c = record { fits = fits_here c.args.buffer.now c.facts.ensures c.terms.result.now c.terms.ensures c.selected.result c.selected.ensures.place c.in_ok-choice.choice c.in_ok-choice.ensures.fits }
 
 pub returns-clause-did : goal.returns-clause-did
 returns-clause-did c = λ clip.

@@ -16,13 +16,13 @@ use Rattle.sg_commands.proofs.Putting.{gave_up_before}
 use Rattle.sg_commands.proofs.replacing.replace_all.Goals as goal
 
 pub everywhere-requires-clause-same : goal.everywhere-requires-clause-same
-everywhere-requires-clause-same c = c.requires.tools.same ∙ ap (λ (g : Grove). g.spec) (sym c.terms.ensures)
+everywhere-requires-clause-same c = c.evaluator.ensures ∙ c.attribution.ensures ∙ ap (λ (g : Grove). g.spec) (sym c.terms.ensures)
 
 pub everywhere-requires-clause-live : goal.everywhere-requires-clause-live
 everywhere-requires-clause-live c = live_here c.args.buffer.now c.facts.ensures c.terms.result.now c.terms.ensures c.selected.result c.selected.ensures.place
 
-pub put_choice-requires-clause-fits : goal.put_choice-requires-clause-fits
-put_choice-requires-clause-fits c = fits_here c.args.buffer.now c.facts.ensures c.terms.result.now c.terms.ensures c.selected.result c.selected.ensures.place c.in_ok-choice.choice c.in_ok-choice.ensures.fits
+pub put_choice-requires : goal.put_choice-requires
+put_choice-requires c = record { fits = fits_here c.args.buffer.now c.facts.ensures c.terms.result.now c.terms.ensures c.selected.result c.selected.ensures.place c.in_ok-choice.choice c.in_ok-choice.ensures.fits }
 
 pub returns-clause-did : goal.returns-clause-did
 returns-clause-did c = λ clip.

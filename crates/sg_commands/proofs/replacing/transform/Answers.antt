@@ -16,13 +16,13 @@ use Rattle.sg_commands.proofs.Putting.{gave_up_before}
 use Rattle.sg_commands.proofs.replacing.transform.Goals as goal
 
 pub done-requires-clause-same : goal.done-requires-clause-same
-done-requires-clause-same c = c.requires.tools.same ∙ ap (λ (g : Grove). g.spec) (sym c.terms.ensures)
+done-requires-clause-same c = c.evaluator.ensures ∙ c.attribution.ensures ∙ ap (λ (g : Grove). g.spec) (sym c.terms.ensures)
 
 pub done-requires-clause-live : goal.done-requires-clause-live
 done-requires-clause-live c = live_here c.args.buffer.now c.facts.ensures c.terms.result.now c.terms.ensures c.selected.result c.selected.ensures.place
 
-pub put_choice-requires-clause-fits : goal.put_choice-requires-clause-fits
-put_choice-requires-clause-fits c = fits_here c.args.buffer.now c.facts.ensures c.terms.result.now c.terms.ensures c.selected.result c.selected.ensures.place c.in_ok-choice.choice c.in_ok-choice.ensures.fits
+pub put_choice-requires : goal.put_choice-requires
+put_choice-requires c = record { fits = fits_here c.args.buffer.now c.facts.ensures c.terms.result.now c.terms.ensures c.selected.result c.selected.ensures.place c.in_ok-choice.choice c.in_ok-choice.ensures.fits }
 
 pub returns-clause-did : goal.returns-clause-did
 returns-clause-did c = λ clip.

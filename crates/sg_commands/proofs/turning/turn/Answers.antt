@@ -28,9 +28,9 @@ returns-clause-fewer c = λ reads are none.
 pub returns-clause-typing : goal.returns-clause-typing
 returns-clause-typing c =
     let b = c.args.buffer.now in
-    let t = c.requires.tools in
-    let r = reads_there b.grove.spec (λ entry within text. each-text b.grove.spec t.sound c.args.tools.now.lexemes.now t.lexemes
-    c.args.tools.now.tables.now t.grammar c.sound.ensures c.decided.ensures entry within text) in
+    let t = c.requires.input in
+    let r = reads_there b.grove.spec (λ entry within text. each-text b.grove.spec c.sound-2.ensures c.args.input.now.lexemes.now t.lexemes
+    c.args.input.now.tables.now t.grammar c.sound.ensures c.decided.ensures entry within text) in
     let kept = turn_kept b.grove.spec b.height c.args.clip.now (state_of b) c.requires.typing c.requires.clip r.0
     (copied_fits b c.facts.ensures) c.args.command.now in
     typing_of (turn_of b r.0 c.args.clip.now c.args.command.now) b c.turned.new.buffer c.args.clip.now c.turned.new.clip
@@ -40,9 +40,9 @@ returns-clause-typing c =
 pub returns-clause-fits : goal.returns-clause-fits
 returns-clause-fits c =
     let b = c.args.buffer.now in
-    let t = c.requires.tools in
-    let r = reads_there b.grove.spec (λ entry within text. each-text b.grove.spec t.sound c.args.tools.now.lexemes.now t.lexemes
-    c.args.tools.now.tables.now t.grammar c.sound.ensures c.decided.ensures entry within text) in
+    let t = c.requires.input in
+    let r = reads_there b.grove.spec (λ entry within text. each-text b.grove.spec c.sound-2.ensures c.args.input.now.lexemes.now t.lexemes
+    c.args.input.now.tables.now t.grammar c.sound.ensures c.decided.ensures entry within text) in
     let kept = turn_kept b.grove.spec b.height c.args.clip.now (state_of b) c.requires.typing c.requires.clip r.0
     (copied_fits b c.facts.ensures) c.args.command.now in
     fits_of (turn_of b r.0 c.args.clip.now c.args.command.now) b c.turned.new.buffer c.args.clip.now c.turned.new.clip

@@ -15,7 +15,7 @@ use Rattle.sg_states.specs.States.{selected_place}
 use Rattle.sg_buffer.specs.Held.{state_of}
 use Rattle.sg_commands.specs.Turns.{selected_term}
 use Rattle.sg_commands.proofs.Choosing.{live_here}
-use Rattle.sg_unparse.specs.Sheet.{told}
+use Rattle.sg_unparse.specs.Sheet.{as_region}
 use Rattle.sg_editor.specs.Screen.{region_of_run, shown_in, view_shown}
 use Rattle.sg_editor.proofs.Printed.{named_view}
 use Rattle.sg_editor.proofs.screens.head.Goals as goal
@@ -53,7 +53,7 @@ returns c =
     let name : c.as_slice-3.result.now ≡ phylum_name spec.phyla (phylum_in spec (selected_term st)) =
     c.as_slice-3.ensures ∙ sym (ap (λ (o : Option Phylum). unwrap_or (option_map (λ (x : Phylum). x.name) o) []) c.item.ensures)
     ∙ (λ i. phylum_name (phyla i) (number i)) in
-    let region : told c.selected_region.result ≡ region_of_run (shown_in spec st) u st.spot.selection.count =
+    let region : as_region c.selected_region.result ≡ region_of_run (shown_in spec st) u st.spot.selection.count =
     c.selected_region.ensures ∙ ap (λ (sp : Spec). region_of_run (shown_in sp st) u st.spot.selection.count) c.requires.over.spec_is in
     let views : c.view.result ≡ st.spot.view = c.view.ensures ∙ ap (λ (g : Grove). g.view) c.terms-terms.ensures ∙ c.facts.ensures.view in
     λ i. record { name = c.as_slice.ensures i; view = named_view c.view_shown.result (λ x. x.now) _ _ c.view_shown.ensures (λ j. view_shown (c.spec-spec.ensures.spec j) (views j)) i; region = region i; phylum = name i; count = c.count.ensures i; top = c.top.ensures i; ev = c.args.ev; message = c.args.message }

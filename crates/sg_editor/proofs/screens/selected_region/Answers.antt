@@ -2,7 +2,7 @@ use Rattle.std.specs.Prelude.{Option, unwrap_or}
 use Rattle.std.proofs.Common.{◌≡◌, sym, ap, ◌∙◌, subst}
 use Rattle.sg_groves.specs.Grove.{Grove}
 use Rattle.sg_unparse.specs.Page.{Region as RegionOf, region_of}
-use Rattle.sg_unparse.specs.Sheet.{told}
+use Rattle.sg_unparse.specs.Sheet.{as_region}
 use Rattle.sg_states.specs.States.{selected_place}
 use Rattle.sg_buffer.specs.Held.{state_of}
 use Rattle.sg_commands.proofs.Choosing.{live_here}
@@ -17,7 +17,7 @@ returns-then-count-eq1 c =
     let u = selected_place st in
     let marks = shown_in b.grove.spec st in
     let tells = regions_shown b c.facts.ensures c.args.page.now c.requires.page in
-    ap told c.unwrap_or-first.ensures ∙ told_or c.region.result
+    ap as_region c.unwrap_or-first.ensures ∙ told_or c.region.result
     ∙ ap (λ (o : Option RegionOf). unwrap_or o page_begin) (c.region.ensures ∙ tells u c.selected-n.result c.selected-n.ensures.place)
     ∙ sym (one_region marks u st.spot.selection.count (sym c.count-count.ensures ∙ c.if-count-eq1.true))
 
@@ -39,12 +39,12 @@ returns-in-Some c =
     let tells = regions_shown b c.facts.ensures c.args.page.now c.requires.page in
     let same = c.terms-terms.ensures in
     let spine = spine_there b c.facts.ensures c.terms-terms.result.now same c.selected-n.result c.selected-n.ensures.place c.in-Some.spine c.in-Some.ensures.live c.in-Some.ensures.leads in
-    let first : told c.unwrap_or-first.result ≡ unwrap_or (region_of marks u) page_begin =
-    ap told c.unwrap_or-first.ensures ∙ told_or c.region.result
+    let first : as_region c.unwrap_or-first.result ≡ unwrap_or (region_of marks u) page_begin =
+    ap as_region c.unwrap_or-first.ensures ∙ told_or c.region.result
     ∙ ap (λ (o : Option RegionOf). unwrap_or o page_begin) (c.region.ensures ∙ tells u c.selected-n.result c.selected-n.ensures.place) in
     let among = c.last_region.ensures b.root marks spine.place (subst (λ (g : Grove). TellsRegions g b.root c.args.page.now marks) (sym same) tells) spine.way in
-    let last : told c.unwrap_or-last.result ≡ unwrap_or (last_region marks (run_from st.spot.selection.count u)) page_begin =
-    ap told c.unwrap_or-last.ensures ∙ told_or c.last_region.result
+    let last : as_region c.unwrap_or-last.result ≡ unwrap_or (last_region marks (run_from st.spot.selection.count u)) page_begin =
+    ap as_region c.unwrap_or-last.ensures ∙ told_or c.last_region.result
     ∙ ap (λ (o : Option RegionOf). unwrap_or o page_begin) (among ∙ (λ i. last_region marks (run_from (c.count-count.ensures i) (sym spine.is i)))) in
     λ i. record { first = (first i).first; last = (last i).last }
 
@@ -55,6 +55,6 @@ returns-in-None c =
     let u = selected_place st in
     let marks = shown_in b.grove.spec st in
     let tells = regions_shown b c.facts.ensures c.args.page.now c.requires.page in
-    ap told c.unwrap_or-first.ensures ∙ told_or c.region.result
+    ap as_region c.unwrap_or-first.ensures ∙ told_or c.region.result
     ∙ ap (λ (o : Option RegionOf). unwrap_or o page_begin) (c.region.ensures ∙ tells u c.selected-n.result c.selected-n.ensures.place)
     ∙ sym (one_region marks u st.spot.selection.count (alone_there b c.facts.ensures c.terms-terms.result.now c.terms-terms.ensures c.selected-n.result c.selected-n.ensures.place c.in-None.ensures.leads))

@@ -1,5 +1,5 @@
 use Rattle.std.proofs.Common.{◌≡◌, ℕ, ◌<◌}
-use Rattle.sg_patterns.specs.Programs.{flag_at}
+use Rattle.sg_patterns.specs.Flags.{flag_at}
 use Rattle.sg_patterns.proofs.failures.copy.Given as goal
 
 abbrev pub invariant-loop-k : goal.invariant-loop-k

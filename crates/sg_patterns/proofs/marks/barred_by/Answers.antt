@@ -3,7 +3,8 @@ use Rattle.std.specs.Prelude.{not}
 use Rattle.std.specs.Bool.{OnFalse}
 use Rattle.std.proofs.lemmas.Bool.{not-true}
 use Rattle.sg_patterns.specs.Marks.{IsDead}
-use Rattle.sg_patterns.specs.Programs.{flag_at, IsBarred}
+use Rattle.sg_patterns.specs.Flags.{flag_at}
+use Rattle.sg_patterns.specs.Programs.{IsBarred}
 use Rattle.sg_patterns.proofs.Barring.{dead-barred, barred-more}
 use Rattle.sg_patterns.proofs.marks.barred_by.Goals as goal
 

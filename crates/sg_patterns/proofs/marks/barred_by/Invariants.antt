@@ -1,6 +1,7 @@
 use Rattle.std.proofs.Common.{◌≡◌, ℕ, length, true}
 use Rattle.sg_kinds.specs.Lexemes.{Lexeme}
-use Rattle.sg_patterns.specs.Programs.{flag_at, IsBarred, IsProgram}
+use Rattle.sg_patterns.specs.Flags.{flag_at}
+use Rattle.sg_patterns.specs.Programs.{IsBarred, IsProgram}
 use Rattle.sg_patterns.proofs.marks.barred_by.Given as goal
 
 abbrev pub invariant-loop-byte : goal.invariant-loop-byte

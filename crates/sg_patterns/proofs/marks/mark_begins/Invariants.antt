@@ -1,6 +1,6 @@
 use Rattle.std.proofs.Common.{◌≡◌, ℕ, ◌<◌, ◌≤◌, length}
 use Rattle.sg_patterns.specs.Marks.{begin_value}
-use Rattle.sg_patterns.specs.Programs.{flag_at}
+use Rattle.sg_patterns.specs.Flags.{flag_at}
 use Rattle.sg_patterns.proofs.marks.mark_begins.Given as goal
 
 abbrev pub invariant-loop-k : goal.invariant-loop-k

@@ -4,7 +4,7 @@ use Rattle.sg_kinds.specs.Places.{place_of, places_from}
 use Rattle.sg_forest.specs.declared.node_id.NodeId.{NodeId}
 use Rattle.sg_forest.specs.Trees.{room_below}
 use Rattle.sg_build.proofs.Told.{kids_in, the_term}
-use Rattle.sg_shown.specs.At.{IsAt}
+use Rattle.sg_printing.specs.At.{IsAt}
 use Rattle.sg_report.specs.Lines.{of_these, lines_at}
 use Rattle.sg_report.proofs.Walking.{rest_of}
 use Rattle.sg_report.proofs.lines.+write_below.Given as goal

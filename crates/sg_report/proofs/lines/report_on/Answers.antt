@@ -2,7 +2,7 @@ use Rattle.std.proofs.Common.{◌≡◌, ◌++◌, ◌-◌, ◌^◌, ℕ, List, 
 use Rattle.sg_kinds.specs.Places.{place_of, places_from, places_in}
 use Rattle.sg_kinds.specs.Terms.{Term}
 use Rattle.sg_forest.specs.declared.node_id.NodeId.{NodeId}
-use Rattle.sg_shown.specs.At.{IsAt}
+use Rattle.sg_printing.specs.At.{IsAt}
 use Rattle.sg_report.specs.Lines.{of_these, lines_at, last_line}
 use Rattle.sg_report.proofs.Walking.{few, places_count, last_written}
 use Rattle.sg_report.proofs.lines.report_on.Goals as goal

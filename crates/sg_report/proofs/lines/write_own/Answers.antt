@@ -1,7 +1,7 @@
 use Rattle.std.proofs.Common.{◌≡◌, ◌++◌, ap, ◌∙◌, subst, arith}
 use Rattle.sg_kinds.specs.Fits.{Fits}
 use Rattle.sg_pool.specs.Pools.{value_at}
-use Rattle.sg_shown.proofs.Texts.{at_holds, at_live}
+use Rattle.sg_printing.proofs.Texts.{at_holds, at_live}
 use Rattle.sg_report.specs.Lines.{printed}
 use Rattle.sg_report.proofs.Own.{no_count, no_text, own_number, own_count, own_text}
 use Rattle.sg_report.proofs.lines.write_own.Goals as goal

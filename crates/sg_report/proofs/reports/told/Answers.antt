@@ -5,9 +5,9 @@ use Rattle.sg_kinds.specs.Specification.{attrs_of, rules_of}
 use Rattle.sg_kinds.specs.declared.spec.Spec.{Spec}
 use Rattle.sg_eval.specs.Journal.{now_of}
 use Rattle.sg_terms.specs.Entries.{GainedAll}
-use Rattle.sg_turns.specs.Noted.{Noted}
+use Rattle.sg_exchanges.specs.Noted.{Noted}
 use Rattle.sg_load.specs.Loaded.{Contents}
-use Rattle.sg_shown.specs.At.{IsAt}
+use Rattle.sg_printing.specs.At.{IsAt}
 use Rattle.sg_report.specs.Lines.{equations, report_on}
 use Rattle.sg_report.specs.declared.answers.Report.{Report}
 use Rattle.sg_report.proofs.Counted.{each_rose, some_rose}

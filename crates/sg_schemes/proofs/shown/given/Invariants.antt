@@ -1,6 +1,6 @@
 use Rattle.std.proofs.Common.{◌≡◌, drop}
 use Rattle.sg_ast.specs.View.{trees_of}
-use Rattle.sg_schemes.specs.Shown.{give_all, given}
+use Rattle.sg_schemes.specs.ShownFlags.{give_all, given}
 use Rattle.sg_schemes.proofs.shown.given.Given as goal
 
 abbrev pub invariant-loop-decl : goal.invariant-loop-decl

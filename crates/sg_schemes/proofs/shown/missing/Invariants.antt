@@ -1,5 +1,5 @@
 use Rattle.std.proofs.Common.{◌≡◌, drop}
-use Rattle.sg_schemes.specs.Shown.{missing_from}
+use Rattle.sg_schemes.specs.ShownFlags.{missing_from}
 use Rattle.sg_schemes.proofs.shown.missing.Given as goal
 
 abbrev pub invariant-loop-k : goal.invariant-loop-k

@@ -1,5 +1,5 @@
 use Rattle.std.proofs.Common.{◌≡◌, drop}
-use Rattle.sg_schemes.specs.Shown.{pass}
+use Rattle.sg_schemes.specs.ShownFlags.{pass}
 use Rattle.sg_schemes.proofs.shown.pass.Given as goal
 
 abbrev pub invariant-loop-operator : goal.invariant-loop-operator

@@ -1,5 +1,5 @@
 use Rattle.std.proofs.Common.{◌-◌, List, Bool, ap, ◌∙◌, sym, arith}
-use Rattle.sg_schemes.specs.Shown.{pass}
+use Rattle.sg_schemes.specs.ShownFlags.{pass}
 use Rattle.sg_schemes.proofs.Flags.{passes_more, passes_end, passes_same}
 use Rattle.sg_schemes.proofs.shown.passes.Goals as goal
 

@@ -1,5 +1,5 @@
 use Rattle.std.proofs.Common.{◌≡◌, ◌-◌}
-use Rattle.sg_schemes.specs.Shown.{passes}
+use Rattle.sg_schemes.specs.ShownFlags.{passes}
 use Rattle.sg_schemes.proofs.shown.passes.Given as goal
 
 abbrev pub invariant-loop-round : goal.invariant-loop-round

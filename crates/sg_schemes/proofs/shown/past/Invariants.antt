@@ -1,6 +1,6 @@
 use Rattle.std.proofs.Common.{◌≡◌, ◌≤◌, ◌^◌, drop}
 use Rattle.std.specs.Prelude.{max}
-use Rattle.sg_schemes.specs.Shown.{past}
+use Rattle.sg_schemes.specs.ShownFlags.{past}
 use Rattle.sg_schemes.proofs.shown.past.Given as goal
 
 abbrev pub invariant-loop-phylum : goal.invariant-loop-phylum

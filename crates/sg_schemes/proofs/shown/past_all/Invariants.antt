@@ -1,6 +1,6 @@
 use Rattle.std.proofs.Common.{◌≡◌, ◌≤◌, ◌^◌, drop}
 use Rattle.std.specs.Prelude.{max}
-use Rattle.sg_schemes.specs.Shown.{past_all}
+use Rattle.sg_schemes.specs.ShownFlags.{past_all}
 use Rattle.sg_schemes.proofs.shown.past_all.Given as goal
 
 abbrev pub invariant-loop-operator : goal.invariant-loop-operator

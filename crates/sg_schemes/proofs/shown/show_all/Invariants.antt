@@ -1,5 +1,5 @@
 use Rattle.std.proofs.Common.{◌≡◌, drop}
-use Rattle.sg_schemes.specs.Shown.{show_all}
+use Rattle.sg_schemes.specs.ShownFlags.{show_all}
 use Rattle.sg_schemes.proofs.shown.show_all.Given as goal
 
 abbrev pub invariant-loop-p : goal.invariant-loop-p

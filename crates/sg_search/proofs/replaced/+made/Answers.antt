@@ -3,7 +3,7 @@ use Rattle.std.specs.Prelude.{false, ◌≡◌}
 use Rattle.std.proofs.lemmas.Bool.{false≢true}
 use Rattle.std.proofs.lemmas.Result.{err_from_is_err_and}
 use Rattle.sg_kinds.specs.Terms.{Term}
-use Rattle.sg_terms.specs.Told.{elided_of, scheme_of}
+use Rattle.sg_terms.specs.Labels.{elided_of, scheme_of}
 use Rattle.sg_groves.proofs.Held.{held_fits}
 use Rattle.sg_build.proofs.Told.{leaf_term, opened, the_term, told_only}
 use Rattle.sg_matching.specs.Refusal.{IsRefused}

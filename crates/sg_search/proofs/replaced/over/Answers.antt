@@ -1,7 +1,7 @@
 use Rattle.std.proofs.Common.{◌∙◌, subst}
 use Rattle.sg_kinds.specs.Terms.{Node, kids_of}
 use Rattle.sg_select.specs.Around.{kids}
-use Rattle.sg_terms.specs.Told.{elided_of, scheme_of}
+use Rattle.sg_terms.specs.Labels.{elided_of, scheme_of}
 use Rattle.sg_search.specs.Found.{applies_to}
 use Rattle.sg_search.specs.Made.{AreMade}
 use Rattle.sg_search.specs.ReplacedAll.{fault_to, made_to}

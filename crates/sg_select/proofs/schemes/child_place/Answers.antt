@@ -1,13 +1,5 @@
-use Rattle.std.proofs.Common.{ap, ◌∙◌}
-use Rattle.std.specs.Prelude.{slice_get, unwrap_or}
-use Rattle.sg_kinds.specs.declared.marks.ChildPlace.TheVariants.{Hidden}
-use Rattle.sg_groves.specs.Grove.{spec_shown}
-use Rattle.sg_unparse.specs.Unparsed.{child_places}
-use Rattle.sg_select.proofs.Schemed.{place_is, place_none}
+use Rattle.std.proofs.Common.{◌∙◌}
 use Rattle.sg_select.proofs.schemes.child_place.Goals as goal
 
-pub returns-in-Some : goal.returns-in-Some
-returns-in-Some c = λ t h. c.place_in.ensures ∙ ap (λ l. unwrap_or (slice_get (child_places l) c.args.k) Hidden) c.as_slice.ensures ∙ place_is (spec_shown c.args.terms.now) t c.args.k c.in-Some.scheme.now (c.in-Some.ensures t h)
-
-pub returns-in-None : goal.returns-in-None
-returns-in-None c = λ t h. place_none (spec_shown c.args.terms.now) t c.args.k (c.in-None.ensures t h)
+pub returns : goal.returns
+returns c = λ t h. c.place_in.ensures ∙ c.items_of.ensures t h c.args.k

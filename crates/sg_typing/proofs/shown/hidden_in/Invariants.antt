@@ -1,6 +1,6 @@
 use Rattle.std.proofs.Common.{◌≡◌, drop}
 use Rattle.sg_ast.specs.FirstFault.{first}
-use Rattle.sg_typing.specs.Shown.{hidden_item}
+use Rattle.sg_typing.specs.ShownTypes.{hidden_item}
 use Rattle.sg_typing.proofs.shown.hidden_in.Given as goal
 
 abbrev pub invariant-loop-item : goal.invariant-loop-item

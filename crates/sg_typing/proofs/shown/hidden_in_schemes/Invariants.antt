@@ -1,6 +1,6 @@
 use Rattle.std.proofs.Common.{◌≡◌, drop}
 use Rattle.sg_ast.specs.FirstFault.{first}
-use Rattle.sg_typing.specs.Shown.{hidden_scheme}
+use Rattle.sg_typing.specs.ShownTypes.{hidden_scheme}
 use Rattle.sg_typing.proofs.shown.hidden_in_schemes.Given as goal
 
 abbrev pub invariant-loop-scheme : goal.invariant-loop-scheme

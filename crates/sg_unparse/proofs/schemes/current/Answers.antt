@@ -2,7 +2,7 @@ use Rattle.std.proofs.Common.{sym, ap, ◌∙◌, subst}
 use Rattle.std.specs.Prelude.{◌≡◌, Option, Some, None, MatchOption}
 use Rattle.sg_kinds.specs.declared.spec.Scheme.{Scheme}
 use Rattle.sg_groves.specs.Grove.{spec_shown}
-use Rattle.sg_unparse.specs.Shown.{scheme_of}
+use Rattle.sg_unparse.specs.Printing.{scheme_of}
 use Rattle.sg_unparse.proofs.Schemed.{current_in, current_none}
 use Rattle.sg_unparse.proofs.Viewed.{as_shown}
 use Rattle.sg_unparse.proofs.schemes.current.Goals as goal

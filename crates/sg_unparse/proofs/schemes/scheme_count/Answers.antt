@@ -1,6 +1,6 @@
 use Rattle.std.proofs.Common.{sym, ap, ◌∙◌}
 use Rattle.sg_groves.specs.Grove.{spec_shown}
-use Rattle.sg_unparse.specs.Shown.{count_of}
+use Rattle.sg_unparse.specs.Printing.{count_of}
 use Rattle.sg_unparse.proofs.Schemed.{count_in, count_none}
 use Rattle.sg_unparse.proofs.Viewed.{as_shown}
 use Rattle.sg_unparse.proofs.schemes.scheme_count.Goals as goal

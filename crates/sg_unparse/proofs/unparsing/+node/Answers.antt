@@ -10,7 +10,7 @@ use Rattle.sg_kinds.specs.declared.spec.Piece.{Piece}
 use Rattle.sg_kinds.specs.declared.spec.Spec.{Spec}
 use Rattle.sg_unparse.specs.Along.{node_along, items_in, kids_in, content_in}
 use Rattle.sg_unparse.specs.Cells.{goes_on, pieces}
-use Rattle.sg_unparse.specs.Shown.{scheme_of}
+use Rattle.sg_unparse.specs.Printing.{scheme_of}
 use Rattle.sg_unparse.specs.Written.{Wrote}
 use Rattle.sg_groves.specs.Grove.{spec_shown}
 use Rattle.sg_groves.specs.Holds.{Holds}

@@ -7,7 +7,7 @@ use Rattle.sg_groves.specs.Grove.{spec_shown}
 use Rattle.sg_groves.specs.Holds.{Holds}
 use Rattle.sg_unparse.specs.Along.{node_along, own_in}
 use Rattle.sg_unparse.specs.Cells.{plain}
-use Rattle.sg_unparse.specs.Shown.{value_text}
+use Rattle.sg_unparse.specs.Printing.{value_text}
 use Rattle.sg_unparse.specs.Written.{Wrote}
 use Rattle.sg_unparse.proofs.Placed.{leaf_number, leaf_of, term_op}
 use Rattle.sg_unparse.proofs.Viewed.{text_in_view}

@@ -8,7 +8,7 @@ use Rattle.sg_pool.specs.Pools.{value_at}
 use Rattle.sg_groves.specs.Grove.{spec_shown}
 use Rattle.sg_unparse.specs.Along.{node_along, stored}
 use Rattle.sg_unparse.specs.Cells.{plain, reference}
-use Rattle.sg_unparse.specs.Shown.{value_text}
+use Rattle.sg_unparse.specs.Printing.{value_text}
 use Rattle.sg_unparse.specs.Written.{Wrote}
 use Rattle.sg_unparse.proofs.Placed.{occurrence_stored, number_there, value_is}
 use Rattle.sg_unparse.proofs.Viewed.{text_in_view}

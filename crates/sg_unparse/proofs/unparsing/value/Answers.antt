@@ -2,7 +2,7 @@ use Rattle.std.proofs.Common.{◌≡◌, ◌++◌, ap, ◌∙◌, subst}
 use Rattle.sg_kinds.specs.declared.spec.Spec.{Spec}
 use Rattle.sg_pool.specs.Pools.{value_at}
 use Rattle.sg_unparse.specs.Cells.{plain}
-use Rattle.sg_unparse.specs.Shown.{value_text}
+use Rattle.sg_unparse.specs.Printing.{value_text}
 use Rattle.sg_unparse.specs.Written.{Wrote}
 use Rattle.sg_unparse.proofs.unparsing.value.Goals as goal
 

@@ -1,7 +1,5 @@
-use Rattle.std.proofs.Common.{◌≡◌, List, ◌∷◌, [], ◌++◌, map, take, sym, ap, ◌∙◌, arith}
+use Rattle.std.proofs.Common.{◌≡◌, ◌∷◌, [], ◌++◌, map, take, sym, ap, ◌∙◌, arith}
 use Rattle.std.proofs.lemmas.List.{map_more, take_all}
-use Rattle.sg_kinds.specs.Values.{Bytes}
-use Rattle.sg_kinds.specs.declared.spec.Scheme.{Scheme}
 use Rattle.sg_ast.specs.View.{trees_of}
 use Rattle.sg_views.specs.Views.{row_of}
 use Rattle.sg_views.proofs.ViewRows.{views_made}

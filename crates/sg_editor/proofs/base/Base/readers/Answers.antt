@@ -1,6 +1,4 @@
 use Rattle.std.proofs.Common.{subst}
-use Rattle.sg_editor.specs.declared.base.Base.TheInside.{Inside}
-use Rattle.sg_lalr.specs.Tables.{Decided, IsTables}
 use Rattle.sg_editor.specs.Ask.{AreReaders, Readers}
 use Rattle.sg_editor.specs.Editing.{Setting}
 use Rattle.sg_editor.proofs.Telling.{readers_there}
@@ -8,8 +6,7 @@ use Rattle.sg_editor.proofs.base.Base.readers.Goals as goal
 
 pub returns : goal.returns
 returns c =
-    let l = c.self.inside.loaded in
-    let tables = subst (λ (x : Inside). IsTables x.loaded.tables) c.self-inside.view_is c.sound.ensures in
-    let decided = subst (λ (x : Inside). Decided x.loaded.tables) c.self-inside.view_is c.decided.ensures in
+    let b = c.self.inside in
+    let l = c.self.invariant.0 in
     subst (λ (s : Setting). (r : Readers) × AreReaders s.contents.spec r) c.self.view_is
-    (readers_there l.spec c.facts.ensures.sound l.lexemes c.facts.ensures.lexemes l.tables c.facts.ensures.tables tables decided)
+    (readers_there b.attribution.value.spec l.sound b.lexemes l.lexemes b.tables l.tables c.sound.ensures c.decided.ensures)

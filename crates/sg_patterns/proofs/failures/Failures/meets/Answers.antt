@@ -1,7 +1,7 @@
 use Rattle.std.proofs.Common.{◌≡◌, ◌<◌, length, ap, arith, refl, sym, subst, ◌∙◌}
 use Rattle.std.specs.Vec.{with_items}
 use Rattle.std.proofs.lemmas.List.{with_items_is}
-use Rattle.sg_patterns.specs.Programs.{flag_at}
+use Rattle.sg_patterns.specs.Flags.{flag_at}
 use Rattle.sg_patterns.proofs.Failing.{kept-spent, kept-more}
 use Rattle.sg_patterns.proofs.failures.Failures.meets.Goals as goal
 

@@ -1,6 +1,6 @@
 use Rattle.std.proofs.Common.{◌≡◌, [], ap, sym, ◌∙◌}
 use Rattle.sg_patterns.specs.Trees.{empty_of}
-use Rattle.sg_patterns.specs.Programs.{flag_at}
+use Rattle.sg_patterns.specs.Flags.{flag_at}
 use Rattle.sg_patterns.proofs.Matching.{empty-matches, matches-empty}
 use Rattle.sg_patterns.proofs.LongestSoFar.{empty-flag}
 use Rattle.sg_patterns.proofs.program.Program.matches_empty.Goals as goal

@@ -5,7 +5,7 @@ use Rattle.sg_forest.proofs.Laws.{KeepsTreesWithout-part_set}
 use Rattle.sg_groves.specs.Grove.{Grove}
 use Rattle.sg_groves.specs.Holds.{Holds}
 use Rattle.sg_terms.specs.Kept.{ChangesTerms}
-use Rattle.sg_terms.specs.Told.{with_scheme}
+use Rattle.sg_terms.specs.Labels.{with_scheme}
 use Rattle.sg_terms.proofs.Moved.{Holds-stays}
 use Rattle.sg_terms.proofs.Steps.{grove}
 use Rattle.sg_terms.proofs.Written.{op_there, IsGrove-marked, numbers_marked, Holds-marked}

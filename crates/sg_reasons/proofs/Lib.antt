@@ -1,0 +1,4 @@
+pub mod Causes
+pub mod Chains
+pub mod Dependencies
+pub mod Steps
