@@ -17,7 +17,7 @@ use Rattle.sg_names.specs.declared.table.Table.{Table}
 use Rattle.sg_types.specs.Bindings.{Owner, OfProduction, OfNothing}
 use Rattle.sg_types.specs.Expressions.{params_in, prefix_type, type_in}
 use Rattle.sg_types.specs.Patterns.{is_operator_of, parts_of, variables_of}
-use Rattle.sg_types.specs.Types.{do_agree, fits_where, list_of, unless, untyped}
+use Rattle.sg_types.specs.Types.{do_agree, fits_where, list_of, unless}
 use Rattle.sg_types.specs.declared.scope.Variable as vars
 use Rattle.sg_typing.specs.Bodies.{equation_owner, operator, parameter, result_type, target_type}
 use Rattle.sg_typing.specs.Mismatches as all
@@ -31,9 +31,9 @@ listed_places : (b : Bool) (m : Mistyped) → places (listed b m) ≡ all.listed
 listed_places true m = refl
 listed_places false m = refl
 
-atom_places : (found : Option ℕ) (place : Position) → places (of_atom found place) ≡ all.listed (untyped found place)
-atom_places None place = refl
-atom_places (Some p) place = refl
+atom_places : (found : Option Position) → places (of_atom found) ≡ all.listed found
+atom_places None = refl
+atom_places (Some place) = refl
 
 both : (xs ys : List Mistyped) (us vs : List Position) → places xs ≡ us → places ys ≡ vs → places (xs ++ ys) ≡ us ++ vs
 both xs ys us vs e f = map-append (λ (m : Mistyped). m.place) xs ys ∙ (λ i. e i ++ f i)
@@ -101,10 +101,10 @@ module _ (t : Table) where
       expr_places vs (Amount n place) = refl
       expr_places vs (Chars s) = refl
       expr_places vs (Truth b place) = refl
-      expr_places vs (Variable n) = atom_places _ _
-      expr_places vs (Attribute r) = atom_places _ _
-      expr_places vs (Remote r) = atom_places _ _
-      expr_places vs (MadeOf made n place) = atom_places _ _
+      expr_places vs (Variable n) = atom_places _
+      expr_places vs (Attribute r) = atom_places _
+      expr_places vs (Remote r) = atom_places _
+      expr_places vs (MadeOf made n place) = atom_places _
       expr_places vs (Paren a place) = expr_places vs a
       expr_places vs (Single f a place) = here_places t (Some (prefix_type f)) (type_in t w vs a) (expr_place a) (of_expr t w vs a) (all.of_expr t w vs a) (expr_places vs a)
       expr_places vs (Binary s a b) = infix_places (type_in t w vs a) (type_in t w vs b) (expr_place a) (expr_place b) (of_expr t w vs a) (of_expr t w vs b) (all.of_expr t w vs a) (all.of_expr t w vs b) (expr_places vs a) (expr_places vs b) s

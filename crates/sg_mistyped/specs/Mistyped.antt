@@ -1,6 +1,6 @@
 -- All mismatches, each with the type that is wanted and the one that is there, in the order of the text: that of an
 -- expression or pattern stands before those inside it.
-use Rattle.std.specs.Prelude.{ℕ, Bool, if◌then◌else◌, List, [], ◌∷◌, ◌++◌, map, flat_map, Option, Some, None, is_some, option_and_then}
+use Rattle.std.specs.Prelude.{ℕ, Bool, if◌then◌else◌, List, [], ◌∷◌, ◌++◌, map, flat_map, Option, Some, None, option_and_then}
 use Rattle.sg_kinds.specs.Specification.{truths, numbers, texts, phylum_of}
 use Rattle.sg_kinds.specs.declared.fault.Position.{Position}
 use Rattle.sg_ast.specs.Chains.{expr_place}
@@ -15,7 +15,7 @@ use Rattle.sg_names.specs.Lookups.{callable, phylum_named, usable_named}
 use Rattle.sg_names.specs.Names.{op_named}
 use Rattle.sg_names.specs.declared.table.Table.{Table}
 use Rattle.sg_types.specs.Bindings.{Owner, OfProduction, OfNothing}
-use Rattle.sg_types.specs.Expressions.{params_in, prefix_type, taken, type_in}
+use Rattle.sg_types.specs.Expressions.{mismatch_in, params_in, prefix_type, taken, type_in}
 use Rattle.sg_types.specs.Patterns.{is_operator_of, is_wanted, parts_of, takes_texts, variables_of}
 use Rattle.sg_types.specs.Types.{do_agree, fits_where, list_of}
 use Rattle.sg_types.specs.declared.scope.Variable.{Variable}
@@ -43,9 +43,10 @@ abbrev pub and_here : Table → Option ℕ → Option ℕ → Position → List 
 and_here t wanted found place inside =
     listed (fits_where t wanted found) (record { place = place; wanted = one wanted; found = found }) ++ inside
 
--- of an expression without parts: a type is wanted
-abbrev pub of_atom : Option ℕ → Position → List Mistyped
-of_atom found place = listed (is_some found) (record { place = place; wanted = Any; found = None })
+-- of an expression without parts: one type is wanted
+abbrev pub of_atom : Option Position → List Mistyped
+of_atom None = []
+of_atom (Some place) = record { place = place; wanted = Any; found = None } ∷ []
 
 -- of patterns
 abbrev mutual
@@ -107,7 +108,7 @@ abbrev mutual
       let us = vs ++ variables_of t q (type_in t w vs a) in
       of_expr t w vs a ++ (of_pattern t q (type_in t w vs a)
       ++ (of_expr t w us b ++ of_cases t w vs (type_in t w vs a) (type_in t w us b) cs))
-  of_expr t w vs e = of_atom (type_in t w vs e) (expr_place e)
+  of_expr t w vs e = of_atom (mismatch_in t w vs e)
 
   pub of_exprs : Table → Owner → List Variable → Exprs → List ℕ → List Mistyped
   of_exprs t w vs (AndExpr e es) (p ∷ ps) =

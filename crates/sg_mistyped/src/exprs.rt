@@ -5,7 +5,7 @@ ghost use Rattle.sg_ast.specs.Expressions as plain;
 ghost use Rattle.sg_ast.specs.View.{cases_of, expr_of, exprs_of, pattern_of};
 ghost use Rattle.sg_names.specs.Lookups.{builtin_param, params_of, result_of};
 ghost use Rattle.sg_names.specs.declared.table.Callable.TheVariants as callable;
-ghost use Rattle.sg_types.specs.Expressions.{type_in};
+ghost use Rattle.sg_types.specs.Expressions.{mismatch_in, type_in};
 ghost use Rattle.sg_types.specs.OwnersView.{owner_of};
 ghost use Rattle.sg_types.specs.Patterns.{variables_of};
 ghost use Rattle.sg_types.specs.Types.{list_of};
@@ -36,13 +36,13 @@ fn atom(
     ensures of { IfOk result (λ of. of ≡ type_in walk.now.names.now (owner_of walk.now.owner) scope.old (expr_of e.now)) }
     ensures scope { OnOk result (scope.new ≡ scope.old) }
     ensures found { OnOk result (found.new.items ≡ found.old.items
-        ++ spec.of_atom (type_in walk.now.names.now (owner_of walk.now.owner) scope.old (expr_of e.now))
-        (expr_place (expr_of e.now))) }
+        ++ spec.of_atom (mismatch_in walk.now.names.now (owner_of walk.now.owner) scope.old (expr_of e.now))) }
 {
     let typed = sg_types::expr::expr(walk, e, scope)?;
-    let of = typed.of;
-    add(found, of.is_some(), e.place(), Wanted::Any, None)?;
-    Ok(of)
+    if let Some(place) = typed.mismatch {
+        add(found, false, place, Wanted::Any, None)?;
+    }
+    Ok(typed.of)
 }
 
 // the types of the parameters of a function

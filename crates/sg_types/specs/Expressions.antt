@@ -13,6 +13,7 @@ use Rattle.sg_kinds.specs.declared.marks.Connective.TheVariants as connective
 use Rattle.sg_ast.specs.Chains.{expr_place, occurrence_place}
 use Rattle.sg_ast.specs.Expressions.{Expr, Exprs, Cases, Amount, Chars, Truth, Variable, Attribute, Remote, MadeOf, Paren, Single, Binary, Choice, Call, Let, With, NoExpr, AndExpr, NoCase, Default, Case}
 use Rattle.sg_ast.specs.FirstFault.{or_else}
+use Rattle.sg_ast.specs.declared.name.Remote as enclosing
 use Rattle.sg_ast.specs.declared.expr.Infix.{Infix}
 use Rattle.sg_ast.specs.declared.expr.Infix.TheVariants.{Or, And, Equal, Unequal, Below, AtMost, Above, AtLeast, Cons, Join, Add, Sub, Mul, Div, Rem}
 use Rattle.sg_ast.specs.declared.expr.Prefix.{Prefix}
@@ -51,15 +52,19 @@ abbrev pub called_type : Table → Option Callable → Option ℕ
 called_type t None = None
 called_type t (Some c) = look.result_of t c
 
--- the type of an expression, if its names mean something; the attributes that may be those of an enclosing node have
--- one type
+-- the one type of the attributes that a reference to enclosing nodes lists
+abbrev pub one_type : Table → Owner → enclosing.Remote → Option ℕ
+one_type t w r = if look.are_alike t r then type_there (remote_at t w r) else None
+
+-- the type of an expression, if its names mean something; a reference to enclosing nodes whose attributes have several
+-- types has that of the first
 abbrev pub type_in : Table → Owner → List scope.Variable → Expr → Option ℕ
 type_in t w vs (Amount n place) = Some numbers
 type_in t w vs (Chars s) = Some texts
 type_in t w vs (Truth b place) = Some truths
 type_in t w vs (Variable n) = type_there (variable_at t w vs n.text)
 type_in t w vs (Attribute r) = type_there (reference_at t w r)
-type_in t w vs (Remote r) = if look.are_alike t r then type_there (remote_at t w r) else None
+type_in t w vs (Remote r) = if look.are_alike t r then type_there (remote_at t w r) else look.first_type t r.pairs
 type_in t w vs (MadeOf made n place) = look.usable_named t n.text
 type_in t w vs (Paren a place) = type_in t w vs a
 type_in t w vs (Single f a place) = Some (prefix_type f)
@@ -102,8 +107,8 @@ abbrev pub surplus : Exprs → Position → Option Position
 surplus NoExpr place = None
 surplus (AndExpr e es) place = Some place
 
--- the first mismatch inside an expression; a name that means nothing is one, and a call with another number of
--- arguments
+-- the first mismatch inside an expression; a name that means nothing is one, a reference to enclosing nodes whose
+-- attributes have several types, and a call with another number of arguments
 abbrev mutual
   pub mismatch_in : Table → Owner → List scope.Variable → Expr → Option Position
   mismatch_in t w vs (Amount n place) = None
@@ -111,7 +116,7 @@ abbrev mutual
   mismatch_in t w vs (Truth b place) = None
   mismatch_in t w vs (Variable n) = untyped (type_in t w vs (Variable n)) n.place
   mismatch_in t w vs (Attribute r) = untyped (type_in t w vs (Attribute r)) (occurrence_place r.of)
-  mismatch_in t w vs (Remote r) = untyped (type_in t w vs (Remote r)) r.place
+  mismatch_in t w vs (Remote r) = untyped (one_type t w r) r.place
   mismatch_in t w vs (MadeOf made n place) = untyped (look.usable_named t n.text) place
   mismatch_in t w vs (Paren a place) = mismatch_in t w vs a
   mismatch_in t w vs (Single f a place) = where_wanted t (Some (prefix_type f)) (type_in t w vs a) (expr_place a)

@@ -25,7 +25,7 @@ use crate::pattern::pattern;
 use crate::scope::{Scope, Variable};
 use crate::types::{BOOL, INT, STR, earlier, phylum_or_none, untyped};
 use sg_ast::expr::{Cases, Expr, Exprs, Infix, Prefix};
-use sg_ast::name::{Name, Quoted, Reference, Remote};
+use sg_ast::name::{Name, Pair, Quoted, Reference, Remote};
 use sg_ast::pattern::Pattern;
 use sg_kinds::expr::{CaseList, ExprList, ExprTree};
 use sg_kinds::fault::Position;
@@ -99,21 +99,30 @@ fn attribute(walk: &Walk<'_>, reference: &Reference, scope: &Scope) -> Result<Fo
     named(binding, reference.of.place())
 }
 
-// attributes of several types: a term of no phylum
-fn unlike(names: &Names, place: Position) -> Result<Found, NoMemory>
+fn first_type(names: &Names, pairs: &[Pair]) -> Option<PhylumId>
+    ensures { result ≡ look.first_type names.now pairs.now }
+{
+    match pairs {
+        [first, ..] => names.pair_type(first),
+        [] => None,
+    }
+}
+
+// attributes of several types: a term of no phylum, and the type of the first
+fn unlike(names: &Names, remote: &Remote) -> Result<Found, NoMemory>
     ensures tree { IfOk result (λ f. view.expr_of f.tree ≡ kept.MadeOf Completing (length names.now.phyla)) }
-    ensures of { IfOk result (λ f. f.of ≡ None) }
-    ensures place { IfOk result (λ f. f.place ≡ place) }
-    ensures mismatch { IfOk result (λ f. f.mismatch ≡ Some place) }
+    ensures of { IfOk result (λ f. f.of ≡ look.first_type names.now remote.now.pairs) }
+    ensures place { IfOk result (λ f. f.place ≡ remote.now.place) }
+    ensures mismatch { IfOk result (λ f. f.mismatch ≡ Some remote.now.place) }
 {
     let Ok(number) = u32::try_from(names.table().phyla.len()) else {
         return Err(NoMemory);
     };
     Ok(Found {
         tree: ExprTree::Made(Made::Completing, PhylumId { number }),
-        of: None,
-        place,
-        mismatch: Some(place),
+        of: first_type(names, remote.pairs.as_slice()),
+        place: remote.place,
+        mismatch: Some(remote.place),
     })
 }
 
@@ -122,7 +131,7 @@ fn remote(walk: &Walk<'_>, remote: &Remote, scope: &Scope) -> Result<Found, NoMe
 {
     let _ = scope;
     if !walk.names.are_alike(remote) {
-        return unlike(walk.names, remote.place);
+        return unlike(walk.names, remote);
     }
     let binding = remote_at(walk.alloc, walk.names, &walk.owner, remote)?;
     named(binding, remote.place)

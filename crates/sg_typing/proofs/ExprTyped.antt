@@ -37,7 +37,7 @@ use Rattle.sg_types.specs.Scopes.{found, place_of}
 use Rattle.sg_types.specs.Bindings.{Owner, outside, behind, reference_at, remote_at, local_at, variable_at, type_there, place_there}
 use Rattle.sg_types.specs.Patterns.{variables_of, variables_of_all}
 use Rattle.sg_types.specs.Patterns as pattern
-use Rattle.sg_types.specs.Expressions.{type_in, mismatch_in, mismatch_in_all, mismatch_in_cases, recorded, recorded_all, recorded_cases, where_wanted, at_infix, given, infix_in, prefix_type, prefix_of, params_in, at_cons, pair_in, called_in, called_type}
+use Rattle.sg_types.specs.Expressions.{one_type, type_in, mismatch_in, mismatch_in_all, mismatch_in_cases, recorded, recorded_all, recorded_cases, where_wanted, at_infix, given, infix_in, prefix_type, prefix_of, params_in, at_cons, pair_in, called_in, called_type}
 use Rattle.sg_typing.specs.Written.{IsUsable, HasLists, AreOutside, IsCallable, AreCallable, is_builtin, known}
 use Rattle.sg_typing.proofs.RecordTyped.{unless_is, untyped_is, known-append, pattern_typed}
 
@@ -256,8 +256,9 @@ module _ (t : Table) (usable : IsUsable t) (lists : HasLists t) (calls : AreCall
   remote_typed S r p (Some x) e h = outer_typed S x p (out.remotes r x e) h
 
   alike_typed : (S : List ℕ) (r : enclosing.Remote) (p : ℕ) (b : Bool) → (if b then type_there (remote_at t w r) else None) ≡ Some p
-      → type_of (drafted t) (outer ++ S) (if b then kept.Named (place_there (remote_at t w r)) else kept.MadeOf Completing (length t.phyla)) ≡ Some p
-  alike_typed S r p true h = remote_typed S r p (remote_at t w r) refl h
+      → ((if b then type_there (remote_at t w r) else look.first_type t r.pairs) ≡ Some p)
+      × (type_of (drafted t) (outer ++ S) (if b then kept.Named (place_there (remote_at t w r)) else kept.MadeOf Completing (length t.phyla)) ≡ Some p)
+  alike_typed S r p true h = (h, remote_typed S r p (remote_at t w r) refl h)
   alike_typed S r p false h = cc
 
   pub variable_typed : (vs : List scope.Variable) (S : List ℕ) (n : Bytes) (p : ℕ) → known vs ≡ Some S → (a b : Option (ℕ × Option ℕ)) → local_at t w n ≡ a → found vs n ≡ b
@@ -278,8 +279,9 @@ module _ (t : Table) (usable : IsUsable t) (lists : HasLists t) (calls : AreCall
         let p = untyped_is (type_there (reference_at t w r)) (occurrence_place r.of) h in
         (p.0, p.1, reference_typed S r p.0 (reference_at t w r) refl p.1)
     expr_typed vs S (Remote r) k v h =
-        let p = untyped_is (type_in t w vs (Remote r)) r.place h in
-        (p.0, p.1, alike_typed S r p.0 (look.are_alike t r) p.1)
+        let p = untyped_is (one_type t w r) r.place h in
+        let x = alike_typed S r p.0 (look.are_alike t r) p.1 in
+        (p.0, x.0, x.1)
     expr_typed vs S (MadeOf made n place) k v h =
         let p = untyped_is (look.usable_named t n.text) place h in
         (p.0, p.1, made_typed t (outer ++ S) made p.0 (look.usable_named t n.text) p.1 (usable n.text p.0 p.1))

@@ -37,7 +37,7 @@ use Rattle.sg_types.specs.Scopes.{found}
 use Rattle.sg_types.specs.Bindings.{Owner, reference_at, remote_at, local_at, variable_at, type_there, place_there}
 use Rattle.sg_types.specs.Patterns.{variables_of}
 use Rattle.sg_types.specs.Patterns as pattern
-use Rattle.sg_types.specs.Expressions.{type_in, mismatch_in, mismatch_in_all, mismatch_in_cases, recorded, recorded_all, recorded_cases, where_wanted, at_infix, at_cons, sign_of, given, infix_at, infix_in, prefix_type, prefix_of, params_in, pair_in, called_in, called_type}
+use Rattle.sg_types.specs.Expressions.{one_type, type_in, mismatch_in, mismatch_in_all, mismatch_in_cases, recorded, recorded_all, recorded_cases, where_wanted, at_infix, at_cons, sign_of, given, infix_at, infix_in, prefix_type, prefix_of, params_in, pair_in, called_in, called_type}
 use Rattle.sg_typing.specs.Known.{HasFar}
 use Rattle.sg_typing.specs.Written.{IsUsable, AreOutside, IsCallable, AreCallable, is_builtin, known}
 use Rattle.sg_typing.proofs.PatternsFit.{Means, is_unless, then_parts, if_parts, both_none, pattern_fits}
@@ -289,11 +289,12 @@ module _ (t : Table) (usable : IsUsable t) (told : ListsTold t) (calls : AreCall
   -- attributes of enclosing nodes that have a type in the record
   remote_fits : (S : List ℕ) (r : enclosing.Remote) (q : ℕ) (b : Bool) → (b ≡ true → is_some (remote_at t w r) ≡ true)
       → type_of (drafted t) (outer ++ S) (if b then kept.Named (place_there (remote_at t w r)) else kept.MadeOf Completing (length t.phyla)) ≡ Some q
-      → (if b then type_there (remote_at t w r) else None) ≡ Some q
+      → ((if b then type_there (remote_at t w r) else None) ≡ Some q) × ((if b then type_there (remote_at t w r) else look.first_type t r.pairs) ≡ Some q)
   remote_fits S r q true m h =
       let x = far_there t w r (remote_at t w r) refl (m refl) in
       let there = remote_typed t usable told.lists calls w outer out S r x.0 (remote_at t w r) refl x.1 in
-      x.1 ∙ sym there ∙ h
+      let is = x.1 ∙ sym there ∙ h in
+      (is, is)
   remote_fits S r q false m h = absurd (none_usable t (if_parts (is_usable (drafted t) (length t.phyla)) (length t.phyla) q h).0)
 
   mutual
@@ -309,7 +310,9 @@ module _ (t : Table) (usable : IsUsable t) (told : ListsTold t) (calls : AreCall
         let x = named_there t w r (reference_at t w r) refl m in
         let there = reference_typed t usable told.lists calls w outer out S r x.0 (reference_at t w r) refl x.1 in
         named (type_there (reference_at t w r)) (occurrence_place r.of) q (x.1 ∙ sym there ∙ h)
-    expr_fits vs S (Remote r) q k m fars h = named (type_in t w vs (Remote r)) r.place q (remote_fits S r q (look.are_alike t r) (m fars.0) h)
+    expr_fits vs S (Remote r) q k m fars h =
+        let x = remote_fits S r q (look.are_alike t r) (m fars.0) h in
+        (x.1, (named (one_type t w r) r.place q x.0).1)
     expr_fits vs S (MadeOf made n place) q k m fars h =
         let x = some_there (look.usable_named t n.text) m in
         let c = if_parts (is_usable (drafted t) (unwrap_or (look.usable_named t n.text) 0)) (unwrap_or (look.usable_named t n.text) 0) q h in

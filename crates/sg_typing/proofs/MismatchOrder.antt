@@ -21,7 +21,7 @@ use Rattle.sg_names.specs.Names.{op_named}
 use Rattle.sg_names.specs.Uses.{uses}
 use Rattle.sg_names.specs.declared.table.Table.{Table}
 use Rattle.sg_types.specs.Bindings.{Owner, OfProduction, OfNothing, reference_at, type_there, variable_at}
-use Rattle.sg_types.specs.Expressions.{params_in, prefix_type, type_in}
+use Rattle.sg_types.specs.Expressions.{one_type, params_in, prefix_type, type_in}
 use Rattle.sg_types.specs.Patterns.{is_operator_of, parts_of, variables_of}
 use Rattle.sg_types.specs.Types.{do_agree, fits_where, list_of, unless, untyped}
 use Rattle.sg_types.specs.declared.scope.Variable as vars
@@ -202,7 +202,7 @@ module _ (t : Table) where
       expr_in vs (Attribute r) =
           let b = occurrence_begins r.of _ in
           subst (Met (of_expr t w vs (Attribute r))) (sym b.1) (at_untyped (type_there (reference_at t w r)) (occurrence_place r.of) b.0)
-      expr_in vs (Remote r) = at_untyped (type_in t w vs (Remote r)) r.place _
+      expr_in vs (Remote r) = at_untyped (one_type t w r) r.place _
       expr_in vs (MadeOf made n place) = at_untyped (usable_named t n.text) place (n.place ∷ [])
       expr_in vs (Paren a place) = past (closed (of_expr t w vs a) (spell_expr a) _ (expr_in vs a))
       expr_in vs (Single f a place) = past (here_in t (Some (prefix_type f)) (type_in t w vs a) a (of_expr t w vs a) (expr_in vs a))
