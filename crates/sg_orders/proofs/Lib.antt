@@ -8,6 +8,7 @@ pub mod Layerings
 pub mod Extends
 pub mod Refused
 pub mod Placed
+pub mod Ranked
 pub mod Seating
 pub mod StepFacts
 pub mod Sought

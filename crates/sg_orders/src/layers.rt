@@ -1,5 +1,6 @@
 //! The layers of a phylum's attributes.
-ghost use Rattle.std.specs.Prelude.{◌≡◌, ℕ, ◌+◌, ◌%◌, ◌<◌, ◌≤◌, ◌^◌, nat_eq, length, slice_index, IfOk};
+ghost use Rattle.std.specs.Prelude.{◌≡◌, ℕ, ◌+◌, ◌%◌, ◌<◌, ◌≤◌, ◌^◌, false, nat_eq, length, slice_index, IfOk};
+ghost use Rattle.sg_sets.specs.Members.{has, Has};
 ghost use Rattle.sg_sets.specs.Rows.{Holds};
 ghost use Rattle.sg_kinds.specs.Specification.{is_way_inherited};
 ghost use Rattle.sg_orders.specs.LeastLayers.{AreLeastLayers};
@@ -8,7 +9,7 @@ ghost use Rattle.sg_orders.specs.StrictOrders.{IsStrictOrder, all_predecessors};
 use sg_kinds::marks::Way;
 use sg_kinds::memory::NoMemory;
 use sg_kinds::spec::Attr;
-use sg_sets::Relation;
+use sg_sets::{BitSet, Relation};
 use std::alloc::Global;
 
 /// Returns the layer of each attribute under a relation that holds what follows from it: synthesized attributes have
@@ -38,11 +39,26 @@ pub fn layers(alloc: Global, attrs: &[Attr], relation: &Relation) -> Result<Vec<
 pub fn predecessors(alloc: Global, relation: &Relation) -> Result<Vec<usize>, NoMemory>
     ensures { IfOk result (λ v. v.items ≡ all_predecessors relation.now) }
 {
-    let mut counts = Vec::new(alloc);
-    for b in 0..relation.size() {
-        counts.push(relation.predecessors(b))?;
+    let mut counts = vec![in alloc; 0usize; relation.size()]?;
+    for a in 0..relation.size() {
+        count_each(relation.successors(a), counts.as_mut_slice());
     }
     Ok(counts)
+}
+
+/// Adds one to the count of each number of a set.
+fn count_each(set: &BitSet, counts: &mut [usize])
+    requires size { length set.now ≡ length counts.old }
+    requires room { (b : ℕ) → slice_index counts.old b < usize.MAX }
+    ensures members { (b : ℕ) → Has set.now b → slice_index counts.new b ≡ slice_index counts.old b + 1 }
+    ensures others { (b : ℕ) → has set.now b ≡ false → slice_index counts.new b ≡ slice_index counts.old b }
+    ensures size { length counts.new ≡ length counts.old }
+{
+    let mut from = 0;
+    while let Some(b) = set.next(from) {
+        counts[b] += 1;
+        from = b + 1;
+    }
 }
 
 /// The greatest layer of the attributes to which one is related.

@@ -6,3 +6,4 @@ pub mod Bearing
 pub mod Longer
 pub mod Handing
 pub mod NoEnclosing
+pub mod Widths

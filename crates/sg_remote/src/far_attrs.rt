@@ -22,7 +22,8 @@ use sg_names::groups::Groups;
 use sg_names::names::Names;
 use std::alloc::Global;
 
-/// The most far attributes in all: with more, the relations of the test of order would take over a GiB.
+/// The most far attributes in all. Each takes an equation at each argument of its phylum, and the time and memory of the
+/// later rows grow with these.
 const MOST_FAR: usize = 1_048_576;
 
 fn phylum_name(names: &Names, phylum: PhylumId) -> &[u8]

@@ -1,8 +1,9 @@
-use Rattle.std.proofs.Common.{◌≡◌}
-use Rattle.std.specs.Prelude.{map}
+use Rattle.std.specs.Prelude.{◌≡◌, ℕ, ◌<◌, length, slice_index, take}
 use Rattle.sg_sets.specs.Relations.{predecessors}
-use Rattle.sg_kinds.specs.Instances.{below}
 use Rattle.sg_orders.proofs.layers.predecessors.Given as goal
 
-abbrev pub invariant-loop-b : goal.invariant-loop-b
-invariant-loop-b l = l.counts.items ≡ map (predecessors l.relation) (below l.b)
+abbrev pub invariant-loop-a : goal.invariant-loop-a
+invariant-loop-a l = record {
+  size : length l.counts.items ≡ length l.relation;
+  each : (b : ℕ) → b < length l.relation → slice_index l.counts.items b ≡ predecessors (take l.a l.relation) b;
+}
