@@ -1,0 +1,4 @@
+pub mod Derived
+pub mod Known
+pub mod Steps
+pub mod Listing

@@ -1,0 +1,3 @@
+pub mod Expands
+pub mod Samples
+pub mod Table
