@@ -15,7 +15,7 @@ use sg_kinds::limits::FILE_BYTES;
 use sg_kinds::memory::NoMemory;
 use sg_outside::Shelf;
 use sg_replies::{Reply, fetched};
-use sg_saved::{OpenFault, read};
+use sg_saved::{OpenFault, read_term};
 use sg_script::{FileName, Message};
 use std::alloc::Global;
 
@@ -61,12 +61,8 @@ impl Desk {
         if FILE_BYTES < bytes.len() {
             return Ok(Message::LongFile);
         }
-        let spec = base.spec();
-        match read(base.alloc(), spec, bytes) {
-            Ok(v) => {
-                let t = spec.plain(base.alloc(), &v, spec.root)?;
-                self.open(base, name, &t, journal)
-            }
+        match read_term(base.alloc(), base.spec(), bytes) {
+            Ok(t) => self.open(base, name, &t, journal),
             Err(OpenFault::Form(k)) => Ok(Message::FormAt(k)),
             Err(OpenFault::Phylum(_)) => Ok(Message::Phylum),
             Err(OpenFault::Size(_, _)) => Ok(Message::Size),

@@ -21,7 +21,7 @@ module _ (spec : Spec) where
   parts_in (p ∷ ps) [] = []
   parts_in (p ∷ ps) (x ∷ xs) = parts_of spec p x.at x.raw ++ parts_in ps xs
 
-  parts-append : (ps qs : List ℕ) (xs ys : List Piece) → length ps ≡ length xs → parts_in (ps ++ qs) (xs ++ ys) ≡ parts_in ps xs ++ parts_in qs ys
+  pub parts-append : (ps qs : List ℕ) (xs ys : List Piece) → length ps ≡ length xs → parts_in (ps ++ qs) (xs ++ ys) ≡ parts_in ps xs ++ parts_in qs ys
   parts-append [] qs [] ys same = refl
   parts-append [] qs (x ∷ xs) ys same = absurd (omega arith)
   parts-append (p ∷ ps) qs [] ys same = absurd (omega arith)
@@ -37,13 +37,13 @@ module _ (spec : Spec) where
   abbrev pub part_at : ℕ → ℕ → Raw → Part
   part_at p at r = record { phylum = p; at = at; raw = r }
 
-  first-part : (p at : ℕ) (r : Raw) → parts_of spec p at r ≡ part_at p at r ∷ parts_in (args_in spec (head_of spec r)) (kids_of at r)
+  pub first-part : (p at : ℕ) (r : Raw) → parts_of spec p at r ≡ part_at p at r ∷ parts_in (args_in spec (head_of spec r)) (kids_of at r)
   first-part p at (Branch name rs) = ap (λ n. part_at p at (Branch name rs) ∷ n) (kid-parts (args_named spec.ops name) (at + length name + 1) rs)
   first-part p at (Whole z) = refl
   first-part p at (Quote s) = refl
   first-part p at (Flag b) = refl
 
-  args-count : (p at : ℕ) (r : Raw) → HeadFits spec p r → length (args_in spec (head_of spec r)) ≡ length (kids_of at r)
+  pub args-count : (p at : ℕ) (r : Raw) → HeadFits spec p r → length (args_in spec (head_of spec r)) ≡ length (kids_of at r)
   args-count p at (Branch name rs) fits = by (op_named spec.ops name) fits
     where
       by : (o : Option ℕ) → MatchOption o ⊥ (λ op. (phylum_of spec.ops op ≡ Some p) × (length (args_of spec.ops op) ≡ count_of rs)) → length (unwrap_or (option_map (args_of spec.ops) o) []) ≡ length (pieces_of (at + length name + 1) rs)

@@ -10,3 +10,4 @@ pub mod ReadLeaves
 pub mod Checking
 pub mod Building
 pub mod Outlined
+pub mod Planting

@@ -4,7 +4,10 @@ use Rattle.std.specs.Prelude.{⊤, IfSome, IfOk}
 use Rattle.sg_kinds.specs.Fits.{Fits}
 use Rattle.sg_kinds.specs.Plain.{plain}
 use Rattle.sg_kinds.specs.Sound.{HasNames, IsSmall}
+use Rattle.sg_kinds.specs.Terms.{Term}
+use Rattle.sg_kinds.specs.ValueOf as term
 use Rattle.sg_kinds.specs.Values.{Bytes, Value}
+use Rattle.sg_kinds.proofs.TermLaws.{value_of_plain}
 use Rattle.sg_kinds.specs.declared.spec.Spec.{Spec}
 use Rattle.sg_saved_form.specs.Files.{IsRaw, file_of}
 use Rattle.sg_saved_form.specs.Notes.{first_place, IsOutline}
@@ -13,8 +16,10 @@ use Rattle.sg_saved.specs.Misfits.{value_of, EachFits, parts_of}
 use Rattle.sg_saved.specs.Read.{Opened, Holds, TooLarge, IsFileOf, HasMisfit, IsOpened, most_nodes, most_depth}
 use Rattle.sg_saved.proofs.Fitting.{fits-read}
 use Rattle.sg_saved.proofs.Opening.{one-opening}
-use Rattle.sg_saved.specs.Answers.{opened_of}
+use Rattle.sg_saved.specs.Ahead.{IsReadAs}
+use Rattle.sg_saved.specs.Answers.{opened_as, opened_of}
 use Rattle.sg_saved.specs.declared.reading.OpenFault.{OpenFault}
+use Rattle.sg_saved.specs.declared.reading.OpenFault.TheVariants as fault
 
 module _ (spec : Spec) (bytes : Bytes) where
   -- where each subterm fits, the value's term has the nodes and the depth of the outline
@@ -55,3 +60,26 @@ module _ (spec : Spec) (bytes : Bytes) where
   pub value-small : (r : Result Value OpenFault) → MatchOption (opened_of r) ⊤ (IsOpened spec bytes) → IfOk r (λ v. IsSmall (plain spec v spec.root))
   value-small (Ok v) right = let f = right.2 in (subst (λ n. n ≤ most_nodes) (sym f.nodes) right.3, subst (λ n. n ≤ most_depth) (sym f.depth) right.4)
   value-small (Err e) right = tt
+
+  -- what a plain term says that is made in place of the value
+  pub term-opened : (o : Outline) (is : IsOutline bytes o) (r : Result Term OpenFault) → IsReadAs spec spec.root first_place is.raw r → length o.notes.items ≤ most_nodes → o.depth ≤ most_depth
+      → MatchOption (opened_as r) ⊤ (IsOpened spec bytes)
+  term-opened o is (Ok t) read few flat = holds o is read.0 (term.value_of t) (ap term.value_of read.1 ∙ value_of_plain spec (value_of spec is.raw) spec.root) few flat
+  term-opened o is (Err (fault.Phylum at)) read few flat = record { raw = is.raw; is = is.is; same = is.same; misfit = read }
+  term-opened o is (Err fault.NoMemory) read few flat = tt
+  term-opened o is (Err (fault.Form at)) read few flat = absurd read
+  term-opened o is (Err (fault.Size n d)) read few flat = absurd read
+
+  pub term-plain : (o : Outline) (is : IsOutline bytes o) (r : Result Term OpenFault) → IsReadAs spec spec.root first_place is.raw r → IfOk r (λ t. t ≡ plain spec (term.value_of t) spec.root)
+  term-plain o is (Ok t) read = read.1 ∙ ap (λ v. plain spec v spec.root) (sym (ap term.value_of read.1 ∙ value_of_plain spec (value_of spec is.raw) spec.root))
+  term-plain o is (Err e) read = tt
+
+  pub term-fits : (r : Result Term OpenFault) → MatchOption (opened_as r) ⊤ (IsOpened spec bytes) → IfOk r (λ t. t ≡ plain spec (term.value_of t) spec.root) → IfOk r (λ t. Fits spec t spec.root)
+  term-fits (Ok t) right same = subst (λ x. Fits spec x spec.root) (sym same) right.2.fits
+  term-fits (Err e) right same = tt
+
+  pub term-small : (r : Result Term OpenFault) → MatchOption (opened_as r) ⊤ (IsOpened spec bytes) → IfOk r (λ t. t ≡ plain spec (term.value_of t) spec.root) → IfOk r IsSmall
+  term-small (Ok t) right same =
+      let f = right.2 in
+      subst IsSmall (sym same) (subst (λ n. n ≤ most_nodes) (sym f.nodes) right.3, subst (λ n. n ≤ most_depth) (sym f.depth) right.4)
+  term-small (Err e) right same = tt

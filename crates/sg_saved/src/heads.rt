@@ -6,7 +6,7 @@ ghost use Rattle.sg_kinds.specs.declared.spec.Operator.{Operator};
 ghost use Rattle.sg_kinds.specs.declared.spec.Spec.{Spec as IsSpec};
 ghost use Rattle.sg_saved_form.specs.Files.{Raw, IsRaw};
 ghost use Rattle.sg_saved.specs.Misfits.{op_named, LeafFits, HeadFits};
-ghost use Rattle.sg_saved.specs.Heads.{AreNames, IsNoteOf, head_of};
+ghost use Rattle.sg_saved.specs.Heads.{AreNames, IsNoteOf, args_in, head_of};
 ghost use Rattle.sg_saved.specs.declared.heads.Head.TheVariants.{Leaf};
 
 use sg_kinds::ids::{OpId, PhylumId};
@@ -63,6 +63,19 @@ pub fn head_at(
             Ok(Head::Leaf(Value::text(text)))
         }
         Noted::Truth(b) => Ok(Head::Leaf(Value::truth(b))),
+    }
+}
+
+/// The phyla that are wanted of the children of a head.
+pub fn args_of<'a>(spec: &'a Spec, head: &Head) -> &'a [PhylumId]
+    ensures { result.now ≡ args_in spec.now head.now }
+{
+    let Head::Node(Some(op), _) = head else {
+        return &[];
+    };
+    match spec.ops.place(op.number) {
+        Some(operator) => operator.args.as_slice(),
+        None => &[],
     }
 }
 

@@ -7,9 +7,10 @@ mod misfits;
 mod parts;
 mod reading;
 mod spelling;
+mod terms;
 mod values;
 mod writing;
 
-pub use reading::{OpenFault, read};
+pub use reading::{OpenFault, read, read_term};
 pub use spelling::spell;
 pub use writing::write;

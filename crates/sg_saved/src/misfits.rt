@@ -3,9 +3,9 @@ ghost use Rattle.std.specs.Prelude.{◌≡◌, ◌++◌, reverse, OnOk, IfOk, Ma
 ghost use Rattle.sg_saved_form.specs.Notes.{IsOutline, first_place};
 ghost use Rattle.sg_saved.specs.Misfits.{EachFits, parts_of};
 ghost use Rattle.sg_saved.specs.Read.{HasMisfit};
-ghost use Rattle.sg_saved.specs.Heads.{AreNames, args_in};
+ghost use Rattle.sg_saved.specs.Heads.{AreNames};
 
-use crate::heads::{Head, head_at, head_fits};
+use crate::heads::{args_of, head_at, head_fits};
 use sg_kinds::ids::PhylumId;
 use sg_kinds::memory::NoMemory;
 use sg_kinds::spec::Spec;
@@ -23,19 +23,6 @@ fn push_all(stack: &mut Vec<PhylumId>, phyla: &[PhylumId]) -> Result<(), NoMemor
         stack.push(phyla[k])?;
     }
     Ok(())
-}
-
-/// Wants the argument phyla of a subterm, the first one next.
-fn want_args(spec: &Spec, head: &Head, wanted: &mut Vec<PhylumId>) -> Result<(), NoMemory>
-    ensures { OnOk result (reverse wanted.new.items ≡ args_in spec.now head.now ++ reverse wanted.old.items) }
-{
-    let Head::Node(Some(op), _) = head else {
-        return Ok(());
-    };
-    match spec.ops.place(op.number) {
-        Some(operator) => push_all(wanted, operator.args.as_slice()),
-        None => Ok(()),
-    }
 }
 
 /// The first byte of the first subterm of a file's term that does not fit the phylum that is wanted at its place.
@@ -60,7 +47,7 @@ pub fn first_misfit(
         if !head_fits(spec, &mut matcher, &head, phylum) {
             return Ok(Some(note.from as usize));
         }
-        want_args(spec, &head, &mut wanted)?;
+        push_all(&mut wanted, args_of(spec, &head))?;
     }
     Ok(None)
 }

@@ -1,4 +1,4 @@
-use Rattle.std.proofs.Common.{◌∷◌, [], ◌++◌, ap, ◌∙◌, arith}
+use Rattle.std.proofs.Common.{◌∷◌, [], ◌++◌, reverse, ap, ◌∙◌, arith}
 use Rattle.sg_saved.proofs.Pieces.{no_note, some-seen, whole-left}
 use Rattle.sg_saved.proofs.Checking.{none-checked, seen-looked, one-checked, one-misfits, all-checked}
 use Rattle.sg_saved.proofs.misfits.first_misfit.Goals as goal
@@ -35,7 +35,7 @@ loop-note-preserved c = record {
       c.loop-note.wanted.items c.pop.new.self.items c.pop.result c.unwrap_or-phylum.result c.args.spec.now.root c.in_ok-head.head c.head_fits.result
       c.loop-note-test.true (c.loop-note.invariant.checked o) c.pop.ensures.items (λ h. c.pop.ensures.variant.1 (omega (arith, c.loop-note.wanted.ok.0))) c.unwrap_or-phylum.ensures
       (λ r n. c.in_ok-head.ensures c.args.spec.now r c.requires.names n) c.head_fits.ensures.fits in
-      one-checked _ _ _ _ _ _ _ _ _ _ _ _ l c.if-not-head_fits.false c.in_ok-want_args.ensures;
+      one-checked _ _ _ _ _ _ _ _ _ _ _ _ l c.if-not-head_fits.false (c.in_ok-push_all.ensures ∙ ap (λ ps. ps ++ reverse c.pop.new.self.items) c.args_of.ensures);
 }
 
 pub returns : goal.returns
