@@ -16,9 +16,10 @@ import sys
 import tempfile
 from pathlib import Path
 
+from ssled_model import explain
 from ssled_model.forms import FORMS
 from ssled_model.live import Live, Lost
-from ssled_model.run import MemShelf, deep, run
+from ssled_model.run import MemShelf, MemSink, deep, run
 
 HERE = Path(__file__).resolve().parent
 
@@ -29,13 +30,13 @@ class Case:
     def __init__(self, path, line):
         self.where, self.line, self.words, self.files, self.after = f"{path.name}:{line}", line, [], {}, {}
         self.calls, self.puts, self.forms = [], [], []
-        self.input, self.console = None, []
+        self.input, self.console, self.explains = None, [], False
         self.status = self.replies = self.count = self.rise = self.output = self.blocks = None
         self.parts = {}
 
     def fails(self):
         """Whether only the oracle can run it."""
-        return self.input is not None or bool(self.calls or self.puts)
+        return self.input is not None or self.explains or bool(self.calls or self.puts)
 
 
 class Came:
@@ -82,6 +83,8 @@ def case_of(path, line, found):
         word, _, rest = head.partition(" ")
         if word == "run":
             case.words = rest.split(" ") if rest else []
+        elif word == "explain":
+            case.words, case.explains = rest.split(" ") if rest else [], True
         elif word == "live":
             case.words, case.input = rest.split(" ") if rest else [], data
         elif word == "console":
@@ -113,7 +116,7 @@ def of_table(path):
             if block.startswith("text "):
                 texts[found[-1][0].removeprefix("text ")] = found[-1][1]
             else:
-                assert block.startswith(("run", "live")), f"{path}:{line}: a block of another kind"
+                assert block.startswith(("run", "live", "explain")), f"{path}:{line}: a block of another kind"
                 yield case_of(path, line, found)
         line += block.count("\n") + 2
 
@@ -234,9 +237,20 @@ def by_live(case):
     return Came(status, console.output, shelf.files, shelf.replies, session.total)
 
 
+def by_explain(case):
+    shelf, sink = MemShelf(case.files, case.calls), MemSink(case.puts)
+    try:
+        status = deep(lambda: explain.run(shelf, sink, case.words))
+    except explain.Untold:
+        return None
+    return Came(status, bytes(sink.data), shelf.files, shelf.replies, 0)
+
+
 def by_model(case):
     if case.input is not None:
         return by_live(case)
+    if case.explains:
+        return by_explain(case)
     status, output, replies, rise, files = run(case.words, case.files, case.calls, case.puts)
     return Came(status, output, files, replies, rise)
 
@@ -281,8 +295,11 @@ def main():
             count += 1
             if program and case.fails() or not FORMS.issuperset(case.forms) or (count - 1) % given.every:
                 continue
+            came = by_program(program, case) if program else by_model(case)
+            if came is None:
+                continue
             ran += 1
-            told = list(wrong(case, by_program(program, case) if program else by_model(case)))
+            told = list(wrong(case, came))
             bad += bool(told)
             for line in told:
                 print(f"{case.where}: {line}")

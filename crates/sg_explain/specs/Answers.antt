@@ -12,26 +12,29 @@ use Rattle.sg_explain.specs.declared.explaining.Explanation.{Explanation}
 use Rattle.sg_explain.specs.Places.{place_of}
 use Rattle.sg_explain.specs.Shown.{where_text, shown}
 use Rattle.sg_explain.specs.Advice.{advice}
-use Rattle.sg_explain.specs.Help.{help_text}
+use Rattle.sg_explain.specs.Help.{Helps}
 
 -- the place of the fault, its line as the check of a specification prints it, and the text's line with a caret
 abbrev pub heading : Bytes → Bytes → Fault → Bytes
 heading file bytes f = let place = place_of bytes f in
     where_text file bytes place ++ (codes ": " ++ (fault_line f ++ shown bytes place))
 
--- what is told of a specification that is refused for this fault
-abbrev pub explained : Bytes → Bytes → Fault → Bytes
-explained file bytes f = heading file bytes f ++ (advice f ++ help_text bytes f)
+-- the text tells of a specification that is refused for this fault: its heading, its advice, and what helps besides
+pub record Explains (file bytes : Bytes) (f : Fault) (text : Bytes) : Type 0 where
+  pub help : Bytes
+  pub helps : Helps bytes f help
+  pub is : text ≡ heading file bytes f ++ (advice f ++ help)
 
 -- what is told of one that is accepted
 abbrev pub ok_text : Bytes
 ok_text = codes "ok" ++ 10 ∷ []
 
--- what is told of the bytes of a file with this verdict, and how the run ends
-abbrev pub told_of : Bytes → Bytes → Verdict → Bytes
-told_of file bytes (Refused f) = explained file bytes f
-told_of file bytes (Accepted spec) = ok_text
+-- the text tells of the bytes of a file with this verdict
+abbrev pub Tells : Bytes → Bytes → Verdict → Bytes → Type 0
+Tells file bytes (Refused f) text = Explains file bytes f text
+Tells file bytes (Accepted spec) text = text ≡ ok_text
 
+-- how the run ends with it
 abbrev pub ending_of : Verdict → Ending
 ending_of (Refused f) = SpecFault
 ending_of (Accepted spec) = Done
@@ -40,5 +43,5 @@ ending_of (Accepted spec) = Done
 pub record IsTold (file bytes : Bytes) (e : Explanation) : Type 0 where
   pub verdict : Verdict
   pub is : IsTheVerdict bytes verdict
-  pub text : e.text ≡ told_of file bytes verdict
+  pub text : Tells file bytes verdict e.text
   pub ending : e.ending ≡ ending_of verdict

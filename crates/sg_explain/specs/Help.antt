@@ -1,47 +1,50 @@
 -- What helps for one fault besides its sentence.
-use Rattle.std.specs.Prelude.{[]}
+use Rattle.std.specs.Prelude.{◌≡◌, []}
 use Rattle.sg_kinds.specs.Values.{Bytes}
 use Rattle.sg_kinds.specs.declared.fault.SpecFault.{SpecFault}
 use Rattle.sg_kinds.specs.declared.fault.SpecFault.TheVariants.{TooLong, Byte, Unclosed, LongNumber, LongName, Syntax, Limit, Duplicate, UnknownName, ResultCount, RootCount, ListShape, OptionalShape, NoCompletion, RootInherits, TwiceBound, Arity, Mismatch, ShownType, NotDefinedHere, Twice, Missing, NoEnclosing, NoScheme, SchemeKids, SchemeText, PatternForm, EmptyLexeme, EntryTwice, EntryType, Unproductive, States, Conflict, Direct, Induced, Ordered, NoMemory}
 use Rattle.sg_load.specs.Trees.{trees_in}
+use Rattle.sg_explain.specs.Places.{place_of}
+use Rattle.sg_explain.specs.Stops.{TellsStopAt}
 use Rattle.sg_explain.specs.Lacks.{text_lacks}
 
--- of a missing equation all that operators lack
-abbrev pub help_text : Bytes → SpecFault → Bytes
-help_text bytes TooLong = []
-help_text bytes (Byte line) = []
-help_text bytes (Unclosed line) = []
-help_text bytes (LongNumber line) = []
-help_text bytes (LongName line) = []
-help_text bytes (Syntax line) = []
-help_text bytes (Limit what count) = []
-help_text bytes (Duplicate place name) = []
-help_text bytes (UnknownName place name) = []
-help_text bytes (ResultCount place name) = []
-help_text bytes (RootCount count) = []
-help_text bytes (ListShape place name) = []
-help_text bytes (OptionalShape place name) = []
-help_text bytes (NoCompletion place name) = []
-help_text bytes (RootInherits place name) = []
-help_text bytes (TwiceBound place name) = []
-help_text bytes (Arity place name) = []
-help_text bytes (Mismatch place) = []
-help_text bytes (ShownType place) = []
-help_text bytes (NotDefinedHere place) = []
-help_text bytes (Twice place) = []
-help_text bytes (Missing place op) = text_lacks (trees_in bytes)
-help_text bytes (NoEnclosing place) = []
-help_text bytes (NoScheme place op) = []
-help_text bytes (SchemeKids place op) = []
-help_text bytes (SchemeText place) = []
-help_text bytes (PatternForm place name) = []
-help_text bytes (EmptyLexeme place name) = []
-help_text bytes (EntryTwice place name) = []
-help_text bytes (EntryType place name) = []
-help_text bytes (Unproductive place name) = []
-help_text bytes States = []
-help_text bytes (Conflict place conflict) = []
-help_text bytes (Direct place op cycle) = []
-help_text bytes (Induced place op cycle) = []
-help_text bytes (Ordered place op cycle) = []
-help_text bytes NoMemory = []
+-- the text helps for this fault of the bytes: of a declaration without a reading it tells where reading stops and what
+-- mends it, of a missing equation all that operators lack
+abbrev pub Helps : Bytes → SpecFault → Bytes → Type 0
+Helps bytes TooLong text = text ≡ []
+Helps bytes (Byte line) text = text ≡ []
+Helps bytes (Unclosed line) text = text ≡ []
+Helps bytes (LongNumber line) text = text ≡ []
+Helps bytes (LongName line) text = text ≡ []
+Helps bytes (Syntax line) text = TellsStopAt bytes (place_of bytes (Syntax line)) text
+Helps bytes (Limit what count) text = text ≡ []
+Helps bytes (Duplicate place name) text = text ≡ []
+Helps bytes (UnknownName place name) text = text ≡ []
+Helps bytes (ResultCount place name) text = text ≡ []
+Helps bytes (RootCount count) text = text ≡ []
+Helps bytes (ListShape place name) text = text ≡ []
+Helps bytes (OptionalShape place name) text = text ≡ []
+Helps bytes (NoCompletion place name) text = text ≡ []
+Helps bytes (RootInherits place name) text = text ≡ []
+Helps bytes (TwiceBound place name) text = text ≡ []
+Helps bytes (Arity place name) text = text ≡ []
+Helps bytes (Mismatch place) text = text ≡ []
+Helps bytes (ShownType place) text = text ≡ []
+Helps bytes (NotDefinedHere place) text = text ≡ []
+Helps bytes (Twice place) text = text ≡ []
+Helps bytes (Missing place op) text = text ≡ text_lacks (trees_in bytes)
+Helps bytes (NoEnclosing place) text = text ≡ []
+Helps bytes (NoScheme place op) text = text ≡ []
+Helps bytes (SchemeKids place op) text = text ≡ []
+Helps bytes (SchemeText place) text = text ≡ []
+Helps bytes (PatternForm place name) text = text ≡ []
+Helps bytes (EmptyLexeme place name) text = text ≡ []
+Helps bytes (EntryTwice place name) text = text ≡ []
+Helps bytes (EntryType place name) text = text ≡ []
+Helps bytes (Unproductive place name) text = text ≡ []
+Helps bytes States text = text ≡ []
+Helps bytes (Conflict place conflict) text = text ≡ []
+Helps bytes (Direct place op cycle) text = text ≡ []
+Helps bytes (Induced place op cycle) text = text ≡ []
+Helps bytes (Ordered place op cycle) text = text ≡ []
+Helps bytes NoMemory text = text ≡ []

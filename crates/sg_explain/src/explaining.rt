@@ -19,6 +19,7 @@ pub struct Explanation {
     pub ending: Ending,
 }
 
+#[tactic(auto, using(crate::proofs::Explained::told_refused))]
 fn refused(
     alloc: Global,
     file: &[u8],

@@ -1,9 +1,10 @@
 // What is told of a specification that is refused.
-ghost use Rattle.std.specs.Prelude.{◌≡◌, ◌++◌, IfOk, OnOk};
-ghost use Rattle.sg_explain.specs.Answers.{explained as explained_text, heading as heading_text};
+ghost use Rattle.std.specs.Prelude.{◌≡◌, ◌++◌, IfOk, IfSome, OnOk};
+ghost use Rattle.sg_explain.specs.Answers.{Explains, heading as heading_text};
+ghost use Rattle.sg_explain.specs.Places.{IsPlaceIn, place_of};
 
 use crate::advice::write_advice;
-use crate::help::write_help;
+use crate::help::help;
 use crate::place::place;
 use crate::shown::{write_shown_place, write_where};
 use sg_faults::fault_line;
@@ -18,10 +19,12 @@ fn write_heading(
     file: &[u8],
     bytes: &[u8],
     fault: &SpecFault,
+    place: Option<usize>,
 ) -> Result<(), NoMemory>
+    requires there { IfSome place (IsPlaceIn bytes.now) }
+    requires place { place ≡ place_of bytes.now fault.now }
     ensures { OnOk result (out.new.items ≡ out.old.items ++ heading_text file.now bytes.now fault.now) }
 {
-    let place = place(alloc, bytes, fault)?;
     write_where(alloc, out, file, bytes, place)?;
     out.extend_from_slice(b": ")?;
     out.extend_from_slice(&fault_line(alloc, fault)?)?;
@@ -29,17 +32,19 @@ fn write_heading(
 }
 
 /// What is told of a specification that is refused for this fault.
+#[tactic(auto, using(crate::proofs::Explained::explains))]
 pub fn explained(
     alloc: Global,
     file: &[u8],
     bytes: &[u8],
     fault: &SpecFault,
 ) -> Result<Vec<u8>, NoMemory>
-    ensures { IfOk result (λ v. v.items ≡ explained_text file.now bytes.now fault.now) }
+    ensures { IfOk result (λ v. Explains file.now bytes.now fault.now v.items) }
 {
+    let place = place(alloc, bytes, fault)?;
     let mut out = Vec::new(alloc);
-    write_heading(alloc, &mut out, file, bytes, fault)?;
+    write_heading(alloc, &mut out, file, bytes, fault, place)?;
     write_advice(&mut out, fault)?;
-    write_help(alloc, &mut out, bytes, fault)?;
+    out.extend_from_slice(&help(alloc, bytes, fault, place)?)?;
     Ok(out)
 }

@@ -1,29 +1,34 @@
 // What helps for one fault besides its sentence.
-ghost use Rattle.std.specs.Prelude.{◌≡◌, ◌++◌, OnOk};
-ghost use Rattle.sg_explain.specs.Help.{help_text};
+ghost use Rattle.std.specs.Prelude.{◌≡◌, IfOk, IfSome};
+ghost use Rattle.sg_explain.specs.Help.{Helps};
+ghost use Rattle.sg_explain.specs.Places.{IsPlaceIn, place_of};
 
-use crate::lacks::write_lacks;
+use crate::lacks::lacks;
+use crate::stops::stops;
 use sg_kinds::fault::SpecFault;
 use sg_kinds::memory::NoMemory;
 use std::alloc::Global;
 
-/// Writes what helps for a fault of the text: of a missing equation all that operators lack.
-pub fn write_help(
+/// What helps for a fault of the text that stands at a place, as lines: of a declaration without a reading where reading
+/// stops and what mends it, of a missing equation all that operators lack.
+pub fn help(
     alloc: Global,
-    out: &mut Vec<u8>,
     bytes: &[u8],
     fault: &SpecFault,
-) -> Result<(), NoMemory>
-    ensures { OnOk result (out.new.items ≡ out.old.items ++ help_text bytes.now fault.now) }
+    place: Option<usize>,
+) -> Result<Vec<u8>, NoMemory>
+    requires there { IfSome place (IsPlaceIn bytes.now) }
+    requires place { place ≡ place_of bytes.now fault.now }
+    ensures { IfOk result (λ v. Helps bytes.now fault.now v.items) }
 {
     match fault {
-        SpecFault::Missing(..) => write_lacks(alloc, out, bytes),
+        SpecFault::Syntax(_) => stops(alloc, bytes, place),
+        SpecFault::Missing(..) => lacks(alloc, bytes),
         SpecFault::TooLong
         | SpecFault::Byte(_)
         | SpecFault::Unclosed(_)
         | SpecFault::LongNumber(_)
         | SpecFault::LongName(_)
-        | SpecFault::Syntax(_)
         | SpecFault::Limit(..)
         | SpecFault::Duplicate(..)
         | SpecFault::UnknownName(..)
@@ -53,6 +58,6 @@ pub fn write_help(
         | SpecFault::Direct(..)
         | SpecFault::Induced(..)
         | SpecFault::Ordered(..)
-        | SpecFault::NoMemory => Ok(()),
+        | SpecFault::NoMemory => Ok(Vec::new(alloc)),
     }
 }

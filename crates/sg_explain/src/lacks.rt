@@ -334,13 +334,15 @@ fn write_lacking(alloc: Global, out: &mut Vec<u8>, decls: &[Decl]) -> Result<(),
     write_named(alloc, out, decls, &names)
 }
 
-/// Writes all that the operators of a text with declarations lack.
-pub fn write_lacks(alloc: Global, out: &mut Vec<u8>, bytes: &[u8]) -> Result<(), NoMemory>
-    ensures { OnOk result (out.new.items ≡ out.old.items ++ text_lacks (trees_in bytes.now)) }
+/// All that the operators of a text with declarations lack, as lines.
+pub fn lacks(alloc: Global, bytes: &[u8]) -> Result<Vec<u8>, NoMemory>
+    ensures { IfOk result (λ v. v.items ≡ text_lacks (trees_in bytes.now)) }
 {
-    match declarations(alloc, bytes) {
-        Ok(decls) => write_lacking(alloc, out, &decls),
-        // A text whose verdict is that an equation is missing has declarations.
-        Err(_) => Err(NoMemory),
-    }
+    // A text whose verdict is that an equation is missing has declarations.
+    let Ok(decls) = declarations(alloc, bytes) else {
+        return Err(NoMemory);
+    };
+    let mut out = Vec::new(alloc);
+    write_lacking(alloc, &mut out, &decls)?;
+    Ok(out)
 }

@@ -11,6 +11,7 @@ mod lacks;
 mod place;
 mod running;
 mod shown;
+mod stops;
 
 pub use ending::Ending;
 pub use explaining::{Explanation, explain};

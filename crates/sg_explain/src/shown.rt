@@ -129,7 +129,13 @@ fn write_caret(out: &mut Vec<u8>, number: usize, columns: usize) -> Result<(), N
     Ok(())
 }
 
-fn write_shown_at(alloc: Global, out: &mut Vec<u8>, bytes: &[u8], at: usize) -> Result<(), NoMemory>
+/// Writes the line of a place with a caret below it.
+pub fn write_shown_at(
+    alloc: Global,
+    out: &mut Vec<u8>,
+    bytes: &[u8],
+    at: usize,
+) -> Result<(), NoMemory>
     requires { IsPlaceIn bytes.now at }
     ensures { OnOk result (out.new.items ≡ out.old.items ++ shown_at_text bytes.now at) }
 {

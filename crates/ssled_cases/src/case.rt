@@ -10,6 +10,8 @@ pub type File = (String, Vec<u8>);
 #[derive(Drop)]
 pub struct Case {
     pub words: Vec<String>,
+    /// Whether the specification is explained.
+    pub explains: bool,
     /// The files on the shelf.
     pub files: Vec<File>,
     /// The numbers of the shelf's calls that fail.
@@ -33,6 +35,7 @@ pub struct Case {
 fn empty(alloc: Global) -> Case {
     Case {
         words: Vec::new(alloc),
+        explains: false,
         files: Vec::new(alloc),
         calls: Vec::new(alloc),
         puts: Vec::new(alloc),
@@ -63,6 +66,12 @@ fn add(alloc: Global, case: &mut Case, section: Text) -> Result<()> {
     match word {
         "run" if head.as_str() == "run" => {}
         "run" => case.words = words_of(alloc, rest)?,
+        "explain" => {
+            case.explains = true;
+            if head.as_str() != "explain" {
+                case.words = words_of(alloc, rest)?;
+            }
+        }
         "live" => {
             case.input = Some(bytes);
             if head.as_str() != "live" {

@@ -4,12 +4,14 @@
 //! begins with `//` is a comment; the first one says how the table was made. The other blocks consist of lines of
 //! words, with one blank between two words, of which some are followed by the lines of a text.
 //!
-//! A block that begins with `text NAME` is a text for the blocks below it. A block that begins with `run` or `live` is a case:
+//! A block that begins with `text NAME` is a text for the blocks below it. A block that begins with `run`, `live` or
+//! `explain` is a case:
 //!
 //! | Line | What it says |
 //! |---|---|
 //! | `run WORD WORD ..` | the words of the command line |
 //! | `live WORD WORD ..` and a text | the words of a session that answers line by line, and its input |
+//! | `explain WORD WORD ..` | the words of the program that explains a specification |
 //! | `file NAME` and a text | a file on the shelf |
 //! | `call N` | call N of the shelf fails, from 1 on |
 //! | `put N M` | put N into the sink fails after M bytes |
@@ -35,12 +37,14 @@
 #![tactic(auto)]
 
 mod case;
+mod explaining;
 mod living;
 mod running;
 mod table;
 
 use anyhow::{Context, Result, bail};
 use case::case_of;
+use explaining::explains;
 use living::{answers, gives_same};
 use running::passes;
 use sg_eval::Journal;
@@ -81,10 +85,14 @@ fn run_block(
         texts.push(sections.pop().context("a text")?)?;
         return Ok(None);
     }
-    if !block.starts_with("run") && !block.starts_with("live") {
+    let is_run = block.starts_with("run") || block.starts_with("live");
+    if !is_run && !block.starts_with("explain") {
         bail!("a block of another kind");
     }
     let case = case_of(alloc, sections)?;
+    if case.explains {
+        return Ok(Some(explains(rt, place, &case)?));
+    }
     if case.input.is_some() {
         return Ok(Some(answers(rt, place, &case, journal)?));
     }
