@@ -1,0 +1,4 @@
+pub mod Flags
+pub mod SameParts
+pub mod Numbers
+pub mod Whole

@@ -1,0 +1,6 @@
+pub mod Parts
+pub mod Reach
+pub mod Named
+pub mod Uses
+pub mod Keys
+pub mod Useless
