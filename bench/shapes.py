@@ -201,6 +201,22 @@ def operators(size=200, args=14):
     return "".join(text)
 
 
+def lists_dense(size=150, attrs=32):
+    """Operators of one phylum with a list of references each, of values from the phylum's own attributes: attribute k
+    of a node leads by lists to the later ones below it, so that most pairs of an operator's vertices are related."""
+    numbers = range(attrs)
+    text = ["root r;\n", operator("r", "R", ["q"]), operator("q", "Q", ["p"]), operator("p", "Z", [])]
+    for phylum, name, attribute in (("q", "Q", "t"), ("p", "Z", "s")):
+        text.append(f"{phylum} {{ {' '.join(f'synthesized INT {attribute}{k};' for k in numbers)} }};\n")
+        text.append(f"{phylum} : {name} {{ {' '.join(f'$$.{attribute}{k} = 0;' for k in numbers)} }};\n")
+    for n in range(size):
+        at, there = n % (attrs - 1), n // (attrs - 1)
+        known = " ".join(f"$$.s{k} = p$2.s{k};" for k in range(at + 1))
+        read = " ".join(f"$$.s{k} = {{p.s{at},q.t{there}}};" for k in range(at + 1, attrs))
+        text += [operator("p", f"O{n}", ["p"]), f"p : O{n} {{ {known} {read} }};\n"]
+    return "".join(text)
+
+
 def declarations(size=1 << 20):
     """Functions with long bodies, up to this many bytes."""
     text = ["root p;\n", operator("p", "P", []), "p { synthesized INT v; };\np : P { $$.v = f0(1, 2); };\n"]

@@ -1,5 +1,6 @@
 pub mod BeforeLemmas
 pub mod CloseLemmas
+pub mod ClosingLemmas
 pub mod CyclesLemmas
 pub mod FlowLemmas
 pub mod JoinedLemmas
@@ -7,6 +8,7 @@ pub mod LayersLemmas
 pub mod LengthenLemmas
 pub mod MembersLemmas
 pub mod OptionLemmas
+pub mod OutsideLemmas
 pub mod PathsLemmas
 pub mod RestLemmas
 pub mod RowsLemmas

@@ -22,3 +22,7 @@ missing_of set = count_by not set
 -- a is in both sets
 abbrev pub Shared : List Bool → List Bool → ℕ → Type 0
 Shared xs ys a = Has xs a × Has ys a
+
+-- a is in the first set alone
+abbrev pub Outside : List Bool → List Bool → ℕ → Type 0
+Outside xs ys a = Has xs a × ¬ (Has ys a)

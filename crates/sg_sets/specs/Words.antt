@@ -19,6 +19,10 @@ Gained words other = (a : ℕ) × (bit words a ≡ false) × (bit other a ≡ tr
 abbrev pub SharedBit : List ℕ → List ℕ → ℕ → Type 0
 SharedBit words other a = (bit words a ≡ true) × (bit other a ≡ true)
 
+-- bit a is set in the first alone
+abbrev pub OutsideBit : List ℕ → List ℕ → ℕ → Type 0
+OutsideBit words other a = (bit words a ≡ true) × (bit other a ≡ false)
+
 -- there are just as many words as the width takes, and no bit is set from the width on
 pub record IsPacked (width : ℕ) (words : List ℕ) : Type 0 where
   pub small : width < 2 ^ 64

@@ -1,7 +1,7 @@
 //! `BitSet`, a set of numbers below a width, a bit a number.
 ghost use Rattle.std.specs.Prelude.{◌≡◌, ℕ, ◌<◌, ◌≤◌, ◌↔◌, ◌⊎◌, false, true, not, [], length, replicate, slice_set, IfOk, IfSome, IfNone, IsTrue};
 ghost use Rattle.std.specs.Bool.{OnTrue, OnFalse};
-ghost use Rattle.sg_sets.specs.Members.{has, Has, IsNext, missing_of, Shared};
+ghost use Rattle.sg_sets.specs.Members.{has, Has, IsNext, missing_of, Shared, Outside};
 
 use crate::words;
 use std::alloc::{AllocError, Global};
@@ -124,6 +124,16 @@ impl BitSet {
         ensures least { IfSome result (λ m. (a : ℕ) → Shared self.now other.now a → m ≤ a) }
     {
         words::first_shared(&self.words, &other.words)
+    }
+
+    /// Returns the least number that is not in `other`.
+    pub fn first_outside(&self, other: &BitSet) -> Option<usize>
+        requires { length self.now ≡ length other.now }
+        ensures none { IfNone result ((a : ℕ) → ¬ (Outside self.now other.now a)) }
+        ensures outside { IfSome result (Outside self.now other.now) }
+        ensures least { IfSome result (λ m. (a : ℕ) → Outside self.now other.now a → m ≤ a) }
+    {
+        words::first_outside(&self.words, &other.words)
     }
 
     /// Returns whether some number is in both sets.

@@ -3,6 +3,7 @@
 #![tactic(auto)]
 
 mod bit_set;
+mod closing;
 mod cycle;
 mod relation;
 mod rows;

@@ -13,7 +13,7 @@ use std::marker::Model;
 /// A relation on the numbers below its size, each of them a vertex of a graph.
 #[derive(Drop)]
 pub struct Relation {
-    rows: Rows,
+    pub(crate) rows: Rows,
 }
 
 impl Model for Relation {
@@ -110,7 +110,9 @@ impl Relation {
         ensures least { (a b : ℕ) → Holds self.new a b → Path (Holds self.old) a b }
         ensures size { length self.new ≡ length self.old }
     {
-        while self.lengthen() {}
+        if self.close_in_order().is_err() {
+            while self.lengthen() {}
+        }
     }
 
     /// Relates each number to those that one leads to which it is related to, and returns whether some were not
@@ -153,7 +155,7 @@ impl Relation {
     }
 
     /// Relates `a` to what `k` is related to, and returns whether it was not to some of that.
-    fn take_over(&mut self, a: usize, k: usize) -> bool
+    pub(crate) fn take_over(&mut self, a: usize, k: usize) -> bool
         requires to { a < length self.old }
         requires from { k < length self.old }
         ensures takes { (x y : ℕ) → Holds self.new x y ↔ (Holds self.old x y ⊎ ((x ≡ a) × Holds self.old k y)) }

@@ -54,6 +54,11 @@ impl Rows {
         self.width
     }
 
+    /// Returns what the rows take their memory from.
+    pub(crate) fn allocator(&self) -> Global {
+        *self.rows.allocator()
+    }
+
     /// Returns row `a`.
     pub fn row(&self, a: usize) -> &BitSet
         requires { a < length self.now.rows }

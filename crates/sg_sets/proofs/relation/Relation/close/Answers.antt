@@ -9,5 +9,5 @@ loop-preserved c = record {
   least = paths-of c.args.self.now c.loop.self c.lengthen.new.self c.loop.invariant.least c.lengthen.ensures.least;
 }
 
-pub returns-clause-least : goal.returns-clause-least
-returns-clause-least c = paths-of c.args.self.now c.loop.self c.lengthen.new.self c.loop.invariant.least c.lengthen.ensures.least
+pub returns-after-loop-clause-least : goal.returns-after-loop-clause-least
+returns-after-loop-clause-least c = paths-of c.args.self.now c.loop.self c.lengthen.new.self c.loop.invariant.least c.lengthen.ensures.least

@@ -1,6 +1,4 @@
-use Rattle.std.proofs.Common.{◌≡◌, ℕ, ◌-◌, ◌<◌, ◌≤◌, ◌⊎◌, true, false, length}
-use Rattle.sg_sets.specs.Paths.{Path}
-use Rattle.sg_sets.specs.Rows.{Holds, all_missing}
+use Rattle.std.proofs.Common.{◌-◌, length}
 use Rattle.sg_sets.proofs.LengthenLemmas.{PassedTo}
 use Rattle.sg_sets.proofs.relation.Relation.lengthen_from.Given as goal
 
