@@ -6,10 +6,12 @@
 #![tactic(auto)]
 
 mod forest;
+mod kids;
 mod label;
 mod node;
 mod node_id;
 mod nodes;
+mod up;
 
 pub use forest::{Forest, NoMemory, Refused};
 pub use label::Label;

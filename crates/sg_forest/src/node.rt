@@ -1,6 +1,9 @@
-ghost use Rattle.std.specs.Prelude.{◌≡◌, ◌<◌, ◌-◌, length, take, slice_get, slice_set};
+ghost use Rattle.std.specs.Prelude.{◌≡◌, ◌≢◌, ◌<◌, ◌-◌, length, take, slice_get, slice_set, IfSome};
+ghost use Rattle.sg_forest.specs.Up.{no_place};
 
+use crate::kids::Kids;
 use crate::node_id::NodeId;
+use crate::up::Up;
 use std::marker::Model;
 
 /// One node: its label, its part, the place where it hangs, and its children.
@@ -8,8 +11,8 @@ use std::marker::Model;
 pub struct Linked<L, D> {
     label: L,
     part: D,
-    up: Option<(NodeId, usize)>,
-    kids: Vec<NodeId>,
+    up: Up,
+    kids: Kids,
 }
 
 impl<L, D> Model for Linked<L, D> {
@@ -19,7 +22,7 @@ impl<L, D> Model for Linked<L, D> {
 
     ghost coded = { node_code L.code D.code };
 
-    ghost view = { λ e. record { label = e.label; part = e.part; up = e.up; kids = e.kids.items } };
+    ghost view = { λ e. record { label = e.label; part = e.part; up = e.up; kids = e.kids } };
 }
 
 impl<L, D> Linked<L, D> {
@@ -29,8 +32,8 @@ impl<L, D> Linked<L, D> {
         Linked {
             label,
             part,
-            up: None,
-            kids,
+            up: Up::new(None),
+            kids: Kids::new(kids),
         }
     }
 
@@ -47,9 +50,10 @@ impl<L, D> Linked<L, D> {
     }
 
     pub fn up(&self) -> Option<(NodeId, usize)>
-        ensures { result ≡ self.now.up }
+        ensures up { result ≡ self.now.up }
+        ensures place { IfSome result (λ u. u.1 ≢ no_place) }
     {
-        self.up
+        self.up.get()
     }
 
     pub fn kid_count(&self) -> usize
@@ -62,19 +66,25 @@ impl<L, D> Linked<L, D> {
         requires { k < length self.now.kids }
         ensures { slice_get self.now.kids k ≡ Some result }
     {
-        self.kids[k]
+        self.kids.at(k)
     }
 
     pub fn last_kid(&self) -> Option<NodeId>
         ensures { result ≡ slice_get self.now.kids (length self.now.kids - 1) }
     {
-        self.kids.last().copied()
+        let count = self.kids.len();
+        if count == 0 {
+            None
+        } else {
+            Some(self.kids.at(count - 1))
+        }
     }
 
     pub fn set_up(&mut self, up: Option<(NodeId, usize)>)
+        requires { IfSome up (λ u. u.1 ≢ no_place) }
         ensures { self.new ≡ record self.old { up = up } }
     {
-        self.up = up;
+        self.up = Up::new(up);
     }
 
     pub fn set_part(&mut self, part: D) -> D
@@ -88,7 +98,7 @@ impl<L, D> Linked<L, D> {
         requires { k < length self.old.kids }
         ensures { self.new ≡ record self.old { kids = slice_set self.old.kids k kid } }
     {
-        self.kids[k] = kid;
+        self.kids.set(k, kid);
     }
 
     pub fn pop_kid(&mut self)

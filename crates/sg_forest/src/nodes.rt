@@ -1,6 +1,7 @@
-ghost use Rattle.std.specs.Prelude.{◌≡◌, ◌≢◌, ◌<◌, ◌≤◌, ◌-◌, ◌+◌, ◌↔◌, ℕ, length, take, slice_get, slice_set, Some, None, IsTrue};
+ghost use Rattle.std.specs.Prelude.{◌≡◌, ◌≢◌, ◌<◌, ◌≤◌, ◌-◌, ◌+◌, ◌↔◌, ℕ, length, take, slice_get, slice_set, Some, None, IsTrue, IfSome};
 ghost use Rattle.slab.specs.Slab.{get, ContainsKey, slab_len, HasRoomFor};
 ghost use Rattle.sg_forest.specs.Trees.{node_in, IsLive, IsRoot, IsChild, Lists, IsInside, IsLinked};
+ghost use Rattle.sg_forest.specs.Up.{no_place};
 ghost use Rattle.sg_forest.specs.Steps.{IsSwapped, IsRootMade, IsDropped, AreDistinct};
 
 use crate::node::Linked;
@@ -9,7 +10,8 @@ use slab::Slab;
 
 /// Writes where a node hangs.
 pub fn set_up<L, D>(nodes: &mut Slab<Linked<L, D>>, at: NodeId, up: Option<(NodeId, usize)>)
-    requires { ContainsKey nodes.old at.key }
+    requires live { ContainsKey nodes.old at.key }
+    requires place { IfSome up (λ u. u.1 ≢ no_place) }
     ensures written { (x : _) → get nodes.old at.key ≡ Some x → get nodes.new at.key ≡ Some (record x { up = up }) }
     ensures others { (n : ℕ) → n ≢ at.key → get nodes.new n ≡ get nodes.old n }
     ensures vacant_key { nodes.new.vacant_key ≡ nodes.old.vacant_key }
@@ -96,6 +98,7 @@ fn put_in_place<L, D>(
     k: usize,
 )
     requires child { IsChild (node_in nodes.old) at parent k }
+    requires place { k ≢ no_place }
     requires root { IsRoot (node_in nodes.old) detached }
     requires lists { Lists (node_in nodes.old) parent k at }
     requires parent_is_not_at { parent ≢ at }

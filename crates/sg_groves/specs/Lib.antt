@@ -1,3 +1,4 @@
+pub mod Numbers
 pub mod Grove
 pub mod Stored
 pub mod Holds

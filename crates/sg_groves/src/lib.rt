@@ -4,6 +4,8 @@
 mod kind;
 pub mod laws;
 mod part;
+mod values;
 
 pub use kind::Kind;
 pub use part::Part;
+pub use values::Values;

@@ -1,9 +1,8 @@
 // What a node keeps.
 ghost use Rattle.std.specs.Prelude.{◌≡◌, ◌<◌, [], false, length, slice_get, slice_set, Some};
 
+use crate::values::Values;
 use sg_kinds::ids::ValueId;
-use sg_kinds::row::Row;
-use std::alloc::Global;
 
 /// What a node keeps: its scheme number, its elided mark, and the numbers of its values in a pool. A node of an
 /// operator has a value for each slot, a leaf the one that it holds.
@@ -11,18 +10,18 @@ use std::alloc::Global;
 pub struct Part {
     pub scheme: u32,
     pub elided: bool,
-    pub values: Row<ValueId>,
+    pub values: Values,
 }
 
 impl Part {
     /// A part without values. It takes no memory.
-    pub fn blank(alloc: Global) -> Part
+    pub fn blank() -> Part
         ensures { result ≡ record { scheme = 0; elided = false; values = [] } }
     {
         Part {
             scheme: 0,
             elided: false,
-            values: Row::new(Vec::new(alloc)),
+            values: Values::none(),
         }
     }
 
@@ -32,12 +31,11 @@ impl Part {
         ensures part { result.0 ≡ record self { values = slice_set self.values slot value } }
         ensures before { slice_get self.values slot ≡ Some result.1 }
     {
-        let mut values = self.values.into_vec();
-        let before = std::mem::replace(&mut values[slot as usize], value);
+        let before = self.values.at(slot);
         let part = Part {
             scheme: self.scheme,
             elided: self.elided,
-            values: Row::new(values),
+            values: self.values.with(slot, value),
         };
         (part, before)
     }

@@ -6,10 +6,9 @@ ghost use Rattle.sg_forest.specs.Steps.{AreDistinct, IsRootMade, KeepsKids};
 ghost use Rattle.sg_terms.specs.Occurrences.{AreTrees};
 
 use sg_forest::{Forest, NodeId};
-use sg_groves::{Kind, Part};
+use sg_groves::{Kind, Part, Values};
 use sg_kinds::ids::{PhylumId, ValueId};
 use sg_kinds::memory::NoMemory;
-use sg_kinds::row::Row;
 use std::alloc::Global;
 
 /// Makes a root over roots, or hands these back.
@@ -61,8 +60,6 @@ pub fn grow_leaf(
     ensures ways { KeepsWays (node_at trees.old) (node_at trees.new) }
     ensures forest { AreTrees trees.new }
 {
-    let mut numbers = Vec::with_capacity(alloc, 1)?;
-    numbers.push(id)?;
     let kind = Kind {
         phylum: p,
         op: None,
@@ -71,7 +68,7 @@ pub fn grow_leaf(
     let part = Part {
         scheme: 0,
         elided: false,
-        values: Row::new(numbers),
+        values: Values::one(id),
     };
     let Ok(n) = grow(trees, kind, part, Vec::new(alloc)) else {
         return Err(NoMemory);

@@ -6,7 +6,6 @@ use sg_forest::{Forest, NodeId};
 use sg_groves::{Kind, Part};
 use sg_kinds::ids::ValueId;
 use sg_kinds::memory::NoMemory;
-use sg_kinds::row::item;
 use sg_kinds::spec::Occurrence;
 
 /// The node at an occurrence of a node's operator.
@@ -27,7 +26,7 @@ pub fn number(trees: &Forest<Kind, Part>, n: NodeId, slot: u32) -> ValueId
     requires { IsSome (number_in trees.now n slot) }
     ensures { number_in trees.now n slot ≡ Some result }
 {
-    *item(trees.part(n).values.as_slice(), slot as usize)
+    trees.part(n).values.at(slot)
 }
 
 /// Writes the numbers that are stored for occurrences, in their order, into an empty buffer.

@@ -32,7 +32,7 @@ use crate::rows::{kind_of, unknown, widest};
 use sg_eval::made::MadeTerms;
 use sg_eval::{Evaluator, Instance, Journal};
 use sg_forest::{Forest, NodeId};
-use sg_groves::{Kind, Part};
+use sg_groves::{Kind, Part, Values};
 use sg_kinds::ids::{OpId, PhylumId, RuleId, ValueId};
 use sg_kinds::marks::FaultKind;
 use sg_kinds::memory::NoMemory;
@@ -276,7 +276,7 @@ impl Terms {
         let part = Part {
             scheme,
             elided,
-            values: Row::new(numbers),
+            values: Values::new(numbers),
         };
         grow(&mut self.trees, kind, part, kids)
     }
@@ -289,7 +289,7 @@ impl Terms {
         ensures kept { OnlyStored self.old self.new (IsSlot n slot) }
         ensures pool { self.new.pool ≡ self.old.pool }
     {
-        put_value(self.alloc, &mut self.trees, n, slot, v)
+        put_value(&mut self.trees, n, slot, v)
     }
 
     /// Writes the scheme number of a node of an operator. It takes no memory.
@@ -307,7 +307,7 @@ impl Terms {
         ensures view { self.new.view ≡ self.old.view }
         ensures pool { self.new.pool ≡ self.old.pool }
     {
-        put_scheme(self.alloc, &mut self.trees, n, k);
+        put_scheme(&mut self.trees, n, k);
     }
 
     /// Writes the elided mark of a node of an operator. It takes no memory.
@@ -324,7 +324,7 @@ impl Terms {
         ensures view { self.new.view ≡ self.old.view }
         ensures pool { self.new.pool ≡ self.old.pool }
     {
-        put_elided(self.alloc, &mut self.trees, n, on);
+        put_elided(&mut self.trees, n, on);
     }
 
     /// The tree under `at` and that of the root `detached` change places. Where `at` is a root nothing changes. It

@@ -6,7 +6,7 @@ use Rattle.sg_forest.proofs.nodes.is_inside.Goals as goal
 
 pub climb-preserved : goal.climb-preserved
 climb-preserved g c =
-    let child : IsChild (node_in c.args.nodes.now) c.climb.at c.in-Some.parent c.in-Some.field-0-1 = record { node = c.index.result.now; found = c.index.ensures; hangs = sym c.in-Some.ensures } in
+    let child : IsChild (node_in c.args.nodes.now) c.climb.at c.in-Some.parent c.in-Some.field-0-1 = record { node = c.index.result.now; found = c.index.ensures; hangs = sym c.in-Some.ensures.up } in
     record {
       live = parent_is_live _ c.requires.linked c.climb.at c.in-Some.parent c.in-Some.field-0-1 child;
       up = inside_append _ c.args.n c.climb.at c.in-Some.parent c.climb.invariant.up (inside_by_parent _ c.climb.at c.in-Some.parent c.in-Some.parent c.in-Some.field-0-1 child (inside_itself _ c.in-Some.parent));
@@ -19,13 +19,13 @@ climb-preserved g c =
 
 pub climb-smaller : goal.climb-smaller
 climb-smaller g c =
-    let child : IsChild (node_in c.args.nodes.now) c.climb.at c.in-Some.parent c.in-Some.field-0-1 = record { node = c.index.result.now; found = c.index.ensures; hangs = sym c.in-Some.ensures } in
+    let child : IsChild (node_in c.args.nodes.now) c.climb.at c.in-Some.parent c.in-Some.field-0-1 = record { node = c.index.result.now; found = c.index.ensures; hangs = sym c.in-Some.ensures.up } in
     let deeper = depth_in-child c.args.nodes.now c.requires.linked c.climb.at c.in-Some.parent c.in-Some.field-0-1 child in
     omega (arith, deeper.0)
 
 pub returns-in-None : goal.returns-in-None
 returns-in-None g c =
-    let root : IsRoot (node_in c.args.nodes.now) c.climb.at = record { node = c.index.result.now; found = c.index.ensures; top = sym c.in-None.ensures } in
+    let root : IsRoot (node_in c.args.nodes.now) c.climb.at = record { node = c.index.result.now; found = c.index.ensures; top = sym c.in-None.ensures.up } in
     record {
       inside = (
         λ is. absurd (cc is),

@@ -4,8 +4,8 @@ use Rattle.sg_forest.proofs.Linked.{next_live, IsHung-more}
 use Rattle.sg_forest.proofs.Slots.{contains_key, others_by_id}
 use Rattle.sg_forest.proofs.nodes.link_kids.Goals as goal
 
-pub set_up-requires : goal.set_up-requires
-set_up-requires g c =
+pub set_up-requires-clause-live : goal.set_up-requires-clause-live
+set_up-requires-clause-live g c =
     contains_key c.loop-k.nodes _ (next_live _ _ c.args.parent c.args.kids.now c.loop-k.k c.requires.distinct c.loop-k-test.true c.loop-k.invariant.hung c.requires.live)
 
 pub loop-k-preserved : goal.loop-k-preserved

@@ -14,5 +14,5 @@ returns-clause-rises g c = by c.up.result refl
     by : (o : Option _) → c.up.result ≡ o → IfSome o (λ up. room_below c.args.self.now c.args.n < room_below c.args.self.now up.0)
     by None e = tt
     by (Some up) e =
-        let is = c.up.ensures in
+        let is = c.up.ensures.up in
         rw (← c.self.view_is) (room_below-slab_child c.self.inside.nodes c.self.invariant.linked c.args.n up.0 up.1 (record { node = c.index.result.now; found = c.index.ensures; hangs = sym is ∙ e }))

@@ -1,0 +1,103 @@
+// The numbers of a node's values.
+ghost use Rattle.std.specs.Prelude.{◌≡◌, ◌<◌, [], ◌∷◌, length, slice_get, slice_set, Some};
+
+use sg_kinds::ids::ValueId;
+use std::marker::Model;
+
+/// The numbers of a node's values, which contracts see as a list. Up to three stand in their place and need no memory
+/// of their own.
+#[derive(Drop)]
+pub struct Values {
+    form: Form,
+}
+
+#[derive(Drop)]
+enum Form {
+    Empty,
+    One(ValueId),
+    Two(ValueId, ValueId),
+    Three(ValueId, ValueId, ValueId),
+    Long(Vec<ValueId>),
+}
+
+impl Model for Values {
+    ghost use Rattle.std.specs.Prelude.{List, ℕ};
+    ghost use Rattle.sg_groves.specs.Numbers.{numbers_of};
+
+    ghost Value = { List ℕ };
+
+    ghost view = { λ v. numbers_of v.form };
+}
+
+impl Values {
+    /// No numbers. It takes no memory.
+    pub fn none() -> Values
+        ensures { result ≡ [] }
+    {
+        Values { form: Form::Empty }
+    }
+
+    /// One number. It takes no memory.
+    pub fn one(number: ValueId) -> Values
+        ensures { result ≡ number ∷ [] }
+    {
+        Values {
+            form: Form::One(number),
+        }
+    }
+
+    /// These numbers. It takes no memory, and up to three give theirs back.
+    pub fn new(numbers: Vec<ValueId>) -> Values
+        ensures { result ≡ numbers.items }
+    {
+        let form = match numbers.as_slice() {
+            [] => Form::Empty,
+            [a] => Form::One(*a),
+            [a, b] => Form::Two(*a, *b),
+            [a, b, c] => Form::Three(*a, *b, *c),
+            _ => Form::Long(numbers),
+        };
+        Values { form }
+    }
+
+    /// The number in a slot, counted from 0.
+    pub fn at(&self, slot: u32) -> ValueId
+        requires { slot < length self.now }
+        ensures { slice_get self.now slot ≡ Some result }
+    {
+        match &self.form {
+            Form::Long(numbers) => numbers[slot as usize],
+            Form::Two(a, b) => if slot == 0 { *a } else { *b },
+            Form::Three(a, b, c) => if slot == 0 {
+                *a
+            } else if slot == 1 {
+                *b
+            } else {
+                *c
+            },
+            Form::One(a) => *a,
+            Form::Empty => unreachable!(),
+        }
+    }
+
+    /// The numbers with another one in a slot, counted from 0. It takes no memory.
+    pub fn with(mut self, slot: u32, number: ValueId) -> Values
+        requires { slot < length self }
+        ensures { result ≡ slice_set self slot number }
+    {
+        match &mut self.form {
+            Form::Empty => {}
+            Form::One(a) => *a = number,
+            Form::Two(a, b) => if slot == 0 { *a = number } else { *b = number },
+            Form::Three(a, b, c) => if slot == 0 {
+                *a = number
+            } else if slot == 1 {
+                *b = number
+            } else {
+                *c = number
+            },
+            Form::Long(numbers) => numbers[slot as usize] = number,
+        }
+        self
+    }
+}
