@@ -277,6 +277,13 @@ impl Buffer {
         self.page = Some(page);
     }
 
+    /// Lets go of the page that is kept.
+    pub fn forget_page(&mut self)
+        ensures { self.new ≡ self.old }
+    {
+        self.page = None;
+    }
+
     // what is known of the term where it is known where the selected node begins
     pub(crate) fn beginning(&self) -> Option<Known>
         ensures { IfSome result (IsKnown self.now.grove self.now.root) }

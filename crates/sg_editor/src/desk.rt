@@ -105,6 +105,18 @@ impl Desk {
         self.named.get(self.current?)
     }
 
+    /// Lets go of the page of the current buffer, which is made anew where it is wanted.
+    pub fn leave(&mut self)
+        ensures { self.new ≡ self.old }
+    {
+        let Some(k) = self.current else {
+            return;
+        };
+        if k < self.named.len() {
+            self.named[k].buffer.forget_page();
+        }
+    }
+
     /// Makes the buffer of a name current.
     pub fn switch(&mut self, name: &[u8]) -> Message
         ensures took { Took (switches name.now (session_in self.old)) self.new result [] }
@@ -113,6 +125,7 @@ impl Desk {
         let Some(k) = self.place_of(name) else {
             return Message::NoBuffer;
         };
+        self.leave();
         self.current = Some(k);
         Message::Fine
     }

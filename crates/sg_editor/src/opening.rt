@@ -64,6 +64,7 @@ impl Desk {
         ensures loads { self.new.loads ≡ self.old.loads }
         ensures total { total_of journal.new ≡ total_of journal.old }
     {
+        self.leave();
         self.named.reserve(1)?;
         let name = Text::from_slice(base.alloc(), name)?;
         let buffer = begun(base, t, journal)?;

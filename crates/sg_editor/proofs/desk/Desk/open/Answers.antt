@@ -1,5 +1,5 @@
 use Rattle.std.specs.Prelude.{◌≡◌, [], ◌∷◌, ◌++◌, length, Some}
-use Rattle.std.proofs.Common.{sym, ap, subst, arith}
+use Rattle.std.proofs.Common.{sym, ap, ◌∙◌, subst, arith}
 use Rattle.sg_eval.specs.Journal.{now_of}
 use Rattle.sg_script.specs.declared.message.Message.TheVariants as message
 use Rattle.sg_editor.specs.Ask.{opens}
@@ -20,8 +20,8 @@ returns-clause-took c =
     let h = c.in_ok-buffer.buffer in
     let items : c.push.new.self.items ≡ k.buffers ++ record { name = c.args.name.now; buffer = h } ∷ [] = grind arith in
     let place : c.len-place.result ≡ length k.buffers = grind arith in
-    let clip : c.self.inside.clip ≡ k.clip = ap (λ (x : Kept). x.clip) c.self.view_is in
-    let loads : c.self.inside.loads ≡ k.loads = ap (λ (x : Kept). x.loads) c.self.view_is in
+    let clip : c.self.inside.clip ≡ k.clip = ap (λ (x : Kept). x.clip) (c.self.view_is ∙ c.leave.ensures) in
+    let loads : c.self.inside.loads ≡ k.loads = ap (λ (x : Kept). x.loads) (c.self.view_is ∙ c.leave.ensures) in
     let same : record { buffers = c.push.new.self.items; current = Some c.len-place.result; clip = c.self.inside.clip; loads = c.self.inside.loads } ≡ opened k c.args.name.now h =
     λ i. record { buffers = items i; current = Some (place i); clip = clip i; loads = loads i } in
     subst (λ (x : Kept). Took (opens c.args.base.now.contents.spec c.args.name.now c.args.t.now (session_in k)) x message.Fine (now_of c.begun.new.journal)) (sym same)
@@ -33,8 +33,8 @@ returns-clause-kept c =
     let h = c.in_ok-buffer.buffer in
     let items : c.push.new.self.items ≡ k.buffers ++ record { name = c.args.name.now; buffer = h } ∷ [] = grind arith in
     let place : c.len-place.result ≡ length k.buffers = grind arith in
-    let clip : c.self.inside.clip ≡ k.clip = ap (λ (x : Kept). x.clip) c.self.view_is in
-    let loads : c.self.inside.loads ≡ k.loads = ap (λ (x : Kept). x.loads) c.self.view_is in
+    let clip : c.self.inside.clip ≡ k.clip = ap (λ (x : Kept). x.clip) (c.self.view_is ∙ c.leave.ensures) in
+    let loads : c.self.inside.loads ≡ k.loads = ap (λ (x : Kept). x.loads) (c.self.view_is ∙ c.leave.ensures) in
     let same : record { buffers = c.push.new.self.items; current = Some c.len-place.result; clip = c.self.inside.clip; loads = c.self.inside.loads } ≡ opened k c.args.name.now h =
     λ i. record { buffers = items i; current = Some (place i); clip = clip i; loads = loads i } in
     subst (IsKept c.args.base.now.contents.spec c.args.base.now.height) (sym same)
