@@ -1,3 +1,4 @@
 pub mod Right
-pub mod Texts
 pub mod Along
+pub mod Kept
+pub mod Texts

@@ -1,9 +1,9 @@
--- The values that a node of a whole term keeps for its attributes are their from-scratch values.
-use Rattle.std.specs.Prelude.{◌≡◌, refl, ℕ, true, false, not, [], map, Option, Some, None, IsSome, slice_get, option_map, unwrap_or}
+-- The values that a node of an operator keeps for its synthesized attributes are their from-scratch values.
+use Rattle.std.specs.Prelude.{◌≡◌, refl, ℕ, Bool, true, false, not, [], map, Some, None, IsSome, slice_get, option_map, unwrap_or}
 use Rattle.std.specs.Option.{is_some}
 use Rattle.std.proofs.Common.{sym, ap, ◌∙◌, subst, arith}
-use Rattle.std.proofs.lemmas.Option.{none-some, slice_get_within, slice_get-map}
-use Rattle.sg_kinds.specs.Terms.{Term, Leaf, Node}
+use Rattle.std.proofs.lemmas.Option.{slice_get_within, slice_get-map}
+use Rattle.sg_kinds.specs.Terms.{Term, Node}
 use Rattle.sg_kinds.specs.Places.{Place}
 use Rattle.sg_kinds.specs.Nets.{label_of, net_of}
 use Rattle.sg_kinds.specs.Instances.{site_of, attr_count}
@@ -28,20 +28,12 @@ use Rattle.sg_attrib.proofs.Nodes.{label_op}
 use Rattle.sg_terms.specs.Found.{op_at}
 use Rattle.sg_unparse.proofs.Placed.{occurrence_stored, number_there}
 use Rattle.sg_printing.specs.At.{IsAt}
-use Rattle.sg_printing.specs.Shown.{attributes}
 
 -- an attribute of an operator's phylum
 pub record IsOf (spec : Spec) (op slot : ℕ) (a : Attr) : Type 0 where
   pub phylum : ℕ
   pub of : phylum_of spec.ops op ≡ Some phylum
   pub there : slice_get (attrs_of spec.phyla phylum) slot ≡ Some a
-
-pub its_phylum : (spec : Spec) (op slot : ℕ) (a : Attr) → slice_get (unwrap_or (option_map (attrs_of spec.phyla) (phylum_of spec.ops op)) []) slot ≡ Some a → IsOf spec op slot a
-its_phylum spec op slot a is = by (phylum_of spec.ops op) refl is
-  where
-    by : (o : Option ℕ) → phylum_of spec.ops op ≡ o → slice_get (unwrap_or (option_map (attrs_of spec.phyla) o) []) slot ≡ Some a → IsOf spec op slot a
-    by None e is = absurd (none-some a is)
-    by (Some p) e is = record { phylum = p; of = e; there = is }
 
 module _ (spec : Spec) (op slot : ℕ) (a : Attr) (is : IsOf spec op slot a) where
   its_type : slot_type spec op 0 slot ≡ Some a.of
@@ -67,13 +59,9 @@ pub record IsKept (g : Grove) (n : NodeId) (t : Term) (u : Place) (slot : ℕ) :
   pub number : IsSome (number_at g n slot)
   pub value : value_there g n slot ≡ value_in g.spec t (record { node = u; slot = slot })
 
-pub kept : (g : Grove) → IsGrove g → (root n : NodeId) (t : Term) (u : Place) (x : Term) → IsAt g root n t u x → (slot : ℕ) (a : Attr) → slice_get (attributes g.spec x) slot ≡ Some a → is_way_inherited a.way ≡ false → IsKept g n t u slot
-kept g is root n t u (Leaf p v) at slot a there way = absurd (none-some a there)
-kept g is root n t u (Node op k elided ts) at slot a there way = record { number = number; value = value }
+pub kept : (g : Grove) → IsGrove g → (root n : NodeId) (t : Term) (u : Place) (op k : ℕ) (elided : Bool) (ts : _) → IsAt g root n t u (Node op k elided ts) → (slot : ℕ) (a : Attr) → IsOf g.spec op slot a → is_way_inherited a.way ≡ false → IsKept g n t u slot
+kept g is root n t u op k elided ts at slot a of way = record { number = number; value = value }
   where
-    of : IsOf g.spec op slot a
-    of = its_phylum g.spec op slot a there
-
     placed : IsPlaced g root t u n
     placed = record { top = at.whole.top; holds = at.whole.holds; way = at.way }
 

@@ -1,116 +1,63 @@
--- What is read of a node on the way to the text of one of its attributes.
-use Rattle.std.specs.Prelude.{◌≡◌, refl, ℕ, ◌<◌, Bool, true, false, not, ◌&&◌, bytes_eq, List, [], ◌∷◌, length, Option, Some, None, IsSome, slice_get, get_or, option_map, option_and_then, unwrap_or}
-use Rattle.std.proofs.Common.{sym, ap, ◌∙◌, subst, arith}
-use Rattle.std.proofs.lemmas.Option.{none-some, same_Some, slice_get_within, slice_get-get_or, get_or_from_slice_get}
-use Rattle.std.proofs.lemmas.List.Filters.{length-filter_both}
-use Rattle.std.proofs.lemmas.List.Quantifiers.{position-Some}
-use Rattle.std.proofs.lemmas.List.Sums.{length-filter}
-use Rattle.sg_kinds.specs.Values.{Bytes}
-use Rattle.sg_kinds.specs.Terms.{Term, Leaf, Node}
+-- The text of an attribute of a node.
+use Rattle.std.specs.Prelude.{◌≡◌, ℕ, ◌<◌, List, [], length, Option, Some, None, IsSome, slice_get, option_map, option_and_then, unwrap_or}
+use Rattle.std.specs.Slice.{IsItemAt}
+use Rattle.std.proofs.Common.{sym, ap, ◌∙◌, subst, Bor}
+use Rattle.std.proofs.lemmas.Option.{slice_get_past, slice_get_within}
+use Rattle.sg_kinds.specs.Values.{Bytes, Value}
+use Rattle.sg_kinds.specs.Terms.{Term}
 use Rattle.sg_kinds.specs.Places.{Place}
+use Rattle.sg_kinds.specs.Evaluation.{untyped}
+use Rattle.sg_kinds.specs.Fits.{Fits}
 use Rattle.sg_kinds.specs.FromScratch.{value_in}
-use Rattle.sg_kinds.specs.Far.{is_far, is_written}
-use Rattle.sg_kinds.specs.Sound.{IsSound}
-use Rattle.sg_kinds.specs.Specification.{attrs_of, is_way_inherited}
-use Rattle.sg_kinds.specs.declared.spec.Spec.{Spec}
+use Rattle.sg_kinds.specs.Specification.{attrs_of}
 use Rattle.sg_kinds.specs.declared.spec.Attr.{Attr}
-use Rattle.sg_kinds.specs.declared.spec.Phylum.{Phylum}
+use Rattle.sg_kinds.proofs.Elementary.{slice_get-there}
+use Rattle.sg_pool.specs.Pools.{value_at}
 use Rattle.sg_forest.specs.declared.node_id.NodeId.{NodeId}
-use Rattle.sg_forest.specs.Trees.{IsLive}
-use Rattle.sg_forest.specs.Tree.{Tree, node, Stands}
-use Rattle.sg_groves.specs.declared.kind.Kind.{Kind}
-use Rattle.sg_groves.specs.declared.part.Part.{Part}
-use Rattle.sg_groves.specs.Grove.{Grove, nodes, IsGrove}
-use Rattle.sg_groves.specs.Holds.{Holds}
-use Rattle.sg_groves.specs.Stored.{number_at, value_there}
-use Rattle.sg_groves.proofs.Held.{part_held}
-use Rattle.sg_unparse.specs.Printing.{value_text}
+use Rattle.sg_groves.specs.Grove.{Grove, IsGrove}
+use Rattle.sg_groves.specs.Stored.{number_at}
+use Rattle.sg_plans.proofs.Nodes.{fitting_phylum}
 use Rattle.sg_printing.specs.At.{IsAt}
-use Rattle.sg_printing.specs.Shown.{attributes, is_own, slot_of, slot_text, text_at}
-use Rattle.sg_printing.proofs.Right.{its_phylum, IsKept, kept}
+use Rattle.sg_printing.specs.Printed.{saved_text, printed}
+use Rattle.sg_printing.specs.Shown.{attributes, text_at}
+use Rattle.sg_printing.specs.declared.printed.Form.{Form}
+use Rattle.sg_printing.specs.declared.printed.Form.TheVariants.{Saved}
+use Rattle.sg_printing.proofs.Right.{IsKept}
+use Rattle.sg_printing.proofs.Kept.{its_kept}
 
--- a node that holds a term is live
-holds_live : (g : Grove) (n : NodeId) (w : Tree Kind Part) → Stands (nodes g) n w → IsLive (nodes g) n
-holds_live g n (node kind part ts) stands = record { node = stands.1.node; found = stands.1.found }
+-- nothing stands at a place where nothing was read
+pub past : (xs : List Attr) (slot : ℕ) (o : Option (Bor Attr)) → IsItemAt xs slot o → o ≡ None → slice_get xs slot ≡ None
+past xs slot o at is = let l = subst (IsItemAt xs slot) is at in slice_get_past xs slot l.3
 
--- the synthesized attribute that a slot is of
-record IsOwnAt (attrs : List Attr) (slot : ℕ) : Type 0 where
-  attr : Attr
-  low : slot < length attrs
-  there : slice_get attrs slot ≡ Some attr
-  way : is_way_inherited attr.way ≡ false
+module _ (g : Grove) (is : IsGrove g) (root n : NodeId) (t : Term) (u : Place) (x : Term) (at : IsAt g root n t u x) (p : ℕ) (fits : Fits g.spec x p) (slot : ℕ) where
+  abbrev value : Value
+  value = value_in g.spec t (record { node = u; slot = slot })
 
-own_way : (name : Bytes) (a : Attr) → is_own name a ≡ true → is_way_inherited a.way ≡ false
-own_way name a e = by (is_way_inherited a.way) e
-  where
-    by : (b : Bool) → not b && bytes_eq name a.name ≡ true → b ≡ false
-    by true e = sym e
-    by false e = refl
+  -- the attributes of its phylum are those of the node
+  its_attr : slice_get (attributes g.spec x) slot ≡ slice_get (attrs_of g.spec.phyla p) slot
+  its_attr = ap (λ o. slice_get (unwrap_or (option_map (attrs_of g.spec.phyla) o) []) slot) (fitting_phylum g.spec x p fits)
 
-own_there : (name : Bytes) (attrs : List Attr) (slot : ℕ) → slot_of name attrs ≡ Some slot → IsOwnAt attrs slot
-own_there name [] slot e = absurd (none-some slot e)
-own_there name (b ∷ bs) slot e =
-    let at = position-Some (is_own name) (b ∷ bs) slot b e in
-    record {
-      attr = get_or (b ∷ bs) slot b;
-      low = at.0;
-      there = slice_get-get_or (b ∷ bs) slot b at.0;
-      way = own_way name (get_or (b ∷ bs) slot b) at.1;
-    }
+  its_text : (form : Form) (o : Option Attr) → slice_get (attrs_of g.spec.phyla p) slot ≡ o → text_at g.spec form t u slot x ≡ option_and_then (λ (a : Attr). printed form g.spec a.of value) o
+  its_text form o found = ap (option_and_then (λ (a : Attr). printed form g.spec a.of value)) (its_attr ∙ found)
 
--- a phylum has few attributes
-few_slots : (spec : Spec) → IsSound spec → (p slot : ℕ) (a : Attr) → slice_get (attrs_of spec.phyla p) slot ≡ Some a → slot < 1048608
-few_slots spec sound p slot a there = by (slice_get spec.phyla p) refl (slice_get_within (attrs_of spec.phyla p) slot a there)
-  where
-    by : (o : Option Phylum) → slice_get spec.phyla p ≡ o → slot < length (unwrap_or (option_map (λ (y : Phylum). y.attrs) o) []) → slot < 1048608
-    by None e low = absurd (omega (arith, low))
-    by (Some y) e low =
-        let few = sound.counted.attrs p y (slice_get_within spec.phyla p y e) in
-        let same = get_or_from_slice_get spec.phyla p y y e in
-        let all = (get_or spec.phyla p y).attrs in
-        omega (arith, low, few.0, few.1, length-filter_both is_written is_far (λ b. refl) all, length-filter is_written all, length-filter is_far all, ap (λ (z : Phylum). length z.attrs) same)
+  -- there is no such attribute
+  pub text_none : (form : Form) → slice_get (attrs_of g.spec.phyla p) slot ≡ None → None ≡ text_at g.spec form t u slot x
+  text_none form none = sym (its_text form None none)
 
-module _ (g : Grove) (is : IsGrove g) (root n : NodeId) (t : Term) (u : Place) (x : Term) (at : IsAt g root n t u x) where
-  pub at_holds : Holds g n x
-  at_holds =
-      let part = part_held g is u n root t at.way at.whole.holds in
-      subst (Holds g n) (same_Some part.0 x (sym part.2 ∙ at.part)) part.1
+  -- a value is kept for one, and its text is the one that is told
+  module _ (a : Attr) (found : slice_get (attrs_of g.spec.phyla p) slot ≡ Some a) where
+    own : IsKept g n t u slot
+    own = its_kept g is root n t u x at p slot fits (slice_get_within (attrs_of g.spec.phyla p) slot a found)
 
-  pub at_live : IsLive (nodes g) n
-  at_live = holds_live g n at_holds.tree at_holds.stands
+    pub has_number : IsSome (number_at g n slot)
+    has_number = own.number
 
-  module _ (name : Bytes) (attrs : List Attr) (of : attrs ≡ attributes g.spec x) (found : Option ℕ) (is_found : found ≡ slot_of name attrs) where
-    -- no attribute has the name
-    pub text_none : found ≡ None → None ≡ text_at g.spec name t u x
-    text_none none =
-        sym (ap (λ ys. option_and_then (slot_text g.spec t u ys) (slot_of name ys)) (sym of)
-        ∙ ap (option_and_then (slot_text g.spec t u attrs)) (sym is_found ∙ none))
+    own_value : (id : ℕ) → number_at g n slot ≡ Some id → value_at g.pool id ≡ value
+    own_value id number = sym (ap (λ o. unwrap_or (option_map (value_at g.pool) o) untyped) number) ∙ own.value
 
-    module _ (slot : ℕ) (some : found ≡ Some slot) where
-      own : IsOwnAt attrs slot
-      own = own_there name attrs slot (sym is_found ∙ some)
+    pub text_some : (form : Form) (id : ℕ) → number_at g n slot ≡ Some id → (o : Option Bytes) → o ≡ printed form g.spec a.of (value_at g.pool id) → o ≡ text_at g.spec form t u slot x
+    text_some form id number o told = told ∙ ap (printed form g.spec a.of) (own_value id number) ∙ sym (its_text form (Some a) found)
 
-      there : slice_get (attributes g.spec x) slot ≡ Some own.attr
-      there = ap (λ ys. slice_get ys slot) (sym of) ∙ own.there
-
-      -- its slot is a small number, a value is kept for it, and its text is the one that is told
-      pub slot_low : slot < 1048608
-      slot_low = by x there
-        where
-          by : (y : Term) → slice_get (attributes g.spec y) slot ≡ Some own.attr → slot < 1048608
-          by (Leaf p v) e = absurd (none-some own.attr e)
-          by (Node op k elided ts) e = let it = its_phylum g.spec op slot own.attr e in few_slots g.spec is.sound it.phylum slot own.attr it.there
-
-      its_kept : IsKept g n t u slot
-      its_kept = kept g is root n t u x at slot own.attr there own.way
-
-      pub has_number : IsSome (number_at g n slot)
-      has_number = its_kept.number
-
-      pub text_some : (a : Attr) → slice_get attrs slot ≡ Some a → (s : Bytes) → s ≡ value_text g.spec a.of (value_there g n slot) → Some s ≡ text_at g.spec name t u x
-      text_some a is_a s is_s =
-          let value = λ (b : Attr). value_text g.spec b.of (value_in g.spec t (record { node = u; slot = slot })) in
-          ap Some (is_s ∙ ap (value_text g.spec a.of) its_kept.value)
-          ∙ sym (ap (λ ys. option_and_then (slot_text g.spec t u ys) (slot_of name ys)) (sym of)
-          ∙ ap (option_and_then (slot_text g.spec t u attrs)) (sym is_found ∙ some)
-          ∙ ap (option_map value) is_a)
+  -- in the form of saved files each attribute has a text
+  pub has_text : slot < length (attrs_of g.spec.phyla p) → text_at g.spec Saved t u slot x ≡ Some (saved_text g.spec value)
+  has_text low = let a = slice_get-there (attrs_of g.spec.phyla p) slot low in its_text Saved (Some a.0) a.1

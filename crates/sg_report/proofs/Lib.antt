@@ -1,4 +1,3 @@
-pub mod Stored
 pub mod Walking
 pub mod Own
 pub mod Reading

@@ -1,5 +1,5 @@
 -- The line of one node, or none.
-use Rattle.std.specs.Prelude.{◌≡◌, ℕ, ◌<◌, true, false, cond, nat_eq, List, [], ◌∷◌, ◌++◌, length, Some, IsSome, option_map, unwrap_or}
+use Rattle.std.specs.Prelude.{◌≡◌, ℕ, true, false, cond, nat_eq, List, [], ◌∷◌, ◌++◌, length}
 use Rattle.std.specs.List.{flat_map}
 use Rattle.std.proofs.Common.{sym, ap, ◌∙◌, arith, append_assoc, append-nil}
 use Rattle.std.proofs.lemmas.Bool.Decides.{nat_tests}
@@ -8,18 +8,11 @@ use Rattle.sg_kinds.specs.Values.{Bytes}
 use Rattle.sg_kinds.specs.Terms.{Term}
 use Rattle.sg_kinds.specs.Places.{Place, place_of}
 use Rattle.sg_kinds.specs.Fits.{Fits}
-use Rattle.sg_kinds.specs.Evaluation.{untyped}
-use Rattle.sg_kinds.specs.FromScratch.{value_in}
-use Rattle.sg_kinds.specs.Specification.{attrs_of}
-use Rattle.sg_pool.specs.Pools.{value_at}
 use Rattle.sg_forest.specs.declared.node_id.NodeId.{NodeId}
 use Rattle.sg_groves.specs.Grove.{Grove, IsGrove}
-use Rattle.sg_groves.specs.Stored.{number_at}
 use Rattle.sg_printing.specs.At.{IsAt}
-use Rattle.sg_printing.proofs.Right.{IsKept}
-use Rattle.sg_report.specs.Lines.{path_text, printed, line_at, of_these, lines_at}
+use Rattle.sg_report.specs.Lines.{path_text, text_of, line_at, of_these, lines_at}
 use Rattle.sg_report.specs.declared.attrs.Named.{Named}
-use Rattle.sg_report.proofs.Stored.{its_kept}
 use Rattle.sg_report.proofs.Walking.{is_of-fits}
 
 regrouped : (old path value : Bytes) → (((old ++ path) ++ 32 ∷ []) ++ value) ++ 10 ∷ [] ≡ old ++ (path ++ 32 ∷ value ++ 10 ∷ [])
@@ -51,26 +44,16 @@ module _ (g : Grove) (is : IsGrove g) (root n : NodeId) (t x : Term) (path : Lis
     no_text old = sym (append-nil old) ∙ sym (ap (λ us. old ++ flat_map (line_at g.spec t a.slot) us) no_place)
 
   -- where it is of the phylum
-  module _ (fits : Fits g.spec x a.phylum) (low : a.slot < length (attrs_of g.spec.phyla a.phylum)) where
-    own_kept : IsKept g n t here a.slot
-    own_kept = its_kept g is root n t here x at a.phylum a.slot fits low
-
-    pub own_number : IsSome (number_at g n a.slot)
-    own_number = own_kept.number
-
+  module _ (fits : Fits g.spec x a.phylum) where
     one_place : of_these g.spec t a (here ∷ []) ≡ here ∷ []
     one_place = ap (λ b. cond b (here ∷ []) []) (is_of-fits g.spec t x here at.part a.phylum fits a.phylum ∙ same_phylum a.phylum)
 
     pub own_count : 1 ≡ length (of_these g.spec t a (here ∷ []))
     own_count = sym (ap length one_place)
 
-    own_value : (id : ℕ) → number_at g n a.slot ≡ Some id → value_at g.pool id ≡ value_in g.spec t (record { node = here; slot = a.slot })
-    own_value id number = sym (ap (λ o. unwrap_or (option_map (value_at g.pool) o) untyped) number) ∙ own_kept.value
-
-    pub own_text : (id : ℕ) → number_at g n a.slot ≡ Some id → (old o1 o2 o3 o4 : Bytes) → o1 ≡ old ++ path_text path → o2 ≡ o1 ++ 32 ∷ [] → o3 ≡ o2 ++ printed g.spec (value_at g.pool id)
+    pub own_text : (old o1 o2 o3 o4 : Bytes) → o1 ≡ old ++ path_text path → o2 ≡ o1 ++ 32 ∷ [] → o3 ≡ o2 ++ text_of g.spec t a.slot here
         → o4 ≡ o3 ++ 10 ∷ [] → o4 ≡ old ++ lines_at g.spec t a (here ∷ [])
-    own_text id number old o1 o2 o3 o4 first blank third last =
-        line_written old (path_text path) (printed g.spec (value_at g.pool id)) o1 o2 o3 o4 first blank third last
-        ∙ ap (λ v. old ++ (path_text path ++ 32 ∷ printed g.spec v ++ 10 ∷ [])) (own_value id number)
-        ∙ ap (λ way. old ++ (path_text way ++ 32 ∷ printed g.spec (value_in g.spec t (record { node = here; slot = a.slot })) ++ 10 ∷ [])) (sym (reverse-reverse path))
+    own_text old o1 o2 o3 o4 first blank third last =
+        line_written old (path_text path) (text_of g.spec t a.slot here) o1 o2 o3 o4 first blank third last
+        ∙ ap (λ way. old ++ (path_text way ++ 32 ∷ text_of g.spec t a.slot here ++ 10 ∷ [])) (sym (reverse-reverse path))
         ∙ ap (λ s. old ++ s) (sym (append-nil (line_at g.spec t a.slot here)) ∙ sym (ap (flat_map (line_at g.spec t a.slot)) one_place))

@@ -2,7 +2,7 @@
 use Rattle.std.specs.Prelude.{ℕ, Bool, false, nat_eq, List, [], ◌∷◌, ◌++◌, reverse, length, codes, option_map, unwrap_or}
 use Rattle.std.specs.List.{filter, flat_map}
 use Rattle.std.specs.Fmt.{decimal}
-use Rattle.sg_kinds.specs.Values.{Bytes, Value, Fault}
+use Rattle.sg_kinds.specs.Values.{Bytes}
 use Rattle.sg_kinds.specs.Terms.{Term}
 use Rattle.sg_kinds.specs.Places.{Place, places_in}
 use Rattle.sg_kinds.specs.Nets.{net_of, phylum_at}
@@ -10,8 +10,7 @@ use Rattle.sg_kinds.specs.Instances.{instances}
 use Rattle.sg_kinds.specs.FromScratch.{value_in}
 use Rattle.sg_kinds.specs.Specification.{rules_of}
 use Rattle.sg_kinds.specs.declared.spec.Spec.{Spec}
-use Rattle.sg_unparse.specs.Printing.{fault_text}
-use Rattle.sg_saved.specs.Spelling.{spelled}
+use Rattle.sg_printing.specs.Printed.{saved_text}
 use Rattle.sg_report.specs.declared.answers.Report.{Report}
 use Rattle.sg_report.specs.declared.attrs.Named.{Named}
 
@@ -19,11 +18,6 @@ use Rattle.sg_report.specs.declared.attrs.Named.{Named}
 abbrev pub path_text : List ℕ → Bytes
 path_text [] = 46 ∷ []
 path_text (k ∷ path) = decimal k ++ flat_map (λ j. 46 ∷ decimal j) path
-
--- a fault as it is shown, which has no saved form; any other value as a saved term
-abbrev pub printed : Spec → Value → Bytes
-printed spec (Fault kind) = fault_text kind
-printed spec v = spelled spec v
 
 -- the last line
 abbrev pub last_line : (values evaluated : ℕ) → Bytes
@@ -34,10 +28,12 @@ module _ (spec : Spec) (t : Term) where
   abbrev pub is_of : ℕ → Place → Bool
   is_of p u = unwrap_or (option_map (nat_eq p) (phylum_at spec.ops ((net_of t).label u))) false
 
-  -- the line of the from-scratch value of a slot at a place
+  -- the from-scratch value of a slot at a place, and its line
+  abbrev pub text_of : ℕ → Place → Bytes
+  text_of slot u = saved_text spec (value_in spec t (record { node = u; slot = slot }))
+
   abbrev pub line_at : ℕ → Place → Bytes
-  line_at slot u = path_text (reverse u) ++ 32 ∷ printed spec (value_in spec t (record { node = u; slot = slot }))
-      ++ 10 ∷ []
+  line_at slot u = path_text (reverse u) ++ 32 ∷ text_of slot u ++ 10 ∷ []
 
   -- those of these places that are of the attribute's phylum, and their lines
   abbrev pub of_these : Named → List Place → List Place

@@ -11,6 +11,7 @@ ghost use Rattle.sg_report.specs.Attrs.{named_in, attr_in};
 
 use sg_kinds::spec::{Attr, Phylum, Spec};
 use sg_load::Loaded;
+use sg_printing::attrs_of;
 
 /// An attribute of a phylum, by their numbers.
 #[derive(Drop)]
@@ -57,16 +58,6 @@ fn attr_place(attrs: &[Attr], name: &[u8]) -> Option<usize>
     ensures { result ≡ position (λ (a : AnAttr). bytes_eq name.now a.name) attrs.now }
 {
     attrs.iter().position(|attr| name == attr.name.as_slice())
-}
-
-// the attributes of a phylum, none of a number out of range
-fn attrs_of(spec: &Spec, p: u32) -> &[Attr]
-    ensures { result.now ≡ attrs_of spec.now.phyla p }
-{
-    match spec.phyla.place(p) {
-        Some(phylum) => phylum.attrs.as_slice(),
-        None => &[],
-    }
 }
 
 // the attribute of a name of a phylum

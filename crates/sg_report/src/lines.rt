@@ -1,33 +1,25 @@
 // The lines of a report.
-ghost use Rattle.std.specs.Prelude.{◌≡◌, ◌<◌, ◌-◌, ◌^◌, ◌++◌, [], ◌∷◌, length, min, OnOk, IfOk};
+ghost use Rattle.std.specs.Prelude.{◌≡◌, ℕ, ◌<◌, ◌-◌, ◌^◌, ◌++◌, [], ◌∷◌, length, min, OnOk, IfOk};
 ghost use Rattle.std.specs.Fmt.{decimal};
 ghost use Rattle.sg_kinds.specs.Fits.{Fits};
-ghost use Rattle.sg_kinds.specs.Places.{place_of, places_from};
+ghost use Rattle.sg_kinds.specs.Places.{Place, place_of, places_from};
 ghost use Rattle.sg_kinds.specs.Sound.{IsSmall};
 ghost use Rattle.sg_kinds.specs.Specification.{args_of, attrs_of};
 ghost use Rattle.sg_kinds.specs.Terms.{Term as ATerm};
 ghost use Rattle.sg_forest.specs.declared.node_id.NodeId.{NodeId as Id};
-ghost use Rattle.sg_forest.specs.Trees.{IsLive};
-ghost use Rattle.sg_groves.specs.Grove.{nodes};
-ghost use Rattle.sg_groves.specs.Holds.{Holds};
-ghost use Rattle.sg_pool.specs.Pools.{value_at};
 ghost use Rattle.sg_printing.specs.At.{IsAt};
-ghost use Rattle.sg_report.specs.Lines.{path_text, printed, of_these, lines_at, equations, report_on};
+ghost use Rattle.sg_report.specs.Lines.{path_text, text_of, of_these, lines_at, equations, report_on};
 
 use crate::answers::Report;
 use crate::attrs::Named;
 use itoa::Buffer;
 use sg_forest::NodeId;
-use sg_kinds::ids::{OpId, ValueId};
+use sg_kinds::ids::OpId;
 use sg_kinds::memory::NoMemory;
 use sg_kinds::row::item;
-use sg_kinds::spec::Spec;
 use sg_kinds::text::Text;
-use sg_pool::entry::PoolEntry;
-use sg_pool::pool::Pool;
-use sg_saved::spell;
+use sg_printing::{Form, phylum_number, text_at};
 use sg_terms::Terms;
-use sg_unparse::fault_text;
 use std::alloc::Global;
 
 fn write_number(out: &mut Vec<u8>, n: u64) -> Result<(), NoMemory>
@@ -54,33 +46,25 @@ fn write_path(out: &mut Vec<u8>, path: &[u32]) -> Result<(), NoMemory>
     Ok(())
 }
 
-// a fault as it is shown, and any other value as a saved term
+// the value of an attribute of a node, as in a saved file
 fn write_value(
     alloc: Global,
     out: &mut Vec<u8>,
-    spec: &Spec,
-    pool: &Pool,
-    id: ValueId,
+    terms: &Terms,
+    n: NodeId,
+    slot: u32,
 ) -> Result<(), NoMemory>
-    requires { id < length pool.now }
-    ensures { OnOk result (out.new.items ≡ out.old.items ++ printed spec.now (value_at pool.now id)) }
+    requires { (root : Id) × (t : ATerm) × (u : Place) × (x : ATerm) × IsAt terms.now root n t u x }
+    ensures { (root : Id) (t : ATerm) (u : Place) (x : ATerm) → IsAt terms.now root n t u x
+        → (p : ℕ) → Fits terms.now.spec x p → slot < length (attrs_of terms.now.spec.phyla p)
+        → OnOk result (out.new.items ≡ out.old.items ++ text_of terms.now.spec t slot u) }
 {
-    match pool.entry(id) {
-        PoolEntry::Fault(kind) => out.extend_from_slice(fault_text(*kind))?,
-        _ => {
-            let value = pool.value(alloc, id)?;
-            out.extend_from_slice(spell(alloc, spec, &value)?.as_slice())?;
-        }
-    }
+    terms.facts();
+    let Some(text) = text_at(alloc, terms, n, slot, Form::Saved)? else {
+        return Ok(());
+    };
+    out.extend_from_slice(text.as_slice())?;
     Ok(())
-}
-
-// the phylum of a node's term
-fn phylum_number(terms: &Terms, n: NodeId) -> u32
-    requires { IsLive (nodes terms.now) n }
-    ensures { (x : ATerm) → Holds terms.now n x → Fits terms.now.spec x result }
-{
-    terms.phylum(n).number
 }
 
 // the line of a node, where it is of the phylum, and how many lines these are
@@ -106,8 +90,7 @@ fn write_own(
     }
     write_path(out, path)?;
     out.push(b' ')?;
-    let id = terms.stored(n, a.slot);
-    write_value(alloc, out, terms.spec(), terms.pool(), id)?;
+    write_value(alloc, out, terms, n, a.slot)?;
     out.push(b'\n')?;
     Ok(1)
 }

@@ -38,10 +38,14 @@ module _ (spec : Spec) (height : ℕ) (readers : Readers) where
 abbrev pub nodes_in : Session → ℕ
 nodes_in s = option_map_or (λ (b : Bytes × State). nodes_of b.1.term) (current_of s) 0
 
--- how many errors there are, as the first child of its root tells it
+-- the slot of `errs`, which stands behind `e` among the attributes of the list
+abbrev pub errs : ℕ
+errs = 1
+
+-- how many errors there are, as the list below the root tells it
 abbrev pub errors_in : Spec → Session → Bytes
 errors_in spec s =
-    unwrap_or (option_and_then (λ (b : Bytes × State). shown spec (codes "errs") b.1.term (0 ∷ [])) (current_of s)) []
+    unwrap_or (option_and_then (λ (b : Bytes × State). shown spec b.1.term (0 ∷ []) errs) (current_of s)) []
 
 -- the line of a workload
 abbrev pub line_of : (n nodes : ℕ) → (errors : Bytes) → (evaluated : ℕ) → Bytes

@@ -9,6 +9,9 @@ use sg_kinds::memory::NoMemory;
 use sg_printing::shown;
 use std::alloc::Global;
 
+/// The slot of `errs`, which stands behind `e` among the attributes of the list.
+const ERRS: u32 = 1;
+
 /// How many nodes the term of the current buffer has; none without one.
 pub fn nodes(editor: &Editor) -> usize
     ensures { result ≡ nodes_in (session_of editor.now) }
@@ -26,7 +29,7 @@ pub fn errors(alloc: Global, editor: &Editor) -> Result<Vec<u8>, NoMemory>
     let Some(buffer) = editor.current() else {
         return Ok(Vec::new(alloc));
     };
-    match shown(alloc, buffer, &[0], b"errs")? {
+    match shown(alloc, buffer, &[0], ERRS)? {
         Some(text) => Ok(text),
         None => Ok(Vec::new(alloc)),
     }

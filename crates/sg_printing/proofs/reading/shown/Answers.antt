@@ -4,6 +4,7 @@ use Rattle.sg_groves.specs.Grove.{Grove}
 use Rattle.sg_buffer.specs.Held.{state_of}
 use Rattle.sg_printing.specs.At.{IsAt}
 use Rattle.sg_printing.specs.Shown.{text_at}
+use Rattle.sg_printing.specs.declared.printed.Form.TheVariants.{Page}
 use Rattle.sg_printing.proofs.Along.{leads_in, at_node, shown_there}
 use Rattle.sg_printing.proofs.reading.shown.Goals as goal
 
@@ -25,4 +26,4 @@ returns-in-Some c =
     let got = at_node b c.facts.ensures u n (leads_in b c.facts.ensures u c.terms.result.now c.root.result (Some n) c.terms.ensures c.root.ensures c.in-Some.ensures.leads) in
     let told = c.text_at.ensures b.root t u got.0 (subst (λ (g : Grove). IsAt g b.root n t u got.0) (sym c.terms-in-Some.ensures) got.1) in
     subst (λ (z : Option (List ℕ)). IfOk c.text_at.result (λ o. option_map (λ (s : Vec ℕ Global). s.items) o ≡ z))
-    (ap (λ (g : Grove). text_at g.spec c.args.name.now t u got.0) c.terms-in-Some.ensures ∙ shown_there b.grove.spec c.args.name.now t u got.0 got.1.part) told
+    (ap (λ (g : Grove). text_at g.spec Page t u c.args.slot got.0) c.terms-in-Some.ensures ∙ shown_there b.grove.spec t u c.args.slot got.0 got.1.part) told

@@ -4,7 +4,7 @@ use Rattle.sg_kinds.specs.Terms.{Term}
 use Rattle.sg_forest.specs.declared.node_id.NodeId.{NodeId}
 use Rattle.sg_build.proofs.Told.{the_term, kids_in, told_only, kid_told, opened, leaf_term}
 use Rattle.sg_printing.specs.At.{IsAt}
-use Rattle.sg_printing.proofs.Texts.{at_holds, at_live}
+use Rattle.sg_printing.proofs.Along.{at_holds, at_live}
 use Rattle.sg_report.specs.Lines.{of_these, lines_at}
 use Rattle.sg_report.proofs.Walking.{rest_of, places_over, rest_more, rest_none, next_written, next_count, few, place_pushed, popped, kid_at}
 use Rattle.sg_report.proofs.lines.+write_below.Goals as goal

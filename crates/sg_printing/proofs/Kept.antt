@@ -37,9 +37,8 @@ use Rattle.sg_attrib.proofs.Nodes.{label_op, leaf_value_there}
 use Rattle.sg_build.proofs.Told.{number_there}
 use Rattle.sg_unparse.proofs.Placed as placed
 use Rattle.sg_printing.specs.At.{IsAt}
-use Rattle.sg_printing.specs.Shown.{attributes}
-use Rattle.sg_printing.proofs.Right.{IsKept, kept}
-use Rattle.sg_printing.proofs.Texts.{at_holds, at_live}
+use Rattle.sg_printing.proofs.Right.{IsOf, IsKept, kept}
+use Rattle.sg_printing.proofs.Along.{at_holds, at_live}
 
 -- a leaf's phylum has one attribute
 one_value : (p : ℕ) (attrs : List Attr) → IsValue p attrs → length attrs ≡ 1
@@ -90,8 +89,8 @@ module _ (g : Grove) (is : IsGrove g) (root n : NodeId) (t : Term) (u : Place) w
     of : phylum_of g.spec.ops op ≡ Some p
     of = fitting_phylum g.spec node p fits
 
-    among : slice_get (attributes g.spec node) slot ≡ Some a
-    among = ap (λ o. slice_get (unwrap_or (option_map (attrs_of g.spec.phyla) o) []) slot) of ∙ there
+    among : IsOf g.spec op slot a
+    among = record { phylum = p; of = of; there = there }
 
     own_type : slot_type g.spec op 0 slot ≡ Some a.of
     own_type = slice_get-before _ _ slot a.of
@@ -151,7 +150,7 @@ module _ (g : Grove) (is : IsGrove g) (root n : NodeId) (t : Term) (u : Place) w
     node_kept = by (is_way_inherited a.way) refl
       where
         by : (b : Bool) → is_way_inherited a.way ≡ b → IsKept g n t u slot
-        by false way = kept g is root n t u node at slot a among way
+        by false way = kept g is root n t u op k elided ts at slot a among way
         by true way = record { number = numbered; value = inherited_value way }
 
   pub its_kept : (x : Term) → IsAt g root n t u x → (p slot : ℕ) → Fits g.spec x p → slot < length (attrs_of g.spec.phyla p) → IsKept g n t u slot
