@@ -1,3 +1,4 @@
 pub mod JobView
 pub mod DeskView
 pub mod SureWorld
+pub mod Sessions

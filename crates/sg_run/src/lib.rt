@@ -3,6 +3,7 @@
 #![tactic(auto)]
 
 mod finishing;
+pub mod laws;
 mod opening;
 mod playing;
 mod reports;
