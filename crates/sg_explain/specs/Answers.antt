@@ -1,16 +1,22 @@
 -- What is told of a specification.
-use Rattle.std.specs.Prelude.{◌≡◌, [], ◌∷◌, ◌++◌, codes}
+use Rattle.std.specs.Prelude.{◌≡◌, List, ◌∷◌, ◌++◌, Ok, codes}
 use Rattle.sg_kinds.specs.Values.{Bytes}
 use Rattle.sg_kinds.specs.declared.fault.SpecFault.{SpecFault as Fault}
+use Rattle.sg_kinds.specs.declared.spec.Spec.{Spec}
+use Rattle.sg_text.specs.declared.tokens.Token.{Token}
+use Rattle.sg_text.specs.Tokens.{tokens_of}
+use Rattle.sg_ast.specs.Declarations.{Decl}
 use Rattle.sg_faults.specs.FaultLine.{fault_line}
+use Rattle.sg_load.specs.Trees.{trees_in}
 use Rattle.sg_load.specs.Verdict.{Verdict}
 use Rattle.sg_load.specs.Verdict.Verdict.{Refused, Accepted}
 use Rattle.sg_load.specs.Only.{IsTheVerdict}
 use Rattle.sg_explain.specs.declared.ending.Ending.{Ending}
 use Rattle.sg_explain.specs.declared.ending.Ending.TheVariants.{Done, SpecFault}
 use Rattle.sg_explain.specs.declared.explaining.Explanation.{Explanation}
-use Rattle.sg_explain.specs.Places.{place_of}
-use Rattle.sg_explain.specs.Shown.{where_text, shown}
+use Rattle.sg_notes.specs.Notes.{notes_text}
+use Rattle.sg_place.specs.Places.{place_of}
+use Rattle.sg_place.specs.Shown.{where_text, shown}
 use Rattle.sg_explain.specs.Advice.{advice}
 use Rattle.sg_explain.specs.Help.{Helps}
 
@@ -25,14 +31,18 @@ pub record Explains (file bytes : Bytes) (f : Fault) (text : Bytes) : Type 0 whe
   pub helps : Helps bytes f help
   pub is : text ≡ heading file bytes f ++ (advice f ++ help)
 
--- what is told of one that is accepted
-abbrev pub ok_text : Bytes
-ok_text = codes "ok" ++ 10 ∷ []
+-- the text tells of one that is accepted: `ok`, and by its declarations a line for each part of its record that is of no use
+pub record Accepts (file bytes : Bytes) (spec : Spec) (text : Bytes) : Type 0 where
+  pub tokens : List Token
+  pub are : tokens_of bytes ≡ Ok tokens
+  pub trees : List Decl
+  pub read : trees_in bytes ≡ Ok trees
+  pub is : text ≡ codes "ok" ++ (10 ∷ notes_text file bytes tokens trees spec)
 
 -- the text tells of the bytes of a file with this verdict
 abbrev pub Tells : Bytes → Bytes → Verdict → Bytes → Type 0
 Tells file bytes (Refused f) text = Explains file bytes f text
-Tells file bytes (Accepted spec) text = text ≡ ok_text
+Tells file bytes (Accepted spec) text = Accepts file bytes spec text
 
 -- how the run ends with it
 abbrev pub ending_of : Verdict → Ending

@@ -4,12 +4,16 @@ use Rattle.sg_kinds.specs.Values.{Bytes}
 use Rattle.sg_kinds.specs.declared.fault.SpecFault.{SpecFault}
 use Rattle.sg_kinds.specs.declared.fault.SpecFault.TheVariants.{TooLong, Byte, Unclosed, LongNumber, LongName, Syntax, Limit, Duplicate, UnknownName, ResultCount, RootCount, ListShape, OptionalShape, NoCompletion, RootInherits, TwiceBound, Arity, Mismatch, ShownType, NotDefinedHere, Twice, Missing, NoEnclosing, NoScheme, SchemeKids, SchemeText, PatternForm, EmptyLexeme, EntryTwice, EntryType, Unproductive, States, Conflict, Direct, Induced, Ordered, NoMemory}
 use Rattle.sg_load.specs.Trees.{trees_in}
-use Rattle.sg_explain.specs.Places.{place_of}
-use Rattle.sg_explain.specs.Stops.{TellsStopAt}
-use Rattle.sg_explain.specs.Lacks.{text_lacks}
+use Rattle.sg_place.specs.Places.{place_of}
+use Rattle.sg_stops.specs.Stops.{TellsStopAt}
+use Rattle.sg_witnesses.specs.Cycles.{TellsCycle}
+use Rattle.sg_missing.specs.Lacks.{text_lacks}
+use Rattle.sg_mismatches.specs.Mistypes.{text_mistypes}
+use Rattle.sg_witnesses.specs.Samples.{TellsBarren, TellsConflict}
 
 -- the text helps for this fault of the bytes: of a declaration without a reading it tells where reading stops and what
--- mends it, of a missing equation all that operators lack
+-- mends it, of a mismatch all mismatches with their types, of a missing equation all that operators lack, of a nonterminal
+-- without a sentence all of them, of a conflict a sample and what is done behind it, of a cycle each step and its reasons
 abbrev pub Helps : Bytes → SpecFault → Bytes → Type 0
 Helps bytes TooLong text = text ≡ []
 Helps bytes (Byte line) text = text ≡ []
@@ -28,7 +32,7 @@ Helps bytes (NoCompletion place name) text = text ≡ []
 Helps bytes (RootInherits place name) text = text ≡ []
 Helps bytes (TwiceBound place name) text = text ≡ []
 Helps bytes (Arity place name) text = text ≡ []
-Helps bytes (Mismatch place) text = text ≡ []
+Helps bytes (Mismatch place) text = text ≡ text_mistypes bytes
 Helps bytes (ShownType place) text = text ≡ []
 Helps bytes (NotDefinedHere place) text = text ≡ []
 Helps bytes (Twice place) text = text ≡ []
@@ -41,10 +45,10 @@ Helps bytes (PatternForm place name) text = text ≡ []
 Helps bytes (EmptyLexeme place name) text = text ≡ []
 Helps bytes (EntryTwice place name) text = text ≡ []
 Helps bytes (EntryType place name) text = text ≡ []
-Helps bytes (Unproductive place name) text = text ≡ []
+Helps bytes (Unproductive place name) text = TellsBarren bytes text
 Helps bytes States text = text ≡ []
-Helps bytes (Conflict place conflict) text = text ≡ []
-Helps bytes (Direct place op cycle) text = text ≡ []
-Helps bytes (Induced place op cycle) text = text ≡ []
-Helps bytes (Ordered place op cycle) text = text ≡ []
+Helps bytes (Conflict place conflict) text = TellsConflict bytes (Conflict place conflict) conflict text
+Helps bytes (Direct place op cycle) text = TellsCycle bytes (Direct place op cycle) text
+Helps bytes (Induced place op cycle) text = TellsCycle bytes (Induced place op cycle) text
+Helps bytes (Ordered place op cycle) text = TellsCycle bytes (Ordered place op cycle) text
 Helps bytes NoMemory text = text ≡ []

@@ -1,8 +1,4 @@
 pub mod Advice
-pub mod Places
-pub mod Shown
-pub mod Lacks
-pub mod Stops
 pub mod Help
 pub mod Answers
 pub mod Endings

@@ -1,13 +1,15 @@
 // The explanation of a specification.
 ghost use Rattle.std.specs.Prelude.{◌≡◌, ◌≢◌, IfOk};
 ghost use Rattle.sg_load.specs.Only.{IsTheVerdict};
-ghost use Rattle.sg_load.specs.Verdict.Verdict.{Refused};
-ghost use Rattle.sg_explain.specs.Answers.{IsTold, ok_text};
+ghost use Rattle.sg_load.specs.Verdict.Verdict.{Accepted, Refused};
+ghost use Rattle.sg_explain.specs.Answers.{IsTold};
 
 use crate::Ending;
+use crate::accepted::told;
 use crate::heading::explained;
 use sg_kinds::fault::SpecFault;
 use sg_kinds::memory::NoMemory;
+use sg_kinds::spec::Spec;
 use sg_kinds::text::Text;
 use sg_load::load;
 use std::alloc::Global;
@@ -38,12 +40,13 @@ fn refused(
     })
 }
 
-fn accepted(alloc: Global) -> Result<Explanation, NoMemory>
-    ensures text { IfOk result (λ e. e.text ≡ ok_text) }
-    ensures ending { IfOk result (λ e. e.ending ≡ Ending.Done) }
+#[tactic(auto, using(crate::proofs::Explained::told_accepted))]
+fn accepted(alloc: Global, file: &[u8], bytes: &[u8], spec: &Spec) -> Result<Explanation, NoMemory>
+    requires { IsTheVerdict bytes.now (Accepted spec.now) }
+    ensures { IfOk result (IsTold file.now bytes.now) }
 {
     Ok(Explanation {
-        text: Text::from_slice(alloc, b"ok\n")?,
+        text: Text::new(told(alloc, file, bytes, spec)?),
         ending: Ending::Done,
     })
 }
@@ -51,11 +54,11 @@ fn accepted(alloc: Global) -> Result<Explanation, NoMemory>
 /// Explains the specification of these bytes, which are those of the file of that name.
 pub fn explain(alloc: Global, file: &[u8], bytes: &[u8]) -> Result<Explanation, NoMemory>
     // By the one verdict on the bytes: of a fault its place, the line as which it is checked, the text's line with a
-    // caret, and a sentence of what helps; or `ok`.
+    // caret, and a sentence of what helps; or `ok`, and all that is of no use.
     ensures told { IfOk result (IsTold file.now bytes.now) }
 {
     match load(alloc, bytes) {
-        Ok(_) => accepted(alloc),
+        Ok(loaded) => accepted(alloc, file, bytes, &loaded.spec),
         Err(fault) => refused(alloc, file, bytes, &fault),
     }
 }

@@ -1,15 +1,15 @@
 // What is told of a specification that is refused.
 ghost use Rattle.std.specs.Prelude.{◌≡◌, ◌++◌, IfOk, IfSome, OnOk};
 ghost use Rattle.sg_explain.specs.Answers.{Explains, heading as heading_text};
-ghost use Rattle.sg_explain.specs.Places.{IsPlaceIn, place_of};
+ghost use Rattle.sg_place.specs.Places.{IsPlaceIn, place_of};
 
 use crate::advice::write_advice;
 use crate::help::help;
-use crate::place::place;
-use crate::shown::{write_shown_place, write_where};
 use sg_faults::fault_line;
 use sg_kinds::fault::SpecFault;
 use sg_kinds::memory::NoMemory;
+use sg_place::place::place;
+use sg_place::shown::{write_shown_place, write_where};
 use std::alloc::Global;
 
 // Writes the place of the fault, its line as it is checked, and the text's line with a caret.

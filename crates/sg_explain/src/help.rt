@@ -1,16 +1,21 @@
 // What helps for one fault besides its sentence.
 ghost use Rattle.std.specs.Prelude.{◌≡◌, IfOk, IfSome};
 ghost use Rattle.sg_explain.specs.Help.{Helps};
-ghost use Rattle.sg_explain.specs.Places.{IsPlaceIn, place_of};
+ghost use Rattle.sg_place.specs.Places.{IsPlaceIn, place_of};
 
-use crate::lacks::lacks;
-use crate::stops::stops;
 use sg_kinds::fault::SpecFault;
 use sg_kinds::memory::NoMemory;
+use sg_mismatches::mistypes::mistyped;
+use sg_missing::lacks::lacks;
+use sg_stops::stops::stops;
+use sg_witnesses::cycles::cycle;
+use sg_witnesses::samples::{conflict, unproductive};
 use std::alloc::Global;
 
 /// What helps for a fault of the text that stands at a place, as lines: of a declaration without a reading where reading
-/// stops and what mends it, of a missing equation all that operators lack.
+/// stops and what mends it, of a mismatch all mismatches with their types, of a missing equation all that operators lack,
+/// of a nonterminal without a sentence all of them, of a conflict a sample and what is done behind it, of a cycle each
+/// step and its reasons.
 pub fn help(
     alloc: Global,
     bytes: &[u8],
@@ -23,7 +28,13 @@ pub fn help(
 {
     match fault {
         SpecFault::Syntax(_) => stops(alloc, bytes, place),
+        SpecFault::Mismatch(_) => mistyped(alloc, bytes),
         SpecFault::Missing(..) => lacks(alloc, bytes),
+        SpecFault::Unproductive(..) => unproductive(alloc, bytes),
+        SpecFault::Conflict(_, found) => conflict(alloc, bytes, fault, found),
+        SpecFault::Direct(..) | SpecFault::Induced(..) | SpecFault::Ordered(..) => {
+            cycle(alloc, bytes, fault)
+        }
         SpecFault::TooLong
         | SpecFault::Byte(_)
         | SpecFault::Unclosed(_)
@@ -40,7 +51,6 @@ pub fn help(
         | SpecFault::RootInherits(..)
         | SpecFault::TwiceBound(..)
         | SpecFault::Arity(..)
-        | SpecFault::Mismatch(_)
         | SpecFault::ShownType(_)
         | SpecFault::NotDefinedHere(_)
         | SpecFault::Twice(_)
@@ -52,12 +62,7 @@ pub fn help(
         | SpecFault::EmptyLexeme(..)
         | SpecFault::EntryTwice(..)
         | SpecFault::EntryType(..)
-        | SpecFault::Unproductive(..)
         | SpecFault::States
-        | SpecFault::Conflict(..)
-        | SpecFault::Direct(..)
-        | SpecFault::Induced(..)
-        | SpecFault::Ordered(..)
         | SpecFault::NoMemory => Ok(Vec::new(alloc)),
     }
 }

@@ -1,17 +1,14 @@
 //! Why a specification is refused: the place of its fault with its line and a caret, the fault as `check` tells it, and
-//! one sentence of what helps.
+//! one sentence of what helps, and what helps there.
 #![tactic(auto)]
 
+mod accepted;
 mod advice;
 mod ending;
 mod explaining;
 mod heading;
 mod help;
-mod lacks;
-mod place;
 mod running;
-mod shown;
-mod stops;
 
 pub use ending::Ending;
 pub use explaining::{Explanation, explain};
