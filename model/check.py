@@ -239,10 +239,7 @@ def by_live(case):
 
 def by_explain(case):
     shelf, sink = MemShelf(case.files, case.calls), MemSink(case.puts)
-    try:
-        status = deep(lambda: explain.run(shelf, sink, case.words))
-    except explain.Untold:
-        return None
+    status = deep(lambda: explain.run(shelf, sink, case.words))
     return Came(status, bytes(sink.data), shelf.files, shelf.replies, 0)
 
 

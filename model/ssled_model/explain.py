@@ -1,10 +1,12 @@
-"""What ssled_explain tells of a declaration without a reading: its place, where reading stops, and what mends it."""
+"""What ssled_explain tells of a specification: of a fault its place, its line, a sentence and what helps there; else what is of no use."""
 
+from . import lacks, mistyped, reasons, samples
+from .advice import SENTENCES
 from .kinds import MAX_SPEC, SpecFault
-from .reader import NoReading, Reader, read, read_one
+from .load import load
+from .notes import notes
+from .reader import NoReading, Reader, read_one
 from .text import cut, lex, line_of
-
-SENTENCE = ("no form of declaration fits what begins here: look for a missing `;` or bracket, or a reserved word as a name.")
 
 # the pieces that are tried, each as it is written and as it is told
 PIECES = [(s, "`%s`" % s) for s in "; ) } ( { ] [ : = , . | ::= $$ $ + :: ~ @ < > == in on".split()] + [
@@ -13,6 +15,9 @@ PIECES = [(s, "`%s`" % s) for s in "; ) } ( { ] [ : = , . | ::= $$ $ + :: ~ @ < 
 MOST_TRIED = 65536
 MOST_SHOWN = 60
 MOST_TOLD = 8
+
+# the codes of faults that stand at no place
+NOWHERE = ("TooLong", "Limit", "RootCount", "States")
 
 
 class Watched(Reader):
@@ -112,16 +117,53 @@ def stopped(data, at):
     return "reading stops here:\n" + shown(data, at + span[0]) + mend(text[:end], *span)
 
 
-def explained(name, data, fault):
-    """The explanation of a text with the fault Syntax."""
+def lined(lines):
+    return "".join(line + "\n" for line in lines)
+
+
+def helped(data, fault):
+    """What helps for a fault besides its sentence."""
+    if fault.code == "Syntax":
+        return stopped(data, fault.place)
+    if fault.code == "Missing":
+        return lined(lacks.lines_of(data))
+    if fault.code == "Mismatch":
+        return lined(mistyped.lines_of(data))
+    if fault.code == "Unproductive":
+        return samples.unproductive(data)
+    if fault.code == "Conflict":
+        return samples.conflict(data)
+    if fault.code in ("Direct", "Induced", "Ordered"):
+        return lined(reasons.lines_of(fault))
+    return ""
+
+
+def heading(name, data, fault):
+    """The place of a fault, its line, and the text's line with a caret."""
+    if fault.code in NOWHERE:
+        return "%s: %s\n" % (name, fault.printed())
     at = fault.place
     column = at - data.rfind(b"\n", 0, at)
-    return "%s:%d:%d: %s\n%shelp: %s\n%s" % (
-        name, line_of(data, at), column, fault.printed(), shown(data, at), SENTENCE, stopped(data, at))
+    return "%s:%d:%d: %s\n%s" % (name, line_of(data, at), column, fault.printed(), shown(data, at))
 
 
-class Untold(Exception):
-    """The text has no fault of syntax."""
+def explained(name, data, fault):
+    """What is told of a text with this fault."""
+    return heading(name, data, fault) + "help: %s\n" % SENTENCES[fault.code] + helped(data, fault)
+
+
+def accepted(name, data, loaded):
+    """What is told of a text without a fault."""
+    return "ok\n" + notes(name, data, loaded.spec)
+
+
+def told(name, data):
+    """The status with which the text of that name ends, and what is told of it."""
+    try:
+        loaded = load(data)
+    except SpecFault as fault:
+        return 4, explained(name, data, fault)
+    return 0, accepted(name, data, loaded)
 
 
 def run(shelf, sink, words):
@@ -131,11 +173,5 @@ def run(shelf, sink, words):
     data = shelf.fetch(words[0], MAX_SPEC + 1)
     if data is None:
         return 3 if sink.put(b"read fault specification\n") else 6
-    if len(data) > MAX_SPEC:
-        raise Untold
-    try:
-        read(cut(lex(data)))
-    except SpecFault as fault:
-        if fault.code == "Syntax":
-            return 4 if sink.put(explained(words[0], data, fault).encode()) else 6
-    raise Untold
+    status, text = told(words[0], data)
+    return status if sink.put(text.encode("latin-1")) else 6

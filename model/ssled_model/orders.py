@@ -181,7 +181,9 @@ class Order:
                 names = self.vertices[op.number].names
                 detail = "line %d %s: %s" % (op.line, op.name,
                                              " ".join(names[k] for k in cycle))
-                raise SpecFault(code, detail, op.place)
+                fault = SpecFault(code, detail, op.place)
+                fault.cycle = self, op, cycle
+                raise fault
 
 
 def order(spec):
