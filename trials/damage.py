@@ -1,5 +1,5 @@
 #!/usr/bin/env python3
-"""damage.py PROGRAM [--seed S] [--from N] [--runs K] [--jobs J] [--keep FOLDER]
+"""damage.py PROGRAM [--live LIVE] [--seed S] [--from N] [--runs K] [--jobs J] [--keep FOLDER]
 
 Runs PROGRAM, a built ssled, on damaged specifications, scripts and saved files, on random bytes and on odd words, and
 holds each run against what every run owes: it ends by itself with a status of docs/COMMANDS.md and a text that fits it,
@@ -8,6 +8,9 @@ in under 10 processor seconds and under 1 GiB.
 The texts are those of examples/ beside this folder; saved files are also made of the terms to which its scripts lead.
 Run N of seed S is always the same. Runs from N (0) on are made, K of them (1,000), by J processes (1). The files and the
 words of a run that fails stay in FOLDER. `--runs 1 --from N` repeats a run.
+
+With LIVE, a built ssled_live, each run is a session over the same specification, and its input is the script; it owes an
+answer for each line that has one.
 """
 import argparse
 import os
@@ -21,6 +24,8 @@ import time
 from collections import Counter
 from multiprocessing import Pool
 from pathlib import Path
+
+from refusals import is_answered
 
 EXAMPLES = Path(__file__).resolve().parent.parent / "examples"
 SECONDS = 10
@@ -233,16 +238,20 @@ class Run:
         self.program = program
         os.chdir(folder)
 
-    def answer(self, words, files):
+    def answer(self, words, files, program=None, said=b""):
         """Status (negative: the signal), output, processor seconds and bytes of memory."""
+        program = program or self.program
         for name in os.listdir():
             os.unlink(name)
         for name, data in files.items():
             Path(name).write_bytes(data)
-        with open("output", "w+b", buffering=0) as output:
+        with open("output", "w+b", buffering=0) as output, open("input", "w+b", buffering=0) as given:
             os.unlink("output")
-            actions = [(os.POSIX_SPAWN_OPEN, 0, os.devnull, os.O_RDONLY, 0), (os.POSIX_SPAWN_DUP2, output.fileno(), 1)]
-            child = os.posix_spawn(self.program, [self.program, *words], os.environ, file_actions=actions)
+            os.unlink("input")
+            given.write(said)
+            given.seek(0)
+            actions = [(os.POSIX_SPAWN_DUP2, given.fileno(), 0), (os.POSIX_SPAWN_DUP2, output.fileno(), 1)]
+            child = os.posix_spawn(program, [program, *words], os.environ, file_actions=actions)
             for limit, most in ((resource.RLIMIT_CPU, SECONDS), (resource.RLIMIT_AS, BYTES), (resource.RLIMIT_CORE, 0)):
                 # It may have ended, and is still to be waited for.
                 resource.prlimit(child, limit, (most, most))
@@ -279,23 +288,44 @@ def wrong(words, files, status, output):
     return None if fits else f"status {status} with another text"
 
 
-def begin(program, seed, keep, folder):
+def as_session(words, files):
+    """The words and the input of the session that stands for a run."""
+    if words[:1] == ["run"] and len(words) in (3, 5):
+        return [words[1], *words[3:]], files.get(words[2], b"")
+    return [it for it in words if it not in ("check", "show", "report")][:1], files.get("script", b"")
+
+
+def wrong_session(words, data, status, output):
+    """What is wrong with what came of a session, or None."""
+    if status != 0:
+        return wrong(words, {}, status, output)
+    answers = [line for line in output.split(b"\n")[:-1] if not line.startswith(b"|")]
+    lines = [line + b"\n" for line in data.removesuffix(b"\n").split(b"\n")] if data else []
+    fits = all(line.startswith((b"= ", b"! ")) for line in answers) and len(answers) == sum(map(is_answered, lines))
+    return None if fits else "status 0 with another text"
+
+
+def begin(program, live, seed, keep, folder):
     """Makes ready what a process needs for its runs."""
     global runs, corpus, options
     runs = Run(program, tempfile.mkdtemp(dir=folder))
-    corpus, options = Corpus(runs), (seed, keep)
+    corpus, options = Corpus(runs), (live, seed, keep)
 
 
 def work(numbers):
-    seed, keep = options
+    live, seed, keep = options
     tally, worst, bad = Counter(), {"seconds": (0, 0), "bytes": (0, 0)}, []
     for number in numbers:
         kind, words, files = made(random.Random(f"{seed}/{number}"), corpus)
-        status, output, seconds, size = runs.answer(words, files)
+        if live:
+            words, data = as_session(words, files)
+            status, output, seconds, size = runs.answer(words, files, live, data)
+        else:
+            status, output, seconds, size = runs.answer(words, files)
         tally[kind, status] += 1
         worst["seconds"] = max(worst["seconds"], (seconds, number))
         worst["bytes"] = max(worst["bytes"], (size, number))
-        told = wrong(words, files, status, output)
+        told = wrong_session(words, data, status, output) if live else wrong(words, files, status, output)
         if told:
             bad.append((number, kind, told))
             if keep:
@@ -310,6 +340,7 @@ def work(numbers):
 def main():
     words = argparse.ArgumentParser(description=__doc__, formatter_class=argparse.RawDescriptionHelpFormatter)
     words.add_argument("program", type=lambda path: str(Path(path).resolve()))
+    words.add_argument("--live", type=lambda path: str(Path(path).resolve()))
     words.add_argument("--seed", default="1")
     words.add_argument("--from", type=int, default=0, dest="first")
     words.add_argument("--runs", type=int, default=1000)
@@ -319,7 +350,7 @@ def main():
     began, ends = time.time(), given.first + given.runs
     parts = [range(at, min(at + 100, ends)) for at in range(given.first, ends, 100)]
     tally, worst, wrongs, done = Counter(), {"seconds": (0, 0), "bytes": (0, 0)}, 0, 0
-    with tempfile.TemporaryDirectory() as folder, Pool(given.jobs, begin, (given.program, given.seed, given.keep, folder)) as pool:
+    with tempfile.TemporaryDirectory() as folder, Pool(given.jobs, begin, (given.program, given.live, given.seed, given.keep, folder)) as pool:
         for part, most, bad in pool.imap_unordered(work, parts):
             tally += part
             worst = {what: max(worst[what], most[what]) for what in worst}

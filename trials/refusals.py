@@ -137,6 +137,11 @@ def memory(given, case, place, made):
     return bad > 0
 
 
+def is_tried(case):
+    """Whether the program can run the case, an explanation too."""
+    return case.input is None and not case.calls and not case.puts
+
+
 def is_answered(line):
     """Whether a line of a session has an answer."""
     try:
@@ -284,7 +289,7 @@ def main():
     words.add_argument("--stack", action="store_true")
     words.add_argument("--kib", type=int, default=8192)
     given = words.parse_args()
-    found = {case.line: case for case in of_table(given.table) if (lives(case) if given.live else not case.fails())}
+    found = {case.line: case for case in of_table(given.table) if (lives(case) if given.live else is_tried(case))}
     missing = set(given.lines) - set(found)
     if missing:
         sys.exit(f"no case of a whole shelf and sink begins at {sorted(missing)}")

@@ -1,15 +1,151 @@
-"""Explanations of declarations without a reading."""
+"""Explanations of specifications that are refused."""
 import random
+import re
 import subprocess
 import tempfile
 from pathlib import Path
 
-from frame import SUMS, Pieces, text
+from frame import SUMS, SUMS_TERMS, Pieces, text
 
 ABOUT = """
-Explanations of declarations without a reading: where reading stops, each change of one token that mends it, and how a line
-is shown. Made by `trials/tables/make.py PROGRAM explained`, where PROGRAM was model/ssled_explain.
+Explanations of specifications that are refused: of declarations without a reading where reading stops, each change of one token that
+mends it, and how a line is shown; the smallest text of each fault; all mismatches, all that operators lack, cycles with their reasons,
+samples of conflicts, nonterminals without a sentence. Made by `trials/tables/make.py PROGRAM explained`, where PROGRAM was
+model/ssled_explain.
 """
+
+SPECIFICATIONS = Path(__file__).resolve().parents[2] / "docs" / "SSL-P.md"
+
+# What the texts below begin with: a root r over x, y and the list l.
+ROOTED = """root r;
+r : R(x y l);
+x : X() | W(INT) | V(x x);
+y : Y(STR);
+l : Nil() | Pair(x l);
+list l;
+"""
+
+MISMATCHES = (
+    ("One type is wanted, another is there; a name of one phylum for a tree of another.", """INT f(INT n) { "a" };
+x g(y a) { a };
+INT h() { f(true) + f(g(Y(""))) };
+"""),
+    ("Branches and cases go by the first; what compares with the left side; a list; a pattern.", """INT f(BOOL b, x a) { b ? 1 : "a" };
+BOOL g(x a, y b) { a == b };
+BOOL h(l a) { 1 == "a" || a == a };
+INT i(x a) { with (a) ( X() : 1, W(n) : "a", default : true ) };
+INT j(x a) { with (a) ( Y(s) : 1, W("a") : 2, 3 : 4, default : 5 ) };
+l k(x a) { a :: a };
+l m(x a, y b, l c) { b :: c };
+"""),
+    ("A mismatch in another, and several on one line.", "INT f(INT n) { f(f(true) + \"a\") - (n ? 1 : 2) };\nSTR g(INT n) { n # 1 # true };\n"),
+    ("A let, a name that has a type of its own, no type at all.", """INT f(x a) { let b = a in (b) };
+STR g(x a) { let b = "a" in (let c = 1 in (b + c)) };
+"""),
+    ("In equations, locals, transformations and productions.", """x { synthesized INT n; inherited STR s; };
+x : X { local BOOL b; b = 1; $$.n = $$.s; };
+x : V { $$.n = x$2.n # "a"; x$2.s = 1; x$3.s = $$.n; };
+transform x on "t" V(X(), a) : 1;
+transform x on "u" Y(a) : X();
+E { synthesized x t; };
+E ::= ('a' E) { E$2.t + 1 } | ('b') { Y("") };
+"""),
+    ("References to enclosing nodes of two types.", """r { synthesized INT n; }; x { synthesized STR s; synthesized INT m; };
+x : X { $$.m = {r.n,x.s}; };
+"""),
+    ("A long line: the columns go on, and are counted from each line's beginning.",
+     "INT f() { " + "1 + " * 30 + '"a" + ' + "2 + " * 30 + "true + " + "3 };\nINT g() { true };\n"),
+)
+
+LACKS = (
+    ("An inherited attribute that the left side has is handed on; of another type it is not.", """x { inherited INT e; synthesized INT v; };
+y { inherited STR e; synthesized INT v; };
+r : R { x.e = 1; };
+x : V { x$2.e = 1; };
+"""),
+    ("Locals, and arguments of one phylum by their numbers.", """x { synthesized INT v; inherited INT e; };
+x : V { local INT a; local STR b; a = 1; };
+l { inherited INT e; };
+"""),
+)
+
+CYCLES = (
+    ("Within an operator, through a local.", """root r; r : R(); r : R [ @ : ];
+r { synthesized INT v; synthesized INT w; };
+r : R { local INT l; $$.v = l; $$.w = $$.v; l = $$.w + 1; };
+"""),
+    ("Down and up, through several operators.", """root doc;
+doc : Doc(blocks); blocks : None() | Blocks(block blocks); optional list blocks;
+block : Section(inlines blocks); inlines : Nothing() | More(inline inlines); optional list inlines; inline : Ref(STR) | Bold(inlines);
+doc : Doc [ @ : @ ]; blocks : None [ @ : ]; blocks : Blocks [ @ : @ [ "%n" ] @ ]; block : Section [ @ : @ @ ];
+inlines : Nothing [ @ : ]; inlines : More [ @ : @ [ " " ] @ ]; inline : Ref [ @ : ^ ]; inline : Bold [ @ : @ ];
+blocks { inherited STR all; synthesized STR out; };
+block { inherited STR all; synthesized STR out; };
+inlines { inherited STR all; synthesized STR out; };
+inline { inherited STR all; synthesized STR out; };
+doc : Doc { blocks.all = blocks.out; };
+blocks : None { $$.out = ""; }; blocks : Blocks { block.all = $$.all; blocks$2.all = $$.all; $$.out = block.out # blocks$2.out; };
+block : Section { inlines.all = $$.all; blocks.all = inlines.out; $$.out = inlines.out # blocks.out; };
+inlines : Nothing { $$.out = $$.all; }; inlines : More { inline.all = $$.all; inlines$2.all = inline.out; $$.out = inlines$2.out; };
+inline : Ref { $$.out = $$.all; }; inline : Bold { inlines.all = $$.all; $$.out = inlines.out; };
+"""),
+    ("Equations alone, layers, and equations between them.", """root r; r : R(x x); x : X() | Z(x); r : R [ @ : @ @ ]; x : X [ @ : ]; x : Z [ @ : @ ];
+x { inherited INT i; inherited INT j; synthesized INT s; synthesized INT t; };
+x : X { $$.s = $$.i; $$.t = $$.j; }; x : Z { x$2.i = $$.i; x$2.j = $$.j; $$.s = x$2.s; $$.t = x$2.t; };
+r : R { x$1.i = x$2.s; x$1.j = 0; x$2.i = 0; x$2.j = x$1.t; };
+"""),
+    ("What is handed down for a reference.", """root r; r : R(x); x : X(); r : R [ @ : @ ]; x : X [ @ : ];
+r { synthesized INT n; }; x { synthesized INT v; };
+r : R { $$.n = x.v; }; x : X { $$.v = {r.n}; };
+"""),
+)
+
+GRAMMARS = (
+    ("Sums without levels: the prefix has a nonterminal, of which a shortest sentence is put in.", SUMS_TERMS + """E { synthesized exp t; };
+E ::= (E '+' E) { Sum(E$2.t, E$3.t) } | (NUM) { Const(STRtoINT(NUM.value)) };
+exp ~ E.t;
+"""),
+    ("Two nonterminals that end alike.", """root r; r : R(); r : R [ @ : ];
+N : < "n" >;
+A { synthesized r t; }; B { synthesized r t; }; C { synthesized r t; };
+A ::= (B 'x') { R() } | (C 'x' 'y') { R() };
+B ::= (N) { R() } | (B N) { R() };
+C ::= (N) { R() } | (C N) { R() };
+r ~ A.t;
+"""),
+    ("Sentences of one and of two terminals.", """root r; r : R(); r : R [ @ : ];
+A { synthesized r t; }; B { synthesized r t; }; C { synthesized r t; }; D { synthesized r t; }; E { synthesized r t; };
+A ::= (B C C D) { R() } | (B C C E) { R() };
+B ::= ('b') { R() };
+C ::= (B 'c') { R() };
+D ::= ('d') { R() };
+E ::= ('d') { R() };
+r ~ A.t;
+"""),
+    ("Nonterminals without a sentence, one of them behind another; one that has one.", """root r; r : R(); r : R [ @ : ];
+A { synthesized r t; }; B { synthesized r t; }; C { synthesized r t; };
+A ::= ('a' B) { B.t };
+B ::= (B 'b') { B$2.t } | (A) { A.t };
+C ::= ('c') { R() };
+r ~ C.t;
+"""),
+    ("The same of a nonterminal with levels.", """root r; r : R(); r : R [ @ : ];
+E { synthesized r t; };
+E ::= (E '+' E) { R() } | (E '*' E) { R() };
+left '+'; left '*';
+r ~ E.t;
+"""),
+)
+
+
+def smallest():
+    """The smallest text of each fault that a text of the language's description has."""
+    said = SPECIFICATIONS.read_text(encoding="utf-8")
+    faults = said[said.index("Below each fault has a smallest text"):].split("\n### ")[1:]
+    for fault in faults:
+        found = re.search("```ssl\\n(.*?)```", fault, re.DOTALL)
+        if found:
+            yield found.group(1)
 
 SIGNS = b";)}({"
 
@@ -82,3 +218,16 @@ def add(table):
             seen.add(at)
             if explained(table.program, data[:at] + data[at + 1:])[0] == 4:
                 told("" if len(seen) > 1 else "Signs that are left out.", data[:at] + data[at + 1:])
+    for number, data in enumerate(smallest()):
+        told("" if number else "The smallest text of each fault.", data)
+    told("A text that is too long, and a place behind a tab, a long line and a byte that is no sign.", Pieces((b" ", 1048577)))
+    told("", b"/*" + b"-" * 4000 + b"*/\troot r;\t/*\x80*/ r : R();\tr : R();\n")
+    for note, rest in MISMATCHES:
+        told("Mismatches. " + note, ROOTED + rest)
+    for note, rest in LACKS:
+        told("Equations. " + note, ROOTED + rest)
+    told("", SUMS.replace("exp : Sum { $$.v = exp$2.v + exp$3.v; };\n", "").replace("exp : Null { $$.v = 0; };\n", ""))
+    for note, whole in CYCLES:
+        told("Cycles. " + note, whole)
+    for note, whole in GRAMMARS:
+        told("Grammars. " + note, whole)

@@ -1,8 +1,9 @@
 #!/usr/bin/env python3
 """make.py PROGRAM THEME: prints the table of cases of a theme (values, replacing, matching, pages, history, saving,
-texts, commands, outcomes, hostile, elements, search, levels, enclosing, views, live, explained).
+texts, commands, outcomes, hostile, elements, search, levels, enclosing, views, live, explained,
+noted).
 
-PROGRAM takes the command line of ssled, for the theme live that of ssled_live, for explained that of ssled_explain. What is wanted in the cases is what
+PROGRAM takes the command line of ssled, for the theme live that of ssled_live, for explained and noted that of ssled_explain. What is wanted in the cases is what
 PROGRAM answers, so it is another program than the one that is to be tested. On the error output comes how many cases there are.
 """
 import importlib
@@ -12,7 +13,7 @@ from pathlib import Path
 from frame import Table
 
 THEMES = ("values", "replacing", "matching", "pages", "history", "saving", "texts", "commands", "outcomes", "hostile", "elements", "search",
-          "levels", "enclosing", "views", "live", "explained")
+          "levels", "enclosing", "views", "live", "explained", "noted")
 
 
 def main():
