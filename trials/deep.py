@@ -4,8 +4,9 @@ on what nests as deep as it may, and on what nests deeper by one: terms, lists a
 them, in each view and by each way in which a script can use them, specifications, saved files and reports. With LIVE, a
 built ssled_live, the scripts are also sessions.
 
-What is wanted is what PROGRAM answers with 1 GiB of stack, or ORACLE (model/ssled), which takes some minutes; of a
-grammar with 1,022 levels it stands here. It tells what came otherwise, and how many runs there were.
+What is wanted is what PROGRAM answers with 1 GiB of stack, or ORACLE; of a grammar with 1,022 levels it stands here.
+model/ssled takes half a minute for each term, and far longer for a list. It tells what came otherwise, and how many
+runs there were.
 """
 import argparse
 import resource
