@@ -49,7 +49,7 @@ or-flags zero (suc (suc y)) h k = absurd (omega (arith, k))
 or-flags (suc zero) (suc (suc y)) h k = absurd (omega (arith, k))
 or-flags (suc (suc x)) y h k = absurd (omega (arith, h))
 
-flag-or : (x y i : ℕ) → nat_eq (bit_at (bit_or x y) i) 1 ≡ (nat_eq (bit_at x i) 1 || nat_eq (bit_at y i) 1)
+pub flag-or : (x y i : ℕ) → nat_eq (bit_at (bit_or x y) i) 1 ≡ (nat_eq (bit_at x i) 1 || nat_eq (bit_at y i) 1)
 flag-or x y i = ap (λ n. nat_eq n 1) (bit_at_or x y i) ∙ or-flags (bit_at x i) (bit_at y i) (bit_at-lt x i) (bit_at-lt y i)
 
 pub bit-joined : (start other now : List ℕ) (k : ℕ) → Joined k start other now → length start ≤ k → length other ≤ k → (a : ℕ) → bit now a ≡ (bit start a || bit other a)
@@ -115,7 +115,7 @@ not-true true h = absurd (false≢true h)
 not-true false h = refl
 
 -- some bit of y is missing from x, where x takes in something
-new-bit : (x y : ℕ) → y < 2 ^ 64 → bit_or x y ≢ x → (i : ℕ) × (i < 64) × (nat_eq (bit_at x i) 1 ≡ false) × (nat_eq (bit_at y i) 1 ≡ true)
+pub new-bit : (x y : ℕ) → y < 2 ^ 64 → bit_or x y ≢ x → (i : ℕ) × (i < 64) × (nat_eq (bit_at x i) 1 ≡ false) × (nat_eq (bit_at y i) 1 ≡ true)
 new-bit x y m ne = elim (below-search (λ i. nat_eq (bit_at y i) 1 && not (nat_eq (bit_at x i) 1)) 64) [
   | inl none ↦ absurd (ne (same_from_bits (bit_or x y) x (λ i. elim (cases_lt i 64) [
     | inl low ↦ or-same x y i (none i low)

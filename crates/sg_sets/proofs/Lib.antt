@@ -10,6 +10,7 @@ pub mod MembersLemmas
 pub mod OptionLemmas
 pub mod OutsideLemmas
 pub mod PathsLemmas
+pub mod PiecesLemmas
 pub mod RestLemmas
 pub mod RowsLemmas
 pub mod WaysLemmas

@@ -92,14 +92,14 @@ bit-test words a word h e =
     let same : word ≡ get_or words (a / 64) 0 = e ∙ get_or_default words (a / 64) word 0 h in
     ap (λ k. nat_eq k 1) (shr_and_one word (a % 64) ∙ ap (λ w. bit_at w (a % 64)) same)
 
-or-cases : (p q : Bool) → (p || q) ≡ true → (p ≡ true) ⊎ (q ≡ true)
+pub or-cases : (p q : Bool) → (p || q) ≡ true → (p ≡ true) ⊎ (q ≡ true)
 or-cases true q h = inl refl
 or-cases false q h = inr h
 
-or-left : (p q : Bool) → p ≡ true → (p || q) ≡ true
+pub or-left : (p q : Bool) → p ≡ true → (p || q) ≡ true
 or-left p q h = rw h refl
 
-or-right : (p q : Bool) → q ≡ true → (p || q) ≡ true
+pub or-right : (p q : Bool) → q ≡ true → (p || q) ≡ true
 or-right true q h = refl
 or-right false q h = h
 

@@ -1,5 +1,5 @@
 -- What a contract sees of a `BitSet`: a flag for each number below the width.
-use Rattle.std.specs.Prelude.{ℕ, ◌≤◌, Bool, false, not, List, IsTrue, count_by, slice_index_or}
+use Rattle.std.specs.Prelude.{◌≡◌, ℕ, ◌+◌, ◌<◌, ◌≤◌, Bool, false, not, List, IsTrue, count_by, slice_index_or}
 
 -- the flag of a
 abbrev pub has : List Bool → ℕ → Bool
@@ -26,3 +26,10 @@ Shared xs ys a = Has xs a × Has ys a
 -- a is in the first set alone
 abbrev pub Outside : List Bool → List Bool → ℕ → Type 0
 Outside xs ys a = Has xs a × ¬ (Has ys a)
+
+-- a lies as far behind `to` as a number of the set, one of so many places, behind `from`
+pub record IsMoved (set : List Bool) (from to count a : ℕ) : Type 0 where
+  pub place : ℕ
+  pub low : place < count
+  pub member : Has set (from + place)
+  pub at : a ≡ to + place

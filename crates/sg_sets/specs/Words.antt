@@ -23,6 +23,17 @@ SharedBit words other a = (bit words a ≡ true) × (bit other a ≡ true)
 abbrev pub OutsideBit : List ℕ → List ℕ → ℕ → Type 0
 OutsideBit words other a = (bit words a ≡ true) × (bit other a ≡ false)
 
+-- some bit is set in the new words and was not in the old ones
+abbrev pub IsSetSince : List ℕ → List ℕ → Type 0
+IsSetSince old new = (a : ℕ) × (bit old a ≡ false) × (bit new a ≡ true)
+
+-- bit a lies as far behind `to` as a set bit of the words, one of so many, behind `from`
+pub record IsMovedBit (words : List ℕ) (from to count a : ℕ) : Type 0 where
+  pub place : ℕ
+  pub low : place < count
+  pub set : bit words (from + place) ≡ true
+  pub at : a ≡ to + place
+
 -- there are just as many words as the width takes, and no bit is set from the width on
 pub record IsPacked (width : ℕ) (words : List ℕ) : Type 0 where
   pub small : width < 2 ^ 64

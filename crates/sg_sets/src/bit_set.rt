@@ -1,7 +1,7 @@
 //! `BitSet`, a set of numbers below a width, a bit a number.
-ghost use Rattle.std.specs.Prelude.{◌≡◌, ℕ, ◌<◌, ◌≤◌, ◌↔◌, ◌⊎◌, false, true, not, [], length, replicate, slice_set, IfOk, IfSome, IfNone, IsTrue};
+ghost use Rattle.std.specs.Prelude.{◌≡◌, ℕ, ◌+◌, ◌/◌, ◌%◌, ◌<◌, ◌≤◌, ◌↔◌, ◌⊎◌, false, true, not, [], length, replicate, slice_set, IfOk, IfSome, IfNone, IsTrue};
 ghost use Rattle.std.specs.Bool.{OnTrue, OnFalse};
-ghost use Rattle.sg_sets.specs.Members.{has, Has, IsNext, missing_of, Shared, Outside};
+ghost use Rattle.sg_sets.specs.Members.{has, Has, IsNext, missing_of, Shared, Outside, IsMoved};
 
 use crate::words;
 use std::alloc::{AllocError, Global};
@@ -96,6 +96,49 @@ impl BitSet {
         ensures stays { OnFalse result (self.new ≡ self.old) }
     {
         words::join(&mut self.words, &other.words)
+    }
+
+    /// Puts the numbers of `other` from `from` on, at so many places, into the set from `to` on, and returns whether
+    /// some of them were not there.
+    pub fn union_part(&mut self, to: usize, other: &BitSet, from: usize, count: usize) -> bool
+        requires to { to + count ≤ length self.old }
+        requires from { from + count ≤ length other.now }
+        requires to_fits { to + count ≤ usize.MAX }
+        requires from_fits { from + count ≤ usize.MAX }
+        ensures joins { (a : ℕ) → Has self.new a ↔ (Has self.old a ⊎ IsMoved other.now from to count a) }
+        ensures width { length self.new ≡ length self.old }
+        ensures grows { OnTrue result (missing_of self.new < missing_of self.old) }
+        ensures stays { OnFalse result (self.new ≡ self.old) }
+    {
+        let end = from + count;
+        let mut grown = false;
+        let mut at = from;
+        while let Some(n) = other.next(at)
+            && n < end
+        {
+            let place = to + (n - from);
+            let long = (end - n).min(64 - n % 64).min(64 - place % 64);
+            if self.union_piece(place, other, n, long) {
+                grown = true;
+            }
+            at = n + long;
+        }
+        grown
+    }
+
+    /// The same where the places lie in one word here and in one word there.
+    fn union_piece(&mut self, to: usize, other: &BitSet, from: usize, count: usize) -> bool
+        requires some { 1 ≤ count }
+        requires to { to + count ≤ length self.old }
+        requires to_word { to % 64 + count ≤ 64 }
+        requires from { from + count ≤ length other.now }
+        requires from_word { from % 64 + count ≤ 64 }
+        ensures joins { (a : ℕ) → Has self.new a ↔ (Has self.old a ⊎ IsMoved other.now from to count a) }
+        ensures width { length self.new ≡ length self.old }
+        ensures grows { OnTrue result (missing_of self.new < missing_of self.old) }
+        ensures stays { OnFalse result (self.new ≡ self.old) }
+    {
+        words::join_piece(&mut self.words, to, &other.words, from, count)
     }
 
     /// Returns the least number of the set that is not below `from`.

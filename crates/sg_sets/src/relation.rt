@@ -1,7 +1,7 @@
 //! `Relation`, a relation on the numbers below its size, with its closure.
-ghost use Rattle.std.specs.Prelude.{◌≡◌, ℕ, ◌+◌, ◌<◌, ◌↔◌, ◌⊎◌, Bool, false, not, if◌then◌else◌, length, replicate, IfOk, IsTrue};
+ghost use Rattle.std.specs.Prelude.{◌≡◌, ℕ, ◌+◌, ◌<◌, ◌≤◌, ◌↔◌, ◌⊎◌, Bool, false, not, if◌then◌else◌, length, replicate, IfOk, IfSome, IsTrue};
 ghost use Rattle.std.specs.Bool.{OnTrue, OnFalse};
-ghost use Rattle.sg_sets.specs.Members.{has};
+ghost use Rattle.sg_sets.specs.Members.{has, IsMoved};
 ghost use Rattle.sg_sets.specs.Rows.{row_of, Holds, all_missing};
 ghost use Rattle.sg_sets.specs.Paths.{Path, IsTransitive};
 ghost use Rattle.sg_sets.specs.Relations.{HasPassedOn, predecessors};
@@ -9,6 +9,9 @@ ghost use Rattle.sg_sets.specs.Relations.{HasPassedOn, predecessors};
 use crate::{BitSet, Rows};
 use std::alloc::{AllocError, Global};
 use std::marker::Model;
+
+/// How many steps are tried before numbers are put into an order, which costs more where a relation has few pairs.
+const FEW: usize = 4096;
 
 /// A relation on the numbers below its size, each of them a vertex of a graph.
 #[derive(Drop)]
@@ -71,6 +74,23 @@ impl Relation {
         self.rows.insert(a, b)
     }
 
+    /// Relates `a` to the numbers of a set from `from` on, at so many places, moved to `to`, and returns whether some
+    /// of them were not related before.
+    pub fn add_part(&mut self, a: usize, to: usize, set: &BitSet, from: usize, count: usize) -> bool
+        requires row { a < length self.old }
+        requires to { to + count ≤ length self.old }
+        requires from { from + count ≤ length set.now }
+        requires to_fits { to + count ≤ usize.MAX }
+        requires from_fits { from + count ≤ usize.MAX }
+        ensures gains { (x y : ℕ) → Holds self.new x y ↔ (Holds self.old x y
+            ⊎ ((x ≡ a) × IsMoved set.now from to count y)) }
+        ensures grows { OnTrue result (all_missing self.new < all_missing self.old) }
+        ensures stays { OnFalse result (self.new ≡ self.old) }
+        ensures size { length self.new ≡ length self.old }
+    {
+        self.rows.union_part(a, to, set, from, count)
+    }
+
     /// Relates what `other` does, and returns whether some pair was not related before.
     pub fn join(&mut self, other: &Relation) -> bool
         requires { length self.old ≡ length other.now }
@@ -110,9 +130,52 @@ impl Relation {
         ensures least { (a b : ℕ) → Holds self.new a b → Path (Holds self.old) a b }
         ensures size { length self.new ≡ length self.old }
     {
-        if self.close_in_order().is_err() {
-            while self.lengthen() {}
+        if self.close_in_few() {
+            return;
         }
+        if self.close_in_order().is_ok() {
+            return;
+        }
+        while self.lengthen() {}
+    }
+
+    /// Lengthens while the steps are few, and returns whether the relation is transitive then.
+    fn close_in_few(&mut self) -> bool
+        ensures contains { (a b : ℕ) → Holds self.old a b → Holds self.new a b }
+        ensures transitive { OnTrue result (IsTransitive (Holds self.new)) }
+        ensures least { (a b : ℕ) → Holds self.new a b → Path (Holds self.old) a b }
+        ensures size { length self.new ≡ length self.old }
+    {
+        let mut steps = 0;
+        while let Some(grown) = self.lengthen_few(&mut steps) {
+            if !grown {
+                return true;
+            }
+        }
+        false
+    }
+
+    /// Relates each number to those that one leads to which it is related to, and returns whether some were not
+    /// related before, or nothing where the steps are too many: in all, or for so many numbers.
+    fn lengthen_few(&mut self, steps: &mut usize) -> Option<bool>
+        ensures contains { (a b : ℕ) → Holds self.old a b → Holds self.new a b }
+        ensures least { (a b : ℕ) → Holds self.new a b → Path (Holds self.old) a b }
+        ensures grows { IfSome result (λ grown. OnTrue grown (all_missing self.new < all_missing self.old)) }
+        ensures stays { IfSome result (λ grown. OnFalse grown (IsTransitive (Holds self.new))) }
+        ensures size { length self.new ≡ length self.old }
+    {
+        let before = *steps;
+        let mut grown = false;
+        for a in 0..self.size() {
+            let here = steps.saturating_sub(before);
+            if *steps > FEW || here.saturating_sub(64) / 8 > a {
+                return None;
+            }
+            if self.lengthen_from(a, steps) {
+                grown = true;
+            }
+        }
+        Some(grown)
     }
 
     /// Relates each number to those that one leads to which it is related to, and returns whether some were not
@@ -125,16 +188,17 @@ impl Relation {
         ensures size { length self.new ≡ length self.old }
     {
         let mut grown = false;
+        let mut steps = 0;
         for a in 0..self.size() {
-            if self.lengthen_from(a) {
+            if self.lengthen_from(a, &mut steps) {
                 grown = true;
             }
         }
         grown
     }
 
-    /// The same for the number `a`.
-    fn lengthen_from(&mut self, a: usize) -> bool
+    /// The same for the number `a`. Each number that it is related to is a step.
+    fn lengthen_from(&mut self, a: usize, steps: &mut usize) -> bool
         requires { a < length self.old }
         ensures contains { (x y : ℕ) → Holds self.old x y → Holds self.new x y }
         ensures least { (x y : ℕ) → Holds self.new x y → Path (Holds self.old) x y }
@@ -149,6 +213,7 @@ impl Relation {
             if self.take_over(a, k) {
                 grown = true;
             }
+            *steps = steps.saturating_add(1);
             from = k + 1;
         }
         grown

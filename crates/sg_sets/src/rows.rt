@@ -1,7 +1,7 @@
 //! `Rows`, sets of numbers of one width, which flow along links.
-ghost use Rattle.std.specs.Prelude.{◌≡◌, ℕ, ◌+◌, ◌*◌, ◌<◌, ◌↔◌, ◌⊎◌, false, true, not, if◌then◌else◌, [], length, replicate, All, IfOk, IsTrue};
+ghost use Rattle.std.specs.Prelude.{◌≡◌, ℕ, ◌+◌, ◌*◌, ◌<◌, ◌≤◌, ◌↔◌, ◌⊎◌, false, true, not, if◌then◌else◌, [], length, replicate, All, IfOk, IsTrue};
 ghost use Rattle.std.specs.Bool.{OnTrue, OnFalse};
-ghost use Rattle.sg_sets.specs.Members.{has, Has};
+ghost use Rattle.sg_sets.specs.Members.{has, Has, IsMoved};
 ghost use Rattle.sg_sets.specs.Flags.{IsFresh, HasPassed, AreFlagged, Flows};
 ghost use Rattle.sg_sets.specs.Rows.{Table, table, row_of, Holds, all_missing, SameShape, AreRows, IsSettled};
 ghost use Rattle.sg_sets.specs.Paths.{Reaches, Linked};
@@ -98,6 +98,30 @@ impl Rows {
         ensures shape { SameShape self.old self.new }
     {
         self.rows[a].union(set)
+    }
+
+    /// Puts the numbers of a set from `from` on, at so many places, into row `a` from `to` on, and returns whether some
+    /// of them were not there.
+    pub fn union_part(
+        &mut self,
+        a: usize,
+        to: usize,
+        set: &BitSet,
+        from: usize,
+        count: usize,
+    ) -> bool
+        requires row { a < length self.old.rows }
+        requires to { to + count ≤ self.old.width }
+        requires from { from + count ≤ length set.now }
+        requires to_fits { to + count ≤ usize.MAX }
+        requires from_fits { from + count ≤ usize.MAX }
+        ensures joins { (x y : ℕ) → Holds self.new.rows x y ↔ (Holds self.old.rows x y
+            ⊎ ((x ≡ a) × IsMoved set.now from to count y)) }
+        ensures grows { OnTrue result (all_missing self.new.rows < all_missing self.old.rows) }
+        ensures stays { OnFalse result (self.new ≡ self.old) }
+        ensures shape { SameShape self.old self.new }
+    {
+        self.rows[a].union_part(to, set, from, count)
     }
 
     /// Puts the numbers of each row of `other` into the same row, and returns whether some of them

@@ -1,7 +1,8 @@
 //! Flags in words of 64 bits.
-ghost use Rattle.std.specs.Prelude.{◌≡◌, ℕ, ◌<◌, ◌≤◌, ◌*◌, ◌^◌, ◌||◌, false, true, length, replicate, IfSome, IfNone};
+ghost use Rattle.std.specs.Prelude.{◌≡◌, ℕ, ◌+◌, ◌<◌, ◌≤◌, ◌*◌, ◌/◌, ◌%◌, ◌^◌, ◌↔◌, ◌⊎◌, ◌||◌, false, true, length, replicate, IfSome, IfNone};
 ghost use Rattle.std.specs.Bool.{OnTrue, OnFalse};
-ghost use Rattle.sg_sets.specs.Words.{bit, Gained, SharedBit, OutsideBit};
+ghost use Rattle.std.specs.Int.{bit_at};
+ghost use Rattle.sg_sets.specs.Words.{bit, Gained, SharedBit, OutsideBit, IsMovedBit, IsSetSince};
 
 /// Clears all flags.
 pub(crate) fn clear(words: &mut [u64])
@@ -26,6 +27,46 @@ pub(crate) fn join(words: &mut [u64], other: &[u64]) -> bool
         }
     }
     grown
+}
+
+/// Sets so many flags from `to` on where those of `other` from `from` on are set, and returns whether one of them
+/// was not set. They lie in one word, and so do those of `other`.
+pub(crate) fn join_piece(
+    words: &mut [u64],
+    to: usize,
+    other: &[u64],
+    from: usize,
+    count: usize,
+) -> bool
+    requires some { 1 ≤ count }
+    requires to { to / 64 < length words.old }
+    requires to_room { to % 64 + count ≤ 64 }
+    requires from { from / 64 < length other.now }
+    requires from_room { from % 64 + count ≤ 64 }
+    ensures joins { (a : ℕ) → (bit words.new a ≡ true) ↔ ((bit words.old a ≡ true)
+        ⊎ IsMovedBit other.now from to count a) }
+    ensures gained { OnTrue result (IsSetSince words.old words.new) }
+    ensures stays { OnFalse result (words.new ≡ words.old) }
+{
+    let piece = piece(other[from / 64], from % 64, to % 64, count);
+    let joined = words[to / 64] | piece;
+    if joined == words[to / 64] {
+        return false;
+    }
+    words[to / 64] = joined;
+    true
+}
+
+/// So many flags of a word, moved to a place from their own.
+fn piece(word: u64, from: usize, to: usize, count: usize) -> u64
+    requires some { 1 ≤ count }
+    requires to_room { to + count ≤ 64 }
+    requires from_room { from + count ≤ 64 }
+    ensures sound { (j : ℕ) → bit_at result j ≡ 1
+        → (i : ℕ) × (i < count) × (bit_at word (from + i) ≡ 1) × (j ≡ to + i) }
+    ensures moves { (i : ℕ) → i < count → bit_at word (from + i) ≡ 1 → bit_at result (to + i) ≡ 1 }
+{
+    ((word >> from) & (u64::MAX >> (64 - count))) << to
 }
 
 /// Returns the least place whose flag is set in both.

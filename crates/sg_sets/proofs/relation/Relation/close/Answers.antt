@@ -9,5 +9,15 @@ loop-preserved c = record {
   least = paths-of c.args.self.now c.loop.self c.lengthen.new.self c.loop.invariant.least c.lengthen.ensures.least;
 }
 
-pub returns-after-loop-clause-least : goal.returns-after-loop-clause-least
-returns-after-loop-clause-least c = paths-of c.args.self.now c.loop.self c.lengthen.new.self c.loop.invariant.least c.lengthen.ensures.least
+pub returns-clause-least : goal.returns-clause-least
+returns-clause-least c = paths-of c.args.self.now c.loop.self c.lengthen.new.self c.loop.invariant.least c.lengthen.ensures.least
+
+pub loop-init : goal.loop-init
+loop-init c = record {
+  size = c.close_in_order.ensures.size ∙ c.close_in_few.ensures.size;
+  contains = λ a b h. c.close_in_order.ensures.contains a b (c.close_in_few.ensures.contains a b h);
+  least = paths-of c.args.self.now c.close_in_few.new.self c.close_in_order.new.self c.close_in_few.ensures.least c.close_in_order.ensures.least;
+}
+
+pub returns-then-is_ok-clause-least : goal.returns-then-is_ok-clause-least
+returns-then-is_ok-clause-least c = paths-of c.args.self.now c.close_in_few.new.self c.close_in_order.new.self c.close_in_few.ensures.least c.close_in_order.ensures.least
