@@ -1,88 +1,78 @@
 -- How the pairs of an operator's vertices are added to its phyla.
-use Rattle.std.specs.Prelude.{◌≡◌, ◌↔◌, ◌⊎◌, ℕ, ◌+◌, ◌<◌, ◌≤◌, Bool, true, false, cond, List, [], length, sum_by}
-use Rattle.std.specs.Bool.{OnFalse}
+use Rattle.std.specs.Prelude.{◌≡◌, ◌↔◌, ◌⊎◌, ◌||◌, ℕ, ◌+◌, ◌<◌, ◌≤◌, Bool, true, false, cond, List, [], length, sum_by}
+use Rattle.std.specs.Bool.{OnTrue, OnFalse}
 use Rattle.std.proofs.Common.{refl, sym, ◌∙◌, ap, subst, get_or, set, arith, inl, inr}
 use Rattle.std.proofs.lemmas.Bool.{cases_lt}
 use Rattle.std.proofs.lemmas.List.{get_or_default, set-get_or}
 use Rattle.std.proofs.lemmas.List.Sums.{sum_by-set}
-use Rattle.sg_sets.specs.Rows.{Holds, all_missing}
+use Rattle.sg_sets.specs.Members.{Has, IsMoved}
+use Rattle.sg_sets.specs.Rows.{Holds, all_missing, row_of}
 use Rattle.sg_dependencies.specs.Frames.{Spot}
 use Rattle.sg_dependencies.specs.Induced.{relation_at}
 use Rattle.sg_dependencies.specs.Rounds.{IsMet, IsJoined, AreAlike}
 use Rattle.sg_dependencies.proofs.Families.{at_same, at_each, alike_itself, alike_set}
 
--- the pairs before (a, b) are added
-pub record MetTo (s : Spot) (closed old new : List (List Bool)) (gained : Bool) (a b : ℕ) : Type 0 where
+-- the pairs from attributes before a are added
+pub record MetTo (s : Spot) (closed old new : List (List Bool)) (gained : Bool) (a : ℕ) : Type 0 where
   pub size : length new ≡ length old
   pub sound : (x y : ℕ) → Holds new x y → Holds old x y ⊎ IsMet s (Holds closed) x y
   pub keeps : (x y : ℕ) → Holds old x y → Holds new x y
   pub before : (x y : ℕ) → x < a → y < s.attrs → Holds closed (s.first + x) (s.first + y) → Holds new x y
-  pub here : (y : ℕ) → y < b → Holds closed (s.first + a) (s.first + y) → Holds new a y
   pub fewer : all_missing new + cond gained 1 0 ≤ all_missing old
   pub stays : OnFalse gained (new ≡ old)
 
-pub met_none : (s : Spot) (closed old : List (List Bool)) → MetTo s closed old old false 0 0
+pub met_none : (s : Spot) (closed old : List (List Bool)) → MetTo s closed old old false 0
 met_none s closed old = record {
   size = refl;
   sound = λ x y h. inl h;
   keeps = λ x y h. h;
   before = λ x y low high h. absurd (omega (arith, low));
-  here = λ y low h. absurd (omega (arith, low));
   fewer = omega arith;
   stays = refl;
 }
 
-pub met_over : (s : Spot) (closed old new : List (List Bool)) (gained : Bool) (a b : ℕ) → MetTo s closed old new gained a b → (Holds closed (s.first + a) (s.first + b) → Holds new a b) → MetTo s closed old new gained a (b + 1)
-met_over s closed old new gained a b to has = record {
-  size = to.size;
-  sound = to.sound;
-  keeps = to.keeps;
-  before = to.before;
-  fewer = to.fewer;
-  stays = to.stays;
-  here = λ y low h. elim (cases_lt y b) [ inl under ↦ to.here y under h | inr past ↦ let is : y ≡ b = omega (arith, low, past) in rw is (has (subst (λ k. Holds closed (s.first + a) (s.first + k)) is h)) ];
-}
+fewer_now : (more gained : Bool) (new was old : ℕ) → OnTrue more (new < was) → OnFalse more (new ≡ was) → was + cond gained 1 0 ≤ old → new + cond (more || gained) 1 0 ≤ old
+fewer_now true true new was old g s f = omega (arith, g, f)
+fewer_now true false new was old g s f = omega (arith, g, f)
+fewer_now false gained new was old g s f = rw s f
 
--- what is passed over is not related
-pub met_past : (s : Spot) (closed old new : List (List Bool)) (gained : Bool) (a from b : ℕ) → MetTo s closed old new gained a from → ((y : ℕ) → from ≤ y → y < b → Holds closed (s.first + a) (s.first + y) → ⊥) → MetTo s closed old new gained a b
-met_past s closed old new gained a from b to out = record {
-  size = to.size;
-  sound = to.sound;
-  keeps = to.keeps;
-  before = to.before;
-  fewer = to.fewer;
-  stays = to.stays;
-  here = λ y low h. elim (cases_lt y from) [ inl under ↦ to.here y under h | inr past ↦ absurd (out y past low h) ];
-}
+stays_now : {A : Type 0} (more gained : Bool) (new was old : A) → OnFalse more (new ≡ was) → OnFalse gained (was ≡ old) → OnFalse (more || gained) (new ≡ old)
+stays_now true gained new was old s t = tt
+stays_now false true new was old s t = tt
+stays_now false false new was old s t = s ∙ t
 
-pub met_pair : (s : Spot) (closed old now new : List (List Bool)) (gained : Bool) (a b : ℕ) → MetTo s closed old now gained a b → a < s.attrs → b < s.attrs → Holds closed (s.first + a) (s.first + b) → length new ≡ length now
-    → ((x y : ℕ) → Holds new x y ↔ (Holds now x y ⊎ ((x ≡ a) × (y ≡ b)))) → all_missing now ≡ all_missing new + 1 → MetTo s closed old new true a (b + 1)
-met_pair s closed old now new gained a b to a_there b_there related long gains counted = record {
+same_missing : (more : Bool) (new was : List (List Bool)) → OnFalse more (new ≡ was) → OnFalse more (all_missing new ≡ all_missing was)
+same_missing true new was s = tt
+same_missing false new was s = ap all_missing s
+
+-- those from a too
+pub met_row : (s : Spot) (closed old now new : List (List Bool)) (row : List Bool) (gained more : Bool) (a : ℕ) → MetTo s closed old now gained a → a < s.attrs → row ≡ row_of closed (s.first + a) → length new ≡ length now
+    → ((x y : ℕ) → Holds new x y ↔ (Holds now x y ⊎ ((x ≡ a) × IsMoved row s.first 0 s.attrs y))) → OnTrue more (all_missing new < all_missing now) → OnFalse more (new ≡ now)
+    → MetTo s closed old new (more || gained) (a + 1)
+met_row s closed old now new row gained more a to there is long gains grows stays = record {
   size = long ∙ to.size;
-  sound = λ x y h. elim ((gains x y).0 h) [ inl was ↦ to.sound x y was | inr is ↦ inr (rw (is.0, is.1) (record { a_there = a_there; b_there = b_there; related = related })) ];
-  keeps = λ x y h. (gains x y).1 (inl (to.keeps x y h));
-  before = λ x y low high h. (gains x y).1 (inl (to.before x y low high h));
-  here = λ y low h. elim (cases_lt y b) [ inl under ↦ (gains a y).1 (inl (to.here y under h)) | inr past ↦ let is : y ≡ b = omega (arith, low, past) in (gains a y).1 (inr (refl, is)) ];
-  fewer = let f = to.fewer in omega (arith, f, counted);
-  stays = tt;
-}
-
-pub met_row : (s : Spot) (closed old new : List (List Bool)) (gained : Bool) (a b : ℕ) → MetTo s closed old new gained a b → s.attrs ≤ b → MetTo s closed old new gained (a + 1) 0
-met_row s closed old new gained a b to end = record {
-  size = to.size;
-  sound = to.sound;
-  keeps = to.keeps;
-  fewer = to.fewer;
-  stays = to.stays;
-  before = λ x y low high h. elim (cases_lt x a) [
-    | inl under ↦ to.before x y under high h
-    | inr past ↦ let is : x ≡ a = omega (arith, low, past) in rw is (to.here y (omega (arith, high, end)) (subst (λ k. Holds closed (s.first + k) (s.first + y)) is h))
+  sound = λ x y h. elim ((gains x y).0 h) [
+    | inl was ↦ to.sound x y was
+    | inr found ↦
+        let moved = found.1 in
+        let at = moved.at in
+        let place : y ≡ moved.place = omega (arith, at) in
+        inr (rw (found.0, place) (record { a_there = there; b_there = moved.low; related = subst (λ r. Has r (s.first + moved.place)) is moved.member }))
   ];
-  here = λ y low h. absurd (omega (arith, low));
+  keeps = λ x y h. (gains x y).1 (inl (to.keeps x y h));
+  before = λ x y low high h. elim (cases_lt x a) [
+    | inl under ↦ (gains x y).1 (inl (to.before x y under high h))
+    | inr past ↦
+        let same : x ≡ a = omega (arith, low, past) in
+        let member : Has row (s.first + y) = subst (λ r. Has r (s.first + y)) (sym is) (subst (λ k. Holds closed (s.first + k) (s.first + y)) same h) in
+        (gains x y).1 (inr (same, record { place = y; low = high; member = member; at = omega arith }))
+  ];
+  fewer = fewer_now more gained (all_missing new) (all_missing now) (all_missing old) grows (same_missing more new now stays) to.fewer;
+  stays = stays_now more gained new now old stays to.stays;
 }
 
-pub met_all : (s : Spot) (closed old new : List (List Bool)) (gained : Bool) (a b : ℕ) → MetTo s closed old new gained a b → s.attrs ≤ a → (x y : ℕ) → Holds new x y ↔ (Holds old x y ⊎ IsMet s (Holds closed) x y)
-met_all s closed old new gained a b to end x y = (
+pub met_all : (s : Spot) (closed old new : List (List Bool)) (gained : Bool) (a : ℕ) → MetTo s closed old new gained a → s.attrs ≤ a → (x y : ℕ) → Holds new x y ↔ (Holds old x y ⊎ IsMet s (Holds closed) x y)
+met_all s closed old new gained a to end x y = (
   λ h. to.sound x y h,
   λ h. elim h [ inl was ↦ to.keeps x y was | inr met ↦ let low = met.a_there in to.before x y (omega (arith, low, end)) met.b_there met.related ],
 )

@@ -3,58 +3,55 @@ use Rattle.std.specs.Prelude.{◌≡◌, ◌↔◌, ◌⊎◌, ℕ, ◌+◌, ◌
 use Rattle.std.proofs.Common.{refl, sym, ◌∙◌, ap, subst, get_or, arith, inl, inr}
 use Rattle.std.proofs.lemmas.Bool.{cases_lt}
 use Rattle.std.proofs.lemmas.List.{get_or_default}
-use Rattle.sg_sets.specs.Rows.{Holds}
+use Rattle.sg_sets.specs.Members.{Has, IsMoved}
+use Rattle.sg_sets.specs.Rows.{Holds, row_of}
 use Rattle.sg_dependencies.specs.Frames.{Spot}
 use Rattle.sg_dependencies.specs.Induced.{relation_at}
 use Rattle.sg_dependencies.specs.Rounds.{IsPlaced, IsSpread}
 
--- the pairs before (a, b) are added
-pub record SpreadTo (s : Spot) (rows old new : List (List Bool)) (a b : ℕ) : Type 0 where
+-- the pairs from attributes before a are added
+pub record SpreadTo (s : Spot) (rows old new : List (List Bool)) (a : ℕ) : Type 0 where
   pub size : length new ≡ length old
   pub sound : (m n : ℕ) → Holds new m n → Holds old m n ⊎ IsPlaced s rows m n
   pub keeps : (m n : ℕ) → Holds old m n → Holds new m n
   pub before : (x y : ℕ) → x < a → y < s.attrs → Holds rows x y → Holds new (s.first + x) (s.first + y)
-  pub here : (y : ℕ) → y < b → Holds rows a y → Holds new (s.first + a) (s.first + y)
 
-pub spread_none : (s : Spot) (rows old : List (List Bool)) → SpreadTo s rows old old 0 0
-spread_none s rows old = record { size = refl; sound = λ m n h. inl h; keeps = λ m n h. h; before = λ x y low high h. absurd (omega (arith, low)); here = λ y low h. absurd (omega (arith, low)) }
+pub spread_none : (s : Spot) (rows old : List (List Bool)) → SpreadTo s rows old old 0
+spread_none s rows old = record { size = refl; sound = λ m n h. inl h; keeps = λ m n h. h; before = λ x y low high h. absurd (omega (arith, low)) }
 
--- what is passed over is not related
-pub spread_past : (s : Spot) (rows old new : List (List Bool)) (a from b : ℕ) → SpreadTo s rows old new a from → ((y : ℕ) → from ≤ y → y < b → Holds rows a y → ⊥) → SpreadTo s rows old new a b
-spread_past s rows old new a from b to out = record {
-  size = to.size;
-  sound = to.sound;
-  keeps = to.keeps;
-  before = to.before;
-  here = λ y low h. elim (cases_lt y from) [ inl under ↦ to.here y under h | inr past ↦ absurd (out y past low h) ];
-}
-
-pub spread_pair : (s : Spot) (rows old now new : List (List Bool)) (a b : ℕ) → SpreadTo s rows old now a b → a < s.attrs → b < s.attrs → Holds rows a b → length new ≡ length now → ((x y : ℕ) → Holds new x y ↔ (Holds now x y ⊎ ((x ≡ s.first + a) × (y ≡ s.first + b)))) → SpreadTo s rows old new a (b + 1)
-spread_pair s rows old now new a b to a_there b_there related long gains = record {
+-- those from a too
+pub spread_row : (s : Spot) (rows old now new : List (List Bool)) (row : List Bool) (a : ℕ) → SpreadTo s rows old now a → a < s.attrs → row ≡ row_of rows a → length new ≡ length now
+    → ((x y : ℕ) → Holds new x y ↔ (Holds now x y ⊎ ((x ≡ s.first + a) × IsMoved row 0 s.first s.attrs y))) → SpreadTo s rows old new (a + 1)
+spread_row s rows old now new row a to there is long gains = record {
   size = long ∙ to.size;
-  sound = λ m n h. elim ((gains m n).0 h) [ inl was ↦ to.sound m n was | inr is ↦ inr (record { a = a; b = b; a_there = a_there; b_there = b_there; related = related; from = is.0; to = is.1 }) ];
+  sound = λ m n h. elim ((gains m n).0 h) [
+    | inl was ↦ to.sound m n was
+    | inr more ↦
+        let moved = more.1 in
+        let place : 0 + moved.place ≡ moved.place = omega arith in
+        inr (record {
+          a = a;
+          b = moved.place;
+          a_there = there;
+          b_there = moved.low;
+          related = subst (Has (row_of rows a)) place (subst (λ r. Has r (0 + moved.place)) is moved.member);
+          from = more.0;
+          to = moved.at;
+        })
+  ];
   keeps = λ m n h. (gains m n).1 (inl (to.keeps m n h));
-  before = λ x y low high h. (gains (s.first + x) (s.first + y)).1 (inl (to.before x y low high h));
-  here = λ y low h. elim (cases_lt y b) [
-    | inl under ↦ (gains (s.first + a) (s.first + y)).1 (inl (to.here y under h))
-    | inr past ↦ let is : y ≡ b = omega (arith, low, past) in (gains (s.first + a) (s.first + y)).1 (inr (refl, ap (λ k. s.first + k) is))
-  ];
-}
-
-pub spread_row : (s : Spot) (rows old new : List (List Bool)) (a b : ℕ) → SpreadTo s rows old new a b → s.attrs ≤ b → SpreadTo s rows old new (a + 1) 0
-spread_row s rows old new a b to end = record {
-  size = to.size;
-  sound = to.sound;
-  keeps = to.keeps;
   before = λ x y low high h. elim (cases_lt x a) [
-    | inl under ↦ to.before x y under high h
-    | inr past ↦ let is : x ≡ a = omega (arith, low, past) in rw is (to.here y (omega (arith, high, end)) (subst (λ k. Holds rows k y) is h))
+    | inl under ↦ (gains (s.first + x) (s.first + y)).1 (inl (to.before x y under high h))
+    | inr past ↦
+        let same : x ≡ a = omega (arith, low, past) in
+        let place : y ≡ 0 + y = omega arith in
+        let member : Has row (0 + y) = subst (Has row) place (subst (λ r. Has r y) (sym is) (subst (λ k. Holds rows k y) same h)) in
+        (gains (s.first + x) (s.first + y)).1 (inr (ap (λ k. s.first + k) same, record { place = y; low = high; member = member; at = refl }))
   ];
-  here = λ y low h. absurd (omega (arith, low));
 }
 
-pub spread_all_rows : (s : Spot) (rows old new : List (List Bool)) (a b : ℕ) → SpreadTo s rows old new a b → s.attrs ≤ a → (m n : ℕ) → Holds new m n ↔ (Holds old m n ⊎ IsPlaced s rows m n)
-spread_all_rows s rows old new a b to end m n = (
+pub spread_all_rows : (s : Spot) (rows old new : List (List Bool)) (a : ℕ) → SpreadTo s rows old new a → s.attrs ≤ a → (m n : ℕ) → Holds new m n ↔ (Holds old m n ⊎ IsPlaced s rows m n)
+spread_all_rows s rows old new a to end m n = (
   λ h. to.sound m n h,
   λ h. elim h [
     | inl was ↦ to.keeps m n was

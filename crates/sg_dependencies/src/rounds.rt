@@ -99,11 +99,13 @@ fn spread(relation: &mut Relation, spot: Spot, phylum: &Relation)
     ensures size { length relation.new ≡ length relation.old }
 {
     for a in 0..spot.attrs {
-        let mut from = 0;
-        while let Some(b) = phylum.successors(a).next(from) {
-            relation.add(spot.first + a, spot.first + b);
-            from = b + 1;
-        }
+        relation.add_part(
+            spot.first + a,
+            spot.first,
+            phylum.successors(a),
+            0,
+            spot.attrs,
+        );
     }
 }
 
@@ -119,14 +121,9 @@ fn gather(phylum: &mut Relation, spot: Spot, closed: &Relation) -> bool
 {
     let mut gained = false;
     for a in 0..spot.attrs {
-        let mut from = spot.first;
-        while let Some(n) = closed.successors(spot.first + a).next(from)
-            && n < spot.first + spot.attrs
-        {
-            if phylum.add(a, n - spot.first) {
-                gained = true;
-            }
-            from = n + 1;
+        let row = closed.successors(spot.first + a);
+        if phylum.add_part(a, 0, row, spot.first, spot.attrs) {
+            gained = true;
         }
     }
     gained
