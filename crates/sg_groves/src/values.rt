@@ -14,9 +14,9 @@ pub struct Values {
 #[derive(Drop)]
 enum Form {
     Empty,
-    One(ValueId),
-    Two(ValueId, ValueId),
-    Three(ValueId, ValueId, ValueId),
+    One([ValueId; 1]),
+    Two([ValueId; 2]),
+    Three([ValueId; 3]),
     Long(Vec<ValueId>),
 }
 
@@ -42,7 +42,7 @@ impl Values {
         ensures { result ≡ number ∷ [] }
     {
         Values {
-            form: Form::One(number),
+            form: Form::One([number]),
         }
     }
 
@@ -52,9 +52,9 @@ impl Values {
     {
         let form = match numbers.as_slice() {
             [] => Form::Empty,
-            [a] => Form::One(*a),
-            [a, b] => Form::Two(*a, *b),
-            [a, b, c] => Form::Three(*a, *b, *c),
+            [a] => Form::One([*a]),
+            [a, b] => Form::Two([*a, *b]),
+            [a, b, c] => Form::Three([*a, *b, *c]),
             _ => Form::Long(numbers),
         };
         Values { form }
@@ -65,18 +65,13 @@ impl Values {
         requires { slot < length self.now }
         ensures { slice_get self.now slot ≡ Some result }
     {
+        let k = slot as usize;
         match &self.form {
-            Form::Long(numbers) => numbers[slot as usize],
-            Form::Two(a, b) => if slot == 0 { *a } else { *b },
-            Form::Three(a, b, c) => if slot == 0 {
-                *a
-            } else if slot == 1 {
-                *b
-            } else {
-                *c
-            },
-            Form::One(a) => *a,
             Form::Empty => unreachable!(),
+            Form::One(numbers) => numbers[k],
+            Form::Two(numbers) => numbers[k],
+            Form::Three(numbers) => numbers[k],
+            Form::Long(numbers) => numbers[k],
         }
     }
 
@@ -85,18 +80,13 @@ impl Values {
         requires { slot < length self }
         ensures { result ≡ slice_set self slot number }
     {
+        let k = slot as usize;
         match &mut self.form {
             Form::Empty => {}
-            Form::One(a) => *a = number,
-            Form::Two(a, b) => if slot == 0 { *a = number } else { *b = number },
-            Form::Three(a, b, c) => if slot == 0 {
-                *a = number
-            } else if slot == 1 {
-                *b = number
-            } else {
-                *c = number
-            },
-            Form::Long(numbers) => numbers[slot as usize] = number,
+            Form::One(numbers) => numbers[k] = number,
+            Form::Two(numbers) => numbers[k] = number,
+            Form::Three(numbers) => numbers[k] = number,
+            Form::Long(numbers) => numbers[k] = number,
         }
         self
     }
