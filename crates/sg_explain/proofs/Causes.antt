@@ -1,5 +1,5 @@
 -- Why a run ends as it does.
-use Rattle.std.proofs.Common.{inl, inr, refl, sym, subst}
+use Rattle.std.proofs.Common.{inl, inr, refl, sym, subst, Bool}
 use Rattle.sg_kinds.specs.Values.{Bytes}
 use Rattle.sg_load.specs.Verdict.{Verdict}
 use Rattle.sg_load.specs.Verdict.Verdict.{Refused, Accepted}
@@ -42,19 +42,19 @@ judged_cause file s s' old SpecFault new bytes text (Refused f) replied is put =
 judged_cause file s s' old SpecFault new bytes text (Accepted spec) replied is put = let same = put.ends tt in absurd (cc)
 judged_cause file s s' old SinkFault new bytes text v replied is put = put.rose refl
 
-told_cause : (file : Bytes) (s s' : ShelfState) (old : SinkState) (ending : Ending) (new : SinkState) (bytes : Bytes) (e : Explanation)
-    → Replied (Fetch file 1048577) (Fetched bytes) s s' → IsTold file bytes e → IsPut e.text e.ending old ending new → IsCause file s s' old new ending
-told_cause file s s' old ending new bytes e replied told put =
+told_cause : (planned : Bool) (file : Bytes) (s s' : ShelfState) (old : SinkState) (ending : Ending) (new : SinkState) (bytes : Bytes) (e : Explanation)
+    → Replied (Fetch file 1048577) (Fetched bytes) s s' → IsTold planned file bytes e → IsPut e.text e.ending old ending new → IsCause file s s' old new ending
+told_cause planned file s s' old ending new bytes e replied told put =
     judged_cause file s s' old ending new bytes e.text told.verdict replied told.is (subst (λ meant. IsPut e.text meant old ending new) told.ending put)
 
-answered_cause : (file : Bytes) (s s' : ShelfState) (old : SinkState) (ending : Ending) (new : SinkState) (reply : Reply)
-    → Replied (Fetch file 1048577) reply s s' → IsAnswered file reply old ending new → IsCause file s s' old new ending
-answered_cause file s s' old ending new (Fetched bytes) replied (inl told) = told_cause file s s' old ending new bytes told.0 replied told.1 told.2
-answered_cause file s s' old ending new (Fetched bytes) replied (inr silent) = silent_cause file s s' old ending new silent
-answered_cause file s s' old ending new FetchFailed replied put = unread_cause file s s' old ending new replied put
-answered_cause file s s' old ending new Kept replied put = let no = replied.kind in absurd (cc)
-answered_cause file s s' old ending new KeepFailed replied put = let no = replied.kind in absurd (cc)
+answered_cause : (planned : Bool) (file : Bytes) (s s' : ShelfState) (old : SinkState) (ending : Ending) (new : SinkState) (reply : Reply)
+    → Replied (Fetch file 1048577) reply s s' → IsAnswered planned file reply old ending new → IsCause file s s' old new ending
+answered_cause planned file s s' old ending new (Fetched bytes) replied (inl told) = told_cause planned file s s' old ending new bytes told.0 replied told.1 told.2
+answered_cause planned file s s' old ending new (Fetched bytes) replied (inr silent) = silent_cause file s s' old ending new silent
+answered_cause planned file s s' old ending new FetchFailed replied put = unread_cause file s s' old ending new replied put
+answered_cause planned file s s' old ending new Kept replied put = let no = replied.kind in absurd (cc)
+answered_cause planned file s s' old ending new KeepFailed replied put = let no = replied.kind in absurd (cc)
 
-pub run_cause : (file : Bytes) (s s' : ShelfState) (old : SinkState) (ending : Ending) (new : SinkState) → IsRun file s s' old ending new → IsCause file s s' old new ending
-run_cause file s s' old ending new (inl fetched) = answered_cause file s s' old ending new fetched.reply fetched.replied fetched.answered
-run_cause file s s' old ending new (inr unfetched) = silent_cause file s s' old ending new unfetched.silent
+pub run_cause : (planned : Bool) (file : Bytes) (s s' : ShelfState) (old : SinkState) (ending : Ending) (new : SinkState) → IsRun planned file s s' old ending new → IsCause file s s' old new ending
+run_cause planned file s s' old ending new (inl fetched) = answered_cause planned file s s' old ending new fetched.reply fetched.replied fetched.answered
+run_cause planned file s s' old ending new (inr unfetched) = silent_cause file s s' old ending new unfetched.silent

@@ -1,4 +1,5 @@
 pub mod Advice
+pub mod Named
 pub mod Help
 pub mod Answers
 pub mod Endings

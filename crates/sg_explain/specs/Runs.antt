@@ -1,5 +1,5 @@
 -- A whole run.
-use Rattle.std.specs.Prelude.{◌≡◌, ◌⊎◌, ◌≤◌, List, [], ◌∷◌, ◌++◌, ⊤, codes}
+use Rattle.std.specs.Prelude.{◌≡◌, ◌⊎◌, ◌≤◌, Bool, true, false, List, [], ◌∷◌, ◌++◌, ⊤, codes}
 use Rattle.sg_kinds.specs.Values.{Bytes}
 use Rattle.sg_kinds.specs.declared.fault.SpecFault.{SpecFault as Fault}
 use Rattle.sg_kinds.specs.declared.spec.Spec.{Spec}
@@ -19,13 +19,18 @@ use Rattle.sg_explain.specs.declared.explaining.Explanation.{Explanation}
 use Rattle.sg_explain.specs.Endings.{IsEnd}
 use Rattle.sg_explain.specs.Answers.{IsTold}
 
--- the words are not one name of a file
+-- the words that name a file, and ask for its plan too where it is wanted
+abbrev pub words_for : Bytes → Bool → List Bytes
+words_for file false = file ∷ []
+words_for file true = file ∷ codes "plan" ∷ []
+
+-- the words are no such ones
 abbrev pub IsNoFile : List Bytes → Type 0
-IsNoFile words = (file : Bytes) → words ≡ file ∷ [] → ⊥
+IsNoFile words = (file : Bytes) (planned : Bool) → words ≡ words_for file planned → ⊥
 
 -- what is told of them
 abbrev pub usage_text : Bytes
-usage_text = codes "usage: ssled_explain SPEC" ++ 10 ∷ []
+usage_text = codes "usage: ssled_explain SPEC [plan]" ++ 10 ∷ []
 
 -- where the specification cannot be fetched
 abbrev pub read_fault_text : Bytes
@@ -47,27 +52,30 @@ pub record IsSilent (old : SinkState) (ending : Ending) (new : SinkState) : Type
   pub same : new ≡ old
 
 -- what a text tells was put
-abbrev pub IsToldOf : Bytes → Bytes → SinkState → Ending → SinkState → Type 0
-IsToldOf file bytes old ending new = (e : Explanation) × IsTold file bytes e × IsPut e.text e.ending old ending new
+abbrev pub IsToldOf : Bool → Bytes → Bytes → SinkState → Ending → SinkState → Type 0
+IsToldOf planned file bytes old ending new =
+    (e : Explanation) × IsTold planned file bytes e × IsPut e.text e.ending old ending new
 
 -- what the reply to the fetch of the file brought is told of, or that it brought nothing
-abbrev pub IsAnswered : Bytes → Reply → SinkState → Ending → SinkState → Type 0
-IsAnswered file (Fetched bytes) old ending new = IsToldOf file bytes old ending new ⊎ IsSilent old ending new
-IsAnswered file reply old ending new = IsPut read_fault_text ReadFault old ending new
+abbrev pub IsAnswered : Bool → Bytes → Reply → SinkState → Ending → SinkState → Type 0
+IsAnswered planned file (Fetched bytes) old ending new =
+    IsToldOf planned file bytes old ending new ⊎ IsSilent old ending new
+IsAnswered planned file reply old ending new = IsPut read_fault_text ReadFault old ending new
 
 -- the file was fetched, to one byte over the limit, by one call of the shelf
-pub record IsFetched (file : Bytes) (s s' : ShelfState) (old : SinkState) (ending : Ending) (new : SinkState) : Type 0 where
+pub record IsFetched (planned : Bool) (file : Bytes) (s s' : ShelfState) (old : SinkState) (ending : Ending)
+    (new : SinkState) : Type 0 where
   pub reply : Reply
   pub replied : Replied (Fetch file 1048577) reply s s'
-  pub answered : IsAnswered file reply old ending new
+  pub answered : IsAnswered planned file reply old ending new
 
 -- or the shelf had no memory
 pub record IsUnfetched (s s' : ShelfState) (old : SinkState) (ending : Ending) (new : SinkState) : Type 0 where
   pub unanswered : Unanswered s s'
   pub silent : IsSilent old ending new
 
-abbrev pub IsRun : Bytes → ShelfState → ShelfState → SinkState → Ending → SinkState → Type 0
-IsRun file s s' old ending new = IsFetched file s s' old ending new ⊎ IsUnfetched s s' old ending new
+abbrev pub IsRun : Bool → Bytes → ShelfState → ShelfState → SinkState → Ending → SinkState → Type 0
+IsRun planned file s s' old ending new = IsFetched planned file s s' old ending new ⊎ IsUnfetched s s' old ending new
 
 -- the fetch of the file brought bytes of which this is the verdict, and there is no other
 pub record IsJudged (file : Bytes) (s s' : ShelfState) (v : Verdict) : Type 0 where

@@ -1,5 +1,5 @@
 -- All mismatches of a text with their types, and how they are told.
-use Rattle.std.specs.Prelude.{◌≡◌, ◌≤◌, ℕ, List, [], ◌∷◌, ◌++◌, length, flat_map, Option, Some, None, Result, Ok, codes}
+use Rattle.std.specs.Prelude.{ℕ, List, [], ◌∷◌, ◌++◌, flat_map, Option, Some, None, Result, Ok, codes}
 use Rattle.std.specs.Fmt.{decimal}
 use Rattle.sg_kinds.specs.Specification.{phylum_name}
 use Rattle.sg_kinds.specs.Values.{Bytes}
@@ -16,9 +16,8 @@ use Rattle.sg_mistyped.specs.declared.mistyped.Mistyped.{Mistyped}
 use Rattle.sg_mistyped.specs.declared.mistyped.Wanted.{Wanted}
 use Rattle.sg_mistyped.specs.declared.mistyped.Wanted.TheVariants.{One, AnyList, Like, Any, Unknown}
 use Rattle.sg_load.specs.Trees.{trees_in}
-use Rattle.sg_mismatches.specs.declared.mistypes.Column.{Column}
 use Rattle.sg_place.specs.Places.{begin_of, within}
-use Rattle.sg_place.specs.Shown.{column_at, left_len}
+use Rattle.sg_place.specs.Shown.{column_at}
 
 -- what compares with a type
 abbrev pub like_words : List Phylum → ℕ → Bytes
@@ -62,9 +61,3 @@ mistypes_with bytes ts ds = []
 
 abbrev pub text_mistypes : Bytes → Bytes
 text_mistypes bytes = mistypes_with bytes (tokens_of bytes) (trees_in bytes)
-
--- a place, and how many bytes stand on its line before it
-pub record IsColumn (bytes : Bytes) (c : Column) : Type 0 where
-  pub within : c.at ≤ length bytes
-  pub left : c.left ≡ left_len bytes c.at
-  pub short : c.left ≤ c.at

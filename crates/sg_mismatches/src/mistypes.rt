@@ -1,13 +1,13 @@
 // All mismatches with their types.
-ghost use Rattle.std.specs.Prelude.{◌≡◌, ◌≤◌, ◌++◌, drop, flat_map, length, take, IfOk, IfSome, OnOk, Ok};
+ghost use Rattle.std.specs.Prelude.{◌≡◌, ◌≤◌, ◌++◌, flat_map, length, IfOk, IfSome, OnOk, Ok};
 ghost use Rattle.sg_text.specs.Tokens.{tokens_of};
 ghost use Rattle.sg_ast.specs.View.{trees_of};
 ghost use Rattle.sg_load.specs.Trees.{trees_in};
 ghost use Rattle.sg_remote.specs.Longer.{names_of};
 ghost use Rattle.sg_mistyped.specs.Mistyped.{mistypes as mistypes_of};
 ghost use Rattle.sg_kinds.specs.Specification.{phylum_name};
-ghost use Rattle.sg_place.specs.Places.{begin_of, within};
-ghost use Rattle.sg_mismatches.specs.Mistypes.{IsColumn, found_words, like_words, mistyped_text, place_text, spot_words, text_mistypes, types_text, wanted_words};
+ghost use Rattle.sg_place.specs.Points.{IsPoint};
+ghost use Rattle.sg_mismatches.specs.Mistypes.{found_words, like_words, mistyped_text, place_text, spot_words, text_mistypes, types_text, wanted_words};
 
 use sg_ast::decl::Decl;
 use sg_kinds::decimal::write_number;
@@ -18,50 +18,13 @@ use sg_kinds::memory::NoMemory;
 use sg_load::declarations;
 use sg_mistyped::{Mistyped, Wanted, mistypes};
 use sg_names::names::Names;
-use sg_place::place::begin;
-use sg_place::shown::left_len;
+use sg_place::place::begin_within;
+use sg_place::points::{Point, moved, start};
 use sg_remote::hide;
 use sg_reports::symbols::phylum_name;
 use sg_tables::tables::tables;
 use sg_text::{Token, lex};
 use std::alloc::Global;
-
-// A place, and how many bytes stand on its line before it: a place behind it is counted from there on, so that a long
-// line with many places is passed over once.
-#[derive(Clone, Copy)]
-struct Column {
-    at: usize,
-    left: usize,
-}
-
-// The bytes from a place up to another.
-fn stretch(bytes: &[u8], from: usize, to: usize) -> &[u8]
-    requires rising { from ≤ to }
-    requires within { to ≤ length bytes.now }
-    ensures { result.now ≡ drop from (take to bytes.now) }
-{
-    &bytes[..to][from..]
-}
-
-// That of another place.
-fn moved(bytes: &[u8], known: Column, at: usize) -> Column
-    requires known { IsColumn bytes.now known }
-    requires within { at ≤ length bytes.now }
-    ensures column { IsColumn bytes.now result }
-    ensures at { result.at ≡ at }
-{
-    if at < known.at {
-        let left = left_len(bytes, at);
-        return Column { at, left };
-    }
-    let gap = at - known.at;
-    let left = left_len(stretch(bytes, known.at, at), gap);
-    if left < gap {
-        return Column { at, left };
-    }
-    let left = known.left + gap;
-    Column { at, left }
-}
 
 // Writes the name of a phylum.
 fn write_phylum(
@@ -129,12 +92,12 @@ fn write_spot(
     bytes: &[u8],
     place: Position,
     at: Option<usize>,
-    known: Column,
-) -> Result<Column, NoMemory>
-    requires known { IsColumn bytes.now known }
+    known: Point,
+) -> Result<Point, NoMemory>
+    requires known { IsPoint bytes.now known }
     requires there { IfSome at (λ at. at ≤ length bytes.now) }
     ensures text { OnOk result (out.new.items ≡ out.old.items ++ spot_words bytes.now place at) }
-    ensures column { IfOk result (IsColumn bytes.now) }
+    ensures point { IfOk result (IsPoint bytes.now) }
 {
     write_number(alloc, out, place.line as u64)?;
     let Some(at) = at else {
@@ -146,15 +109,6 @@ fn write_spot(
     Ok(here)
 }
 
-// Where the token of a position begins, at most the text's end.
-fn begin_within(bytes: &[u8], tokens: &[Token], place: Position) -> Option<usize>
-    ensures value { result ≡ within bytes.now (begin_of tokens.now place) }
-    ensures there { IfSome result (λ at. at ≤ length bytes.now) }
-{
-    let at = begin(tokens, place)?;
-    Some(at.min(bytes.len()))
-}
-
 // Begins a line with a position and its column.
 fn write_place(
     alloc: Global,
@@ -162,12 +116,12 @@ fn write_place(
     bytes: &[u8],
     place: Position,
     at: Option<usize>,
-    known: Column,
-) -> Result<Column, NoMemory>
-    requires known { IsColumn bytes.now known }
+    known: Point,
+) -> Result<Point, NoMemory>
+    requires known { IsPoint bytes.now known }
     requires there { IfSome at (λ at. at ≤ length bytes.now) }
     ensures text { OnOk result (out.new.items ≡ out.old.items ++ place_text bytes.now place at) }
-    ensures column { IfOk result (IsColumn bytes.now) }
+    ensures point { IfOk result (IsPoint bytes.now) }
 {
     out.extend_from_slice(b"  ")?;
     write_spot(alloc, out, bytes, place, at, known)
@@ -198,12 +152,12 @@ fn write_mistyped(
     tokens: &[Token],
     names: &Names,
     mistyped: &Mistyped,
-    known: Column,
-) -> Result<Column, NoMemory>
-    requires { IsColumn bytes.now known }
+    known: Point,
+) -> Result<Point, NoMemory>
+    requires { IsPoint bytes.now known }
     ensures text { OnOk result (out.new.items
         ≡ out.old.items ++ mistyped_text bytes.now tokens.now names.now.phyla mistyped.now) }
-    ensures column { IfOk result (IsColumn bytes.now) }
+    ensures point { IfOk result (IsPoint bytes.now) }
 {
     let at = begin_within(bytes, tokens, mistyped.place);
     let here = write_place(alloc, out, bytes, mistyped.place, at, known)?;
@@ -222,7 +176,7 @@ fn lines(
     ensures { IfOk result (λ v. v.items ≡ flat_map (mistyped_text bytes.now tokens.now names.now.phyla) found.now) }
 {
     let mut out = Vec::new(alloc);
-    let mut known = Column { at: 0, left: 0 };
+    let mut known = start(bytes);
     for mistyped in found {
         known = write_mistyped(alloc, &mut out, bytes, tokens, names, mistyped, known)?;
     }

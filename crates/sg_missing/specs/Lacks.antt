@@ -1,13 +1,11 @@
 -- What the equations of operators lack, and how it is told.
-use Rattle.std.specs.Prelude.{ℕ, zero, suc, ◌-◌, Bool, ◌&&◌, if◌then◌else◌, List, [], ◌∷◌, ◌++◌, length, take, map, filter, flat_map, count_by, nat_eq, bytes_eq, slice_get, Option, Some, None, option_map, unwrap_or, Result, Ok, Err, codes}
+use Rattle.std.specs.Prelude.{ℕ, zero, suc, Bool, ◌&&◌, if◌then◌else◌, List, [], ◌∷◌, ◌++◌, length, map, filter, flat_map, nat_eq, bytes_eq, slice_get, Option, Some, None, Result, Ok, Err, codes}
 use Rattle.std.specs.List.{list_any}
 use Rattle.sg_kinds.specs.Values.{Bytes}
 use Rattle.sg_kinds.specs.declared.fault.Position.{Position}
-use Rattle.sg_kinds.specs.declared.fault.PrintedVertex.{PrintedVertex}
-use Rattle.sg_kinds.specs.declared.fault.PrintedVertex.TheVariants.{Own, Argument, Local}
+use Rattle.sg_kinds.specs.declared.fault.PrintedVertex.TheVariants.{Argument}
 use Rattle.sg_kinds.specs.declared.fault.SpecFault.{SpecFault}
 use Rattle.sg_kinds.specs.declared.spec.Attr.{Attr}
-use Rattle.sg_kinds.specs.declared.spec.Local.{Local as LocalOf}
 use Rattle.sg_kinds.specs.declared.spec.Occurrence.{Occurrence}
 use Rattle.sg_kinds.specs.declared.spec.Operator.{Operator}
 use Rattle.sg_kinds.specs.declared.spec.Phylum.{Phylum}
@@ -23,6 +21,7 @@ use Rattle.sg_equations.specs.Complete.{lacks_slot}
 use Rattle.sg_equations.specs.Targets.{defined_in}
 use Rattle.sg_equations.specs.declared.targets.Defined.{Defined}
 use Rattle.sg_faults.specs.FaultLine.{line_text, vertex_word}
+use Rattle.sg_printed.specs.Printed.{number_of, own_vertex}
 
 -- what the equations of an operator define
 abbrev pub defined_of : List Defined → ℕ → List Defined
@@ -38,16 +37,6 @@ lacking_at t defs op at = lacking_below t defs op at (length (slots_there (draft
 -- all that it lacks
 abbrev pub lacking : Table → List Defined → ℕ → List Occurrence
 lacking t defs op = flat_map (lacking_at t defs op) (below (suc (length (args_of t.ops op))))
-
--- an attribute of the left side, or the local behind them
-abbrev pub own_vertex : List Attr → List LocalOf → ℕ → Option Attr → PrintedVertex
-own_vertex attrs locals slot (Some a) = Own a.name
-own_vertex attrs locals slot None =
-    Local (unwrap_or (option_map (λ (l : LocalOf). l.name) (slice_get locals (slot - length attrs))) [])
-
--- the number of an argument among the occurrences of its phylum, of which the left side is the first
-abbrev pub number_of : Operator → ℕ → ℕ → ℕ
-number_of o k q = suc (count_by (nat_eq q) (o.phylum ∷ take k o.args))
 
 -- an inherited attribute of the left side has this name and type
 abbrev pub is_handed : List Attr → Attr → Bool

@@ -1,12 +1,12 @@
 // What the equations of operators lack.
-ghost use Rattle.std.specs.Prelude.{◌≡◌, ◌++◌, count_by, flat_map, nat_eq, slice_get, take, IfOk, OnOk, Ok};
+ghost use Rattle.std.specs.Prelude.{◌≡◌, ◌++◌, flat_map, slice_get, IfOk, OnOk, Ok};
 ghost use Rattle.sg_kinds.specs.Specification.{attrs_of};
 ghost use Rattle.sg_ast.specs.View.{trees_of};
 ghost use Rattle.sg_faults.specs.FaultLine.{vertex_word};
 ghost use Rattle.sg_load.specs.Trees.{trees_in};
 ghost use Rattle.sg_equations.specs.Complete.{is_defined as is_defined_by, lacks_slot as lacks_slot_of};
 ghost use Rattle.sg_equations.specs.Targets.{IsNarrow, defined_in};
-ghost use Rattle.sg_missing.specs.Lacks.{attr_text, defined_of as defined_of_op, handed_text, is_handed as is_handed_by, lack_text, lacking as lacking_of, lacking_at as lacking_there, lacks_of, lacks_text, number_of, own_vertex as own_vertex_of, owner_text, slot_text, text_lacks};
+ghost use Rattle.sg_missing.specs.Lacks.{attr_text, defined_of as defined_of_op, handed_text, is_handed as is_handed_by, lack_text, lacking as lacking_of, lacking_at as lacking_there, lacks_of, lacks_text, owner_text, slot_text, text_lacks};
 
 use sg_ast::decl::Decl;
 use sg_equations::targets::{Defined, targets_in};
@@ -16,10 +16,10 @@ use sg_kinds::fault::PrintedVertex;
 use sg_kinds::ids::{OpId, PhylumId};
 use sg_kinds::marks::Way;
 use sg_kinds::memory::NoMemory;
-use sg_kinds::spec::{Attr, Local, Occurrence, Operator};
-use sg_kinds::text::Text;
+use sg_kinds::spec::{Attr, Occurrence, Operator};
 use sg_load::declarations;
 use sg_names::names::Names;
+use sg_printed::{number, own_vertex};
 use sg_reports::symbols::phylum_name;
 use sg_tables::tables::tables;
 use std::alloc::Global;
@@ -95,24 +95,6 @@ fn lacking(
     Ok(lacking)
 }
 
-// The name of the attribute of the left side, or of the local behind them, of this slot.
-fn own_vertex(
-    alloc: Global,
-    attrs: &[Attr],
-    locals: &[Local],
-    slot: usize,
-) -> Result<PrintedVertex, NoMemory>
-    ensures { IfOk result (λ v. v ≡ own_vertex_of attrs.now locals.now slot (slice_get attrs.now slot)) }
-{
-    if let Some(attr) = attrs.get(slot) {
-        return Ok(PrintedVertex::Own(attr.name.copy(alloc)?));
-    }
-    match locals.get(slot.saturating_sub(attrs.len())) {
-        Some(local) => Ok(PrintedVertex::Local(local.name.copy(alloc)?)),
-        None => Ok(PrintedVertex::Local(Text::new(Vec::new(alloc)))),
-    }
-}
-
 fn is_handed(attrs: &[Attr], attr: &Attr) -> bool
     ensures { result ≡ is_handed_by attrs.now attr.now }
 {
@@ -120,31 +102,6 @@ fn is_handed(attrs: &[Attr], attr: &Attr) -> bool
         other.way == Way::Inherited
             && (attr.name.as_slice() == other.name.as_slice() && attr.of == other.of)
     })
-}
-
-// How many of the first k arguments are of that phylum.
-fn count_before(args: &[PhylumId], k: usize, phylum: PhylumId) -> usize
-    ensures { result ≡ count_by (nat_eq phylum) (take k args.now) }
-{
-    args.iter()
-        .take(k)
-        .filter(|other| **other == phylum)
-        .count()
-}
-
-// The number of an argument among the occurrences of its phylum, of which the left side is the first.
-fn number(operator: &Operator, k: usize, phylum: PhylumId) -> Result<u32, NoMemory>
-    ensures { IfOk result (λ n. n ≡ number_of operator.now k phylum) }
-{
-    let count = count_before(operator.args.as_slice(), k, phylum);
-    if count >= u32::MAX as usize - 1 {
-        return Err(NoMemory);
-    }
-    if operator.phylum == phylum {
-        Ok(count as u32 + 2)
-    } else {
-        Ok(count as u32 + 1)
-    }
 }
 
 // Writes an attribute of an argument, and where the left side has the same the equation that hands it on.

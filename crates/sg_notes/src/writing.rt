@@ -1,20 +1,20 @@
 // The lines of notes.
-ghost use Rattle.std.specs.Prelude.{◌≡◌, ◌++◌, List, flat_map, IfOk, OnOk};
+ghost use Rattle.std.specs.Prelude.{◌≡◌, ◌≤◌, ◌++◌, List, flat_map, length, IfOk, IfSome, OnOk};
 ghost use Rattle.sg_ast.specs.View.{trees_of};
 ghost use Rattle.sg_names.specs.Meaning.{meaning};
-ghost use Rattle.sg_place.specs.Places.{begin_of, within};
-ghost use Rattle.sg_notes.specs.Notes.{note_text, notes_text, remark as remark_of, where_in};
+ghost use Rattle.sg_place.specs.Points.{IsPoint};
+ghost use Rattle.sg_notes.specs.Notes.{begin_in as begin_in_text, note_text, notes_text, remark as remark_of, remark_text};
 
 use crate::places::places;
 use crate::subjects::subject;
 use sg_ast::decl::Decl;
-use sg_kinds::decimal::write_number;
 use sg_kinds::fault::Position;
 use sg_kinds::memory::NoMemory;
 use sg_kinds::spec::Spec;
 use sg_names::index::Index;
-use sg_place::place::begin;
-use sg_place::shown::left_len;
+use sg_place::place::begin_within;
+use sg_place::points::{Point, start};
+use sg_place::shown::write_where_from;
 use sg_text::Token;
 use sg_useless::{Part, useless};
 use std::alloc::Global;
@@ -33,41 +33,26 @@ fn remark(part: Part) -> &'static str
     }
 }
 
-// Where the token of a position begins, at most at the text's end.
-fn begin_in(bytes: &[u8], tokens: &[Token], place: Position) -> Option<usize>
-    ensures { result ≡ within bytes.now (begin_of tokens.now place) }
+// Where the token of a position begins, if there is one.
+fn begin_in(bytes: &[u8], tokens: &[Token], place: Option<Position>) -> Option<usize>
+    ensures value { result ≡ begin_in_text bytes.now tokens.now place }
+    ensures there { IfSome result (λ at. at ≤ length bytes.now) }
 {
-    match begin(tokens, place) {
-        Some(at) => Some(at.min(bytes.len())),
-        None => None,
-    }
+    begin_within(bytes, tokens, place?)
 }
 
-// Writes the file, and line and column of the token of a position, if there is one.
-fn write_where(
-    alloc: Global,
-    out: &mut Vec<u8>,
-    file: &[u8],
-    bytes: &[u8],
-    tokens: &[Token],
-    place: Option<Position>,
-) -> Result<(), NoMemory>
-    ensures { OnOk result (out.new.items ≡ out.old.items ++ where_in file.now bytes.now tokens.now place) }
+// Writes what is told of a part behind its place.
+fn write_remark(out: &mut Vec<u8>, words: &[u8], part: Part) -> Result<(), NoMemory>
+    ensures { OnOk result (out.new.items ≡ out.old.items ++ remark_text words.now part) }
 {
-    out.extend_from_slice(file)?;
-    let Some(place) = place else {
-        return Ok(());
-    };
-    if let Some(at) = begin_in(bytes, tokens, place) {
-        out.push(b':')?;
-        write_number(alloc, out, place.line as u64)?;
-        out.push(b':')?;
-        write_number(alloc, out, 1 + left_len(bytes, at) as u64)?;
-    }
+    out.extend_from_slice(b": note ")?;
+    out.extend_from_slice(words)?;
+    out.extend_from_slice(remark(part).as_bytes())?;
+    out.push(b'\n')?;
     Ok(())
 }
 
-// Writes the line of a note.
+// Writes the line of a note, its place counted from a known point on, and answers the last known point.
 fn write_note(
     alloc: Global,
     out: &mut Vec<u8>,
@@ -77,17 +62,18 @@ fn write_note(
     places: &Index<Position>,
     spec: &Spec,
     part: Part,
-) -> Result<(), NoMemory>
-    ensures { OnOk result (out.new.items
+    known: Point,
+) -> Result<Point, NoMemory>
+    requires { IsPoint bytes.now known }
+    ensures text { OnOk result (out.new.items
         ≡ out.old.items ++ note_text file.now bytes.now tokens.now (meaning places.now) spec.now part) }
+    ensures point { IfOk result (IsPoint bytes.now) }
 {
     let words = subject(alloc, spec, part)?;
-    write_where(alloc, out, file, bytes, tokens, places.get(&words))?;
-    out.extend_from_slice(b": note ")?;
-    out.extend_from_slice(&words)?;
-    out.extend_from_slice(remark(part).as_bytes())?;
-    out.push(b'\n')?;
-    Ok(())
+    let at = begin_in(bytes, tokens, places.get(&words));
+    let here = write_where_from(alloc, out, file, bytes, at, known)?;
+    write_remark(out, &words, part)?;
+    Ok(here)
 }
 
 // Writes the lines of notes on these parts.
@@ -104,8 +90,9 @@ fn write_parts(
     ensures { OnOk result (out.new.items ≡ out.old.items
         ++ flat_map (note_text file.now bytes.now tokens.now (meaning places.now) spec.now) parts.now) }
 {
+    let mut known = start(bytes);
     for part in parts {
-        write_note(alloc, out, file, bytes, tokens, places, spec, *part)?;
+        known = write_note(alloc, out, file, bytes, tokens, places, spec, *part, known)?;
     }
     Ok(())
 }

@@ -1,7 +1,7 @@
 // The byte at which a fault stands in its text.
 ghost use Rattle.std.specs.Prelude.{◌≡◌, ◌≢◌, ◌≤◌, length, IfOk, IfSome, OnOk};
 ghost use Rattle.sg_text.specs.Tokens.{tokens_of};
-ghost use Rattle.sg_place.specs.Places.{IsPlaceIn, behind as tokens_behind, begin_of, first_begin as first_begin_of, place_of, place_with, spot_begin, spot_of, token_fault_place as fault_place_of};
+ghost use Rattle.sg_place.specs.Places.{IsPlaceIn, behind as tokens_behind, begin_of, first_begin as first_begin_of, place_of, place_with, spot_begin, spot_of, token_fault_place as fault_place_of, within};
 
 use sg_kinds::fault::{Position, SpecFault};
 use sg_kinds::limits::TEXT_BYTES;
@@ -77,14 +77,23 @@ fn token_fault_place(fault: LexFault) -> Result<Option<usize>, NoMemory>
     }
 }
 
-/// Where the token of a position begins.
-pub fn begin(tokens: &[Token], place: Position) -> Option<usize>
+// Where the token of a position begins.
+fn begin(tokens: &[Token], place: Position) -> Option<usize>
     ensures { result ≡ begin_of tokens.now place }
 {
     match tokens.get(place.token as usize) {
         Some(token) if token.line == place.line => Some(token.from),
         _ => None,
     }
+}
+
+/// The same, at most the text's end.
+pub fn begin_within(bytes: &[u8], tokens: &[Token], place: Position) -> Option<usize>
+    ensures value { result ≡ within bytes.now (begin_of tokens.now place) }
+    ensures there { IfSome result (λ at. at ≤ length bytes.now) }
+{
+    let at = begin(tokens, place)?;
+    Some(at.min(bytes.len()))
 }
 
 // The tokens behind so many declarations.

@@ -1,8 +1,10 @@
 // A place of a text as it is shown: its line and column, and below the bytes of the line with a caret.
 ghost use Rattle.std.specs.Prelude.{◌≡◌, ◌≤◌, ◌+◌, ◌++◌, length, map, IfOk, IfSome, OnOk};
 ghost use Rattle.sg_place.specs.Places.{IsPlaceIn};
+ghost use Rattle.sg_place.specs.Points.{IsPoint};
 ghost use Rattle.sg_place.specs.Shown.{blanks as blanks_of, caret_text, dots as dots_of, left_len as left_len_of, left_shown, line_len as line_len_of, margin as margin_of, line_text, right_shown, shown as shown_text, shown_at as shown_at_text, shown_byte as shown_byte_of, where_text};
 
+use crate::points::{Point, moved, start};
 use sg_kinds::decimal::write_number;
 use sg_kinds::memory::NoMemory;
 use sg_text::line_at;
@@ -162,7 +164,34 @@ pub fn write_shown_place(
     }
 }
 
-/// Writes the file, and the line and column of the place in it, if there is one.
+/// Writes the file, and the line and column of the place in it, if there is one, counted from a known point on; answers
+/// the last known point.
+pub fn write_where_from(
+    alloc: Global,
+    out: &mut Vec<u8>,
+    file: &[u8],
+    bytes: &[u8],
+    place: Option<usize>,
+    known: Point,
+) -> Result<Point, NoMemory>
+    requires known { IsPoint bytes.now known }
+    requires there { IfSome place (λ at. at ≤ length bytes.now) }
+    ensures text { OnOk result (out.new.items ≡ out.old.items ++ where_text file.now bytes.now place) }
+    ensures point { IfOk result (IsPoint bytes.now) }
+{
+    out.extend_from_slice(file)?;
+    let Some(at) = place else {
+        return Ok(known);
+    };
+    let here = moved(bytes, known, at);
+    out.push(b':')?;
+    write_number(alloc, out, here.line as u64)?;
+    out.push(b':')?;
+    write_number(alloc, out, 1 + here.left as u64)?;
+    Ok(here)
+}
+
+/// The same without a known point.
 pub fn write_where(
     alloc: Global,
     out: &mut Vec<u8>,
@@ -173,12 +202,6 @@ pub fn write_where(
     requires { IfSome place (IsPlaceIn bytes.now) }
     ensures { OnOk result (out.new.items ≡ out.old.items ++ where_text file.now bytes.now place) }
 {
-    out.extend_from_slice(file)?;
-    if let Some(at) = place {
-        out.push(b':')?;
-        write_number(alloc, out, line_at(bytes, at) as u64)?;
-        out.push(b':')?;
-        write_number(alloc, out, 1 + left_len(bytes, at) as u64)?;
-    }
+    write_where_from(alloc, out, file, bytes, place, start(bytes))?;
     Ok(())
 }

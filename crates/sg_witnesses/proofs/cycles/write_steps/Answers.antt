@@ -1,4 +1,4 @@
-use Rattle.std.proofs.Common.{◌≡◌, ◌<◌, ◌≤◌, ap, ◌∙◌, sym, get_or, length, arith}
+use Rattle.std.proofs.Common.{◌≡◌, ◌<◌, ◌≤◌, ap, sym, get_or, length, arith}
 use Rattle.sg_reasons.specs.declared.why.Cause.TheVariants.{ByEquation}
 use Rattle.sg_reasons.specs.declared.why.Step.{Step}
 use Rattle.sg_witnesses.proofs.Told.{step_written, steps_written}

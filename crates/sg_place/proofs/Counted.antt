@@ -1,9 +1,11 @@
--- How many bytes stand on the line of a place before it, counted from an earlier place on.
+-- The line of a place, and how many bytes stand on it before the place, counted from an earlier one on.
 use Rattle.std.proofs.Common.{◌≡◌, refl, sym, ap, ◌∙◌, ℕ, suc, ◌+◌, ◌-◌, ◌≤◌, ◌<◌, Bool, true, false, [], ◌∷◌, ◌++◌, length, take, drop, arith}
-use Rattle.std.specs.Prelude.{cond, reverse, not, ◌==◌}
+use Rattle.std.specs.Prelude.{cond, count_by, reverse, not, ◌==◌}
 use Rattle.std.proofs.lemmas.List.{length-drop, length-reverse, length-take, reverse-append, take-append-drop, take-take, take_all}
+use Rattle.std.proofs.lemmas.List.Sums.{sum_by-append}
 use Rattle.sg_kinds.specs.Values.{Bytes}
 use Rattle.sg_text.specs.Bytes.{newline}
+use Rattle.sg_text.specs.Lines.{line_at}
 use Rattle.sg_place.specs.Shown.{left_len, line_len}
 
 -- bytes of a line go on behind others that have no newline, and end at one of them
@@ -32,7 +34,7 @@ module _ (bytes : Bytes) (from at : ℕ) (less : from ≤ at) (within : at ≤ l
   parts : take at bytes ≡ take from bytes ++ drop from (take at bytes)
   parts = sym (take-append-drop from (take at bytes)) ∙ ap (λ l. l ++ drop from (take at bytes)) (take-take from at bytes less)
 
-  long : length (drop from (take at bytes)) ≡ at - from
+  pub long : length (drop from (take at bytes)) ≡ at - from
   long = omega (arith, length-drop from (take at bytes), length-take at bytes)
 
   back : length (reverse (drop from (take at bytes))) ≡ at - from
@@ -55,3 +57,9 @@ module _ (bytes : Bytes) (from at : ℕ) (less : from ≤ at) (within : at ≤ l
   left_ends less =
       let some : line_len (reverse (drop from (take at bytes))) < length (reverse (drop from (take at bytes))) = omega (arith, whole, less, back) in
       joined ∙ ends (reverse (drop from (take at bytes))) (reverse (take from bytes)) some ∙ sym whole
+
+  pub line_goes_on : line_at bytes at ≡ line_at bytes from + count_by (λ b. b == newline) (drop from (take at bytes))
+  line_goes_on =
+      let all : count_by (λ b. b == newline) (take at bytes) ≡ count_by (λ b. b == newline) (take from bytes) + count_by (λ b. b == newline) (drop from (take at bytes)) =
+      ap (count_by (λ b. b == newline)) parts ∙ sum_by-append (λ b. cond (b == newline) 1 0) (take from bytes) (drop from (take at bytes)) in
+      omega (arith, all)
