@@ -1,11 +1,12 @@
 """What ssled_explain tells of a specification: of a fault its place, its line, a sentence and what helps there; else what is of no use."""
 
-from . import lacks, mistyped, reasons, samples
+from . import known, lacks, mistyped, names as naming, reasons, remote, samples
 from .advice import SENTENCES
 from .kinds import MAX_SPEC, SpecFault
 from .load import load
 from .notes import notes
-from .reader import NoReading, Reader, read_one
+from .plan import plan
+from .reader import NoReading, Reader, read, read_one
 from .text import cut, lex, line_of
 
 # the pieces that are tried, each as it is written and as it is told
@@ -121,10 +122,25 @@ def lined(lines):
     return "".join(line + "\n" for line in lines)
 
 
+def named(fault):
+    """The name that the line of a fault ends with."""
+    return fault.detail.split(" ", 2)[2]
+
+
 def helped(data, fault):
     """What helps for a fault besides its sentence."""
+    if fault.code in ("Duplicate", "EntryTwice"):
+        return lined(known.duplicate(data, fault.place, named(fault)))
+    if fault.code == "UnknownName":
+        return lined(known.unknown(data, fault.place, named(fault)))
+    if fault.code in ("Arity", "SchemeKids"):
+        return lined(known.parts(data, named(fault)))
+    if fault.code == "NoEnclosing":
+        return lined(remote.lines_of(naming.resolve(read(cut(lex(data)))), fault.place))
     if fault.code == "Syntax":
         return stopped(data, fault.place)
+    if fault.code == "Twice":
+        return lined(lacks.first_of(data, fault.place))
     if fault.code == "Missing":
         return lined(lacks.lines_of(data))
     if fault.code == "Mismatch":
@@ -152,26 +168,26 @@ def explained(name, data, fault):
     return heading(name, data, fault) + "help: %s\n" % SENTENCES[fault.code] + helped(data, fault)
 
 
-def accepted(name, data, loaded):
-    """What is told of a text without a fault."""
-    return "ok\n" + notes(name, data, loaded.spec)
+def accepted(name, data, loaded, planned):
+    """What is told of a text without a fault: notes, and where it is wanted the plan."""
+    return "ok\n" + notes(name, data, loaded.spec) + (plan(loaded) if planned else "")
 
 
-def told(name, data):
+def told(name, data, planned):
     """The status with which the text of that name ends, and what is told of it."""
     try:
         loaded = load(data)
     except SpecFault as fault:
         return 4, explained(name, data, fault)
-    return 0, accepted(name, data, loaded)
+    return 0, accepted(name, data, loaded, planned)
 
 
 def run(shelf, sink, words):
     """The status."""
-    if len(words) != 1:
-        return 2 if sink.put(b"usage: ssled_explain SPEC\n") else 6
+    if len(words) != 1 and words[1:] != ["plan"]:
+        return 2 if sink.put(b"usage: ssled_explain SPEC [plan]\n") else 6
     data = shelf.fetch(words[0], MAX_SPEC + 1)
     if data is None:
         return 3 if sink.put(b"read fault specification\n") else 6
-    status, text = told(words[0], data)
+    status, text = told(words[0], data, len(words) == 2)
     return status if sink.put(text.encode("latin-1")) else 6

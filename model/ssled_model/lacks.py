@@ -23,6 +23,17 @@ def handed(names, op, key):
                for kind, type_, name in names.attrs.get(op.phylum, []))
 
 
+def first_of(data, place):
+    """What is told of an equation at a place that stands twice: the line of the first one."""
+    names = naming.resolve(read(cut(lex(data))))
+    found = [(op.name, equations.key_of(op, target), target) for op, target, _ in equations.all_equations(names)]
+    for op, key, target in found:
+        if target.place == place:
+            first = next(t for o, k, t in found if (o, k) == (op, key))
+            return ["  the first equation of it, line %d" % first.line]
+    return []
+
+
 def lines_of(data):
     """What is told of them."""
     names = naming.resolve(read(cut(lex(data))))

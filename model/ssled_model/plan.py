@@ -83,5 +83,4 @@ def plan(loaded):
             out += "%s of %s, visit %d:%s\n" % (op.name, op.phylum.name, visit, " " + steps if steps else "")
     for e in spec.entries:
         out += "entry %s: %s\n" % (e.phylum, e.nonterminal)
-    # the first state is there even where there is no entry
-    return out + "%d states\n" % max(1, len(loaded.tables.states))
+    return out + "%d states\n" % len(loaded.tables.states)

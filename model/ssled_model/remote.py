@@ -40,6 +40,38 @@ def bare(names, listed):
     return reached
 
 
+def chain(names, listed, phylum):
+    """A shortest chain of operators from the root phylum, each below the one before and none of a listed phylum, down to
+    an operator that has a phylum among its arguments; none for the root."""
+    root = names.roots[0].value
+    above = {root: None}            # phylum -> the operator above, the first that was met
+    todo = [root]
+    for p in todo:
+        if p in listed:
+            continue
+        for op in names.by_phylum.get(p, []):
+            for arg in op.args:
+                if arg not in above:
+                    above[arg] = op
+                    todo.append(arg)
+    found = []
+    while above[phylum] is not None:
+        found.append(above[phylum])
+        phylum = above[phylum].phylum
+    return found[::-1]
+
+
+def lines_of(names, place):
+    """What is told of the reference to enclosing nodes at a place."""
+    for op, atom in uses(names):
+        if atom.place == place:
+            listed = {n.value for n, _ in atom.pairs}
+            ops = chain(names, listed, op.phylum) + [op]
+            return ["such as, each below the one before:"] + [
+                "  %s : %s, line %d" % (o.phylum, o.name, o.alt.name.line) for o in ops]
+    return []
+
+
 def fault_no_enclosing(names):
     faults = Faults("NoEnclosing")
     for op, atom in uses(names):
