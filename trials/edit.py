@@ -166,14 +166,18 @@ def saved_over(at, folder):
 
 
 def fast(at):
-    """2,000 keys at once: each letter arrives."""
+    """2,000 keys at once: each letter arrives, and the end of a text that is wider than the window is seen."""
     at.keys(":")
     at.typed("new fast")
     at.keys("Enter", "Down", "Down", "Down")
     at.keys("Enter")
     at.waits("typing")
-    for _ in range(20):
-        at.typed("abcdefghij" * 10)
+    at.typed("abcdefghij" * 10 + "= 12 the end")
+    at.waits("= 12 the end", "1:112")
+    at.keys("BSpace", "BSpace")
+    at.waits("= 12 the e", "1:110", without=("the en",))
+    for _ in range(21):
+        at.typed("abcdefghi" * 10)
     at.waits("1:2000", "typing")
     at.keys("Escape")
     at.waits("<NAME>", without=("typing",))
