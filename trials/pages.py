@@ -4,8 +4,8 @@
 PROGRAM takes the command line of ssled. In a page these blocks between fences are looked at, by the word behind the
 first fence:
 
-  sh       commands, in the folder of the repository: `ssled ..`, and `mkdir` and `cd` of one name; `ssled_live .. < FILE`,
-           where PROGRAM has a file of this name beside it
+  sh       commands, in the folder of the repository: `ssled ..`, and `mkdir` and `cd` of one name; `ssled_live .. < FILE`
+           and `ssled_explain ..`, where PROGRAM has a file of this name beside it
   screen   behind a block `ssl` all that `show` prints of its text; else blocks of what the last command printed, in
            their order, each whole; a last line `..` of a block stands for lines that are left out
   verdict  all that the last command printed; behind a block `ssl` all that `check` prints of its text
@@ -93,6 +93,8 @@ def command(program, text, folder):
             done = answer(program, words[1:], here), words[1:]
         elif words[0] == "ssled_live" and words[-2] == "<" and (live := Path(program).with_name(words[0])).exists():
             done = answer(str(live), words[1:-2], here, (here / words[-1]).read_bytes()), words[1:-2]
+        elif words[0] == "ssled_explain" and (explain := Path(program).with_name(words[0])).exists():
+            done = answer(str(explain), words[1:], here), words[1:]
         else:
             return None
     return done

@@ -10,7 +10,8 @@ from frame import SUMS, SUMS_TERMS, Pieces, text
 ABOUT = """
 Explanations of specifications that are refused: of declarations without a reading where reading stops, each change of one token that
 mends it, and how a line is shown; the smallest text of each fault; all mismatches, all that operators lack, cycles with their reasons,
-samples of conflicts, nonterminals without a sentence. Made by `trials/tables/make.py PROGRAM explained`, where PROGRAM was
+samples of conflicts, nonterminals without a sentence; what unknown and second names are, the first of two equations and entries,
+signatures, chains without an enclosing node. Made by `trials/tables/make.py PROGRAM explained`, where PROGRAM was
 model/ssled_explain.
 """
 
@@ -138,6 +139,140 @@ r ~ E.t;
 )
 
 
+NAMES = (
+    ("Unknown names. One that is declared as something else, and one near it.", """INT f(INT n, x abc) { with (abd) ( X() : 1, W(m) : m + n, default : 0 ) };
+"""),
+    ("An attribute that is a function and an attribute of another phylum.", """INT tree(x a) { 1 };
+x { synthesized INT tree; synthesized INT tre; };
+y { synthesized INT tee; synthesized INT teer; };
+r { synthesized INT t; };
+r : R { $$.t = y.tree; };
+"""),
+    ("A type, an operator of another phylum, an operator in a pattern, a function.", "xx f(INT n) { X() };\n"),
+    ("", "y : X { };\n"),
+    ("", "INT f(x a) { with (a) ( Y(s) : 1, VV(b, c) : 2, default : 3 ) };\n"),
+    ("", "INT ab(INT n) { n };\nINT f(INT n) { ba(n) };\n"),
+    ("A byte more, less and another, two neighbours turned; two edits; capitals are other bytes.", """INT abcd(INT n) { n };
+INT f(INT n) { abxcd(n) };
+"""),
+    ("", "INT abcd(INT n) { n };\nINT f(INT n) { abd(n) };\n"),
+    ("", "INT abcd(INT n) { n };\nINT f(INT n) { bbcd(n) };\n"),
+    ("", "INT abcd(INT n) { n };\nINT f(INT n) { abdc(n) };\n"),
+    ("", "INT abcd(INT n) { n };\nINT f(INT n) { ab(n) };\n"),
+    ("", "INT abcd(INT n) { n };\nINT f(INT n) { adcb(n) };\n"),
+    ("", "INT abcd(INT n) { n };\nINT f(INT n) { ABcd(n) };\n"),
+    ("", "INT abcd(INT n) { n };\nINT f(INT n) { abcD(n) };\n"),
+    ("Names of one byte; a name of 64 bytes and one of 63.", "INT f(INT n) { m };\n"),
+    ("", "INT " + "a" * 64 + "(INT n) { n };\nINT f(INT n) { " + "a" * 63 + "(n) };\n"),
+    ("Several near names, of which some are no function; more than eight, of which the first are tried.", """INT ab(INT n) { n };
+INT ac(INT n) { n };
+INT f(INT ad) { ae(ad) };
+INT af(INT n) { n };
+"""),
+    ("", "".join("INT a%s(INT n) { n };\n" % c for c in "bcdefghijk") + "INT f(INT n) { aa(n) };\n"),
+    ("", "INT f(" + ", ".join("INT a" + c for c in "bcdefghij") + ") { 1 };\nINT ak(INT n) { n };\nINT g(INT n) { aa(n) };\n"),
+    ("An unknown name behind the one that is told: the mend need not know it.", """INT abc(INT n) { n };
+INT f(INT n) { abd(n) + g(n) + abd(n) };
+"""),
+    ("A keyword, a name in a comment and one in a string are no names.", """/* abc */ INT g() { with ("abc") ( "adc" : 1, default : 2 ) };
+INT f(INT n) { abd(n) };
+"""),
+    ("", "INT f(INT n) { lis };\n"),
+    ("", "INT f(INT STRlon) { STRlen(\"\") + STRlan(\"\") };\n"),
+    ("What is declared under the name: more than eight things.", "".join("INT g%d(INT v) { v };\n" % k for k in range(9)) + "INT f() { v };\n"),
+    ("A lexeme, a nonterminal, a local; an entry of none.", """N : < "n" >;
+x { synthesized INT v; };
+x : X { local INT k; k = 1; $$.v = 1; };
+E { synthesized x t; };
+E ::= (N) { X() };
+k ~ E.t;
+"""),
+    ("", """N : < "n" >;
+E { synthesized x t; };
+E ::= (N) { X() };
+x : V { x$2.E = N; };
+"""),
+    ("", """E { synthesized x t; };
+E ::= ('e') { X() };
+N f(INT n) { E(n) };
+"""),
+    ("An occurrence of a number that is not there.", "x { synthesized INT v; };\nr : R { x$3.v = 1; };\n"),
+    ("A phylum of an enclosing node, and its attribute.", "x { synthesized INT v; };\nx : X { $$.v = {rr.v}; };\n"),
+    ("", "x { synthesized INT v; };\nr { synthesized INT vv; };\nx : X { $$.v = {r.v}; };\n"),
+    ("Second definitions. Of a phylum by a lexeme and by a nonterminal, of an operator by a function.", 'x : < "n" >;\n'),
+    ("", "x ::= ('x') { X() };\n"),
+    ("", 'N : < "n" >;\nN : < "m" >;\n'),
+    ("", "E ::= ('x') { X() };\nE ::= ('y') { X() };\nE : F();\n"),
+    ("", "INT W(INT n) { n };\n"),
+    ("", "y : Z() | W(INT);\nx : Y();\n"),
+    ("", "INT f() { 1 };\nSTR f() { \"\" };\n"),
+    ("What is there before each text.", "STR : S();\n"),
+    ("", "STR ::= ('s') { X() };\n"),
+    ("", 'INT : < "n" >;\n'),
+    ("", "x : STRlen(INT);\n"),
+    ("", "INT INTtoSTR(INT n) { n };\n"),
+    ("Attributes and locals of one owner; the same names of another are no second ones.", """y { synthesized INT v; };
+x { synthesized INT w; synthesized INT v; };
+x { inherited STR v; };
+"""),
+    ("", "x : X { local INT k; local INT k; };\n"),
+    ("", "x : X { local INT k; };\nx : W { local INT k; };\nx : V { local INT j; };\nx : X { local INT k; };\n"),
+    ("A list twice, schemes twice, in a view too, literals twice, a phylum of one reference twice.", "optional l;\n"),
+    ("", "x : X [ @ : ];\ny : Y [ @ : ^ ];\nx : X [ @ : \"a\" ];\n"),
+    ("", "x : X [ @ : ];\nx : X in v [ @ : ];\nx : X in w [ @ : ];\nx : X in v [ @ : ];\n"),
+    ("", "left '+' '-';\nleft '*';\nright '-';\n"),
+    ("", "x { synthesized INT v; };\nx : X { $$.v = {r.v, l.v, r.v}; };\n"),
+    ("Signatures. Of an operator in an expression and in a pattern, of one without arguments.", "x f() { V(X()) };\n"),
+    ("", "INT f(x a) { with (a) ( V(b) : 1, default : 2 ) };\n"),
+    ("", "x f() { X(1) };\n"),
+    ("Of functions and builtins.", "INT f(INT n, x a, STR s) { f(n) };\n"),
+    ("", "INT f() { f(1) };\n"),
+    ("", 'INT f() { STRtoINT("1", "2") };\n'),
+    ("", "STR f() { INTtoSTR() };\n"),
+    ("", 'INT f() { STRlen("", "") };\n'),
+    ("Of an operator whose scheme does not fit it.", "r : R [ @ : @ @ ];\nx : X [ @ : ]; x : W [ @ : ^ ]; x : V [ @ : @ @ ];\n"
+     "y : Y [ @ : ^ ]; l : Nil [ @ : ]; l : Pair [ @ : @ @ ];\n"),
+)
+
+TWICE = (
+    ("A second equation of the left side, of an argument, which is named in two ways, of a local; in another declaration.",
+     "x : X { $$.v = 1;\n  $$.v = 2; };\nx : W { $$.v = 1; };\nx : V { $$.v = 1; };\n"),
+    ("", "x : X { $$.v = 1; }; x : W { $$.v = 1; };\nx : V { x$1.v = 1; };\nx : V { $$.v = 2; };\n"),
+    ("", "x : X { local INT k; k = 1;\n$$.v = 1;\nk = 2; };\nx : W { $$.v = 1; }; x : V { $$.v = 1; };\n"),
+    ("", "x : X { $$.v = 1; };\nx : W { $$.v = 1; };\nx : X { $$.v = 2; };\nx : W { $$.v = 3; };\nx : V { $$.v = 1; };\n"),
+    ("", "x : X { $$.v = 1; }; x : W { $$.v = 1; }; x : V { $$.v = 1; };\ny { inherited INT i; };\n"
+     "r : R { y.i = 1;\ny$1.i = 2; };\n"),
+    ("A third one.", "x : X { $$.v = 1;\n$$.v = 2;\n$$.v = 3; };\nx : W { $$.v = 1; }; x : V { $$.v = 1; };\n"),
+)
+
+ENTRIES = (
+    ("A second entry.", "X { synthesized x t; };\nX ::= ('x') { X() };\nx ~ X.t;\nY { synthesized x t; };\nY ::= ('y') { X() };\nx ~ Y.t;\nx ~ X.t;\n"),
+)
+
+BARE = (
+    ("Enclosing nodes. A chain past the one that is named.", """root r; r : R(x); x : X(y) | Z(z); y : Y(); z : Q(y);
+z { synthesized INT n; }; y { synthesized INT m; };
+z : Q { $$.n = 1; }; y : Y { $$.m = {z.n}; };
+"""),
+    ("At the root itself.", "root r; r : S() | R(r);\nr { synthesized INT n; };\nr : R { $$.n = 1; }; r : S { $$.n = {r.n}; };\n"),
+    ("The shortest of several chains, the first of two that are as short; a phylum that is below itself.", """root r; r : R(a b) | R2(c);
+a : A2() | A(a d); b : B(d) | B2(e); c : C(d); d : D(e); e : E();
+c { synthesized INT n; }; e { synthesized INT m; };
+c : C { $$.n = 1; }; e : E { $$.m = {c.n}; };
+"""),
+    ("", """root r; r : R(a b);
+a : A(d); b : B(d); d : D(c e) | D2(); c : C(e); e : E();
+c { synthesized INT n; }; e { synthesized INT m; };
+c : C { $$.n = 1; }; e : E { $$.m = {c.n}; };
+"""),
+    ("The second reference is the first without; two phyla are named.", """root r; r : R(a b); a : A(e) | A2(); b : B(e) | B2(f); e : E(); f : F(e);
+a { synthesized INT n; }; b { synthesized INT n; }; e { synthesized INT m; synthesized INT k; };
+a : A { $$.n = 1; }; a : A2 { $$.n = 1; }; b : B { $$.n = 1; }; b : B2 { $$.n = 2; };
+e : E { $$.m = {a.n, b.n}; $$.k = 1 + {a.n}; };
+"""),
+)
+
+
 def smallest():
     """The smallest text of each fault that a text of the language's description has."""
     said = SPECIFICATIONS.read_text(encoding="utf-8")
@@ -150,30 +285,30 @@ def smallest():
 SIGNS = b";)}({"
 
 
-def explained(program, data):
+def explained(program, data, *words):
     with tempfile.TemporaryDirectory() as folder:
         (Path(folder) / "s").write_bytes(data)
-        done = subprocess.run([program, "s"], cwd=folder, stdout=subprocess.PIPE, check=True and False)
+        done = subprocess.run([program, "s", *words], cwd=folder, stdout=subprocess.PIPE, check=True and False)
     return done.returncode, done.stdout
 
 
 def add(table):
-    def told(note, data, broken=None):
+    def told(note, data, *words, broken=None):
         """Adds the case of this text; with a broken put the bytes that it writes before it fails."""
         data = data.encode() if isinstance(data, str) else data
-        status, said = explained(table.program, data)
+        status, said = explained(table.program, data, *words)
         assert status == 4, (status, data)
         if broken is not None:
             status, said = 6, said[:broken]
         case = [f"// {it}\n" for it in note.strip().split("\n")] + ["\n"] if note else []
-        case.append(f"explain s\nfile s\n{table.content(data)}")
+        case.append(f"explain {' '.join(['s', *words])}\nfile s\n{table.content(data)}")
         case += [f"put 1 {broken}\n"] if broken is not None else []
         case.append(f"gives {status} 1 0\n{text(said)}")
         table.blocks.append("".join(case))
         table.cases += 1
 
     def other(words, status, said, call=""):
-        table.blocks.append(f"explain{''.join(' ' + word for word in words)}\n{call}gives {status} {int(len(words) == 1)} 0\n{text(said)}")
+        table.blocks.append(f"explain{''.join(' ' + word for word in words)}\n{call}gives {status} {int(status == 3)} 0\n{text(said)}")
         table.cases += 1
 
     told("A `;` is left out: what follows belongs to the declaration.", 'r : R [ @ : "a" ]\nINT f(INT n) { n };\n')
@@ -206,9 +341,12 @@ def add(table):
     told("", Pieces((b"root r", 1), (b" ", long + 2), (b"r;", 1)))
     told("A put that fails.", "root r r;", broken=0)
     told("", "root r r;", broken=20)
-    other([], 2, b"usage: ssled_explain SPEC\n")
-    other(["a", "b"], 2, b"usage: ssled_explain SPEC\n")
-    other(["none"], 3, b"read fault specification\n")
+    told("One that is refused has no plan.", "root r r;", "plan")
+    told("", "root r; r : R(); r : R [ @ : s ];\n", "plan")
+    for words in ([], ["a", "b"], ["a", "Plan"], ["a", "plans"], ["plan", "a"], ["a", "plan", "plan"]):
+        other(words, 2, b"usage: ssled_explain SPEC [plan]\n")
+    for words in (["none"], ["none", "plan"], ["plan"]):
+        other(words, 3, b"read fault specification\n")
     seen = set()
     rng = random.Random(1)
     data = SUMS.strip().encode() + b"\n"
@@ -231,3 +369,11 @@ def add(table):
         told("Cycles. " + note, whole)
     for note, whole in GRAMMARS:
         told("Grammars. " + note, whole)
+    for note, rest in NAMES:
+        told("Names. " + note if note else "", ROOTED + rest)
+    for note, whole in BARE:
+        told(note, whole)
+    for note, rest in TWICE:
+        told("Equations of the same. " + note if note else "", ROOTED + "x { synthesized INT v; };\n" + rest)
+    for note, rest in ENTRIES:
+        told(note, ROOTED + rest)

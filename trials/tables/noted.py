@@ -1,4 +1,4 @@
-"""Notes on accepted specifications."""
+"""Notes on accepted specifications, and their plans."""
 import subprocess
 import tempfile
 from pathlib import Path
@@ -6,8 +6,8 @@ from pathlib import Path
 from frame import SUMS, SUMS_TERMS, text
 
 ABOUT = """
-What is told of accepted specifications: a note for each part that nothing uses and for each entry that is missed. Made by
-`trials/tables/make.py PROGRAM noted`, where PROGRAM was model/ssled_explain.
+What is told of accepted specifications: a note for each part that nothing uses and for each entry that is missed, and the plan by which
+they are evaluated and parsed. Made by `trials/tables/make.py PROGRAM noted`, where PROGRAM was model/ssled_explain.
 """
 
 EXAMPLES = Path(__file__).resolve().parents[2] / "examples"
@@ -117,8 +117,18 @@ def add(table):
          .replace("exp ~ E.t;", "L { synthesized exps t; };\nL ::= () { None() } | (E ';' L) { More(E.t, L$2.t) };\nexps ~ L.t;"))
     told("The root rests wherever its schemes begin, and may be typed in.", PLAIN.replace('r : R [ @ :', 'r : R [ ^ ::='))
     told("A place behind a tab, on the text's last line.", PLAIN + "\tINT f() { 1 };")
+    lines = PLAIN.replace("left '+';", "left '-' '+';").replace("e : N {", "e : N { local INT a; local INT b; a = 1; b = a; ")
+    told("Places on one line and on two, some of them before the last one.", lines.replace("\n", " ") + "INT f() { 1 };")
+    told("", lines.replace(";\n", "; ").replace("left", "\nleft") + "INT f() { 1 }; u : U();\nINT g() { 1 };w : W();")
     told("Several kinds, told in the order of kinds.", PLAIN.replace("left '+';", "left '-';").replace("(E '+' E)", "('+' E E)").replace("e ~ E.t;", "") +
          "INT f() { 1 };\nINT g() { 2 };\nu : U();\nw : W();\nw { synthesized INT a; };\nw : W { $$.a = 0; };\n")
     for path in sorted(EXAMPLES.glob("*.ssl")):
         told(f"The language {path.name} of examples/.", path.read_bytes())
+    told("Plans: of sums, without and with a form to be typed in.", SUMS_TERMS, "plan")
+    told("", SUMS, "plan")
+    told("Of the calculator.", (EXAMPLES / "calculator.ssl").read_bytes(), "plan")
+    told("Of a phylum that is visited twice.", TWICE, "plan")
+    told("Of an attribute that is handed down, a list, and operators without equations.", HANDED, "plan")
+    told("Notes stand before the plan.", PLAIN + "INT f() { 1 };\n", "plan")
     told("A put that fails.", PLAIN + "INT f() { 1 };\n", broken=0)
+    told("", PLAIN + "INT f() { 1 };\n", "plan", broken=70)
