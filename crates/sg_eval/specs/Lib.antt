@@ -1,3 +1,4 @@
+pub mod Answers
 pub mod Applied
 pub mod Journal
 pub mod Lives

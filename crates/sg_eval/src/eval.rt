@@ -6,9 +6,11 @@ ghost use Rattle.sg_kinds.specs.PatternView.{literal_of};
 ghost use Rattle.sg_kinds.specs.ExprView.{expr_of, exprs_of, cases_of};
 ghost use Rattle.sg_kinds.specs.Expressions.{Single, Binary, Logical, Cons, Choice, Apply, Call, Let, With};
 ghost use Rattle.sg_kinds.specs.Evaluation.{Gives, untyped, value_within, step as step_of, limited, made_value, row_reached, first_case};
+ghost use Rattle.sg_eval.specs.Answers.{given};
 ghost use Rattle.sg_eval.specs.Lives.{value_in, IsKnown, AreKnown, bindings, bound_in, IsReached, AreReached, IsHalted, needs_second as needs_second_of};
 ghost use Rattle.sg_eval.specs.MadeTerms.{AreMade};
 
+use crate::answer::Answer;
 use crate::live::{Live, Stop};
 use crate::made::MadeTerms;
 use crate::operators::{applied, combined};
@@ -33,6 +35,7 @@ pub struct Scope<'a> {
 
 /// The value of an expression, where `room` nodes more may be entered and not left.
 #[cycle(eval)]
+#[inline(always)]
 pub fn enter(
     scope: &Scope,
     e: &ExprTree,
@@ -51,14 +54,65 @@ pub fn enter(
     ensures grown { IsGrown pool.old pool.new }
     ensures made { AreMade scope.now.spec.now made.new pool.new }
 {
+    reach(scope, e, env, room, fuel, pool, made).given()
+}
+
+// as `enter`, with the answer in two registers; a binding is read at once
+#[cycle(eval)]
+#[inline(never)]
+fn reach(
+    scope: &Scope,
+    e: &ExprTree,
+    env: &mut Vec<Live>,
+    room: u32,
+    fuel: &mut u32,
+    pool: &mut Pool,
+    made: &mut MadeTerms,
+) -> Answer
+    requires known { AreKnown (length pool.old) (bindings scope.now.args.now env.old.items) }
+    requires made { AreMade scope.now.spec.now made.old pool.old }
+    ensures value { (last : List Value) → IsGrown pool.new last →
+        IsReached last (given result) fuel.new (value_within scope.now.spec.now room (expr_of e.now)
+        (bound_in last scope.now.args.now env.old.items) fuel.old) }
+    ensures env { OnOk (given result) (env.new.items ≡ env.old.items) }
+    ensures grown { IsGrown pool.old pool.new }
+    ensures made { AreMade scope.now.spec.now made.new pool.new }
+{
     if *fuel == 0 {
-        return Err(Stop::Fault(FaultKind::Fuel));
+        return Answer::Fuel;
     }
     if room == 0 {
-        return Err(Stop::Fault(FaultKind::Depth));
+        return Answer::Depth;
     }
     *fuel -= 1;
-    step(scope, e, env, room - 1, fuel, pool, made)
+    match e {
+        ExprTree::Named(k) => Answer::of(named(scope, env, *k, pool)),
+        _ => descend(scope, e, env, room - 1, fuel, pool, made),
+    }
+}
+
+// as `step`
+#[cycle(eval)]
+#[inline(never)]
+fn descend(
+    scope: &Scope,
+    e: &ExprTree,
+    env: &mut Vec<Live>,
+    room: u32,
+    fuel: &mut u32,
+    pool: &mut Pool,
+    made: &mut MadeTerms,
+) -> Answer
+    requires known { AreKnown (length pool.old) (bindings scope.now.args.now env.old.items) }
+    requires made { AreMade scope.now.spec.now made.old pool.old }
+    ensures value { (last : List Value) → IsGrown pool.new last →
+        IsReached last (given result) fuel.new (limited (step_of scope.now.spec.now
+        (value_within scope.now.spec.now room) (expr_of e.now) (bound_in last scope.now.args.now env.old.items) fuel.old)) }
+    ensures env { OnOk (given result) (env.new.items ≡ env.old.items) }
+    ensures grown { IsGrown pool.old pool.new }
+    ensures made { AreMade scope.now.spec.now made.new pool.new }
+{
+    Answer::of(step(scope, e, env, room, fuel, pool, made))
 }
 
 // the value of a node, after its own unit of fuel

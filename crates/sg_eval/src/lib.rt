@@ -1,6 +1,7 @@
 //! Evaluation of equations and other expressions of a specification, with fuel, and the journal of what was evaluated.
 #![tactic(auto)]
 
+mod answer;
 mod eval;
 mod evaluator;
 mod journal;

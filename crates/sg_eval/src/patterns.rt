@@ -65,6 +65,7 @@ struct Given<'a> {
 
 // whether a value matches a pattern. A made term that has no number yet is named in `wanted`
 #[cycle(fitting)]
+#[inline(always)]
 fn fits(
     given: &Given,
     pattern: &PatternTree,
@@ -123,6 +124,7 @@ fn all_fit(
 }
 
 // whether a value is that of `[p]` or `<p>`
+#[inline(never)]
 fn is_made(
     given: &Given,
     kind: Made,

@@ -7,6 +7,7 @@ use Rattle.sg_kinds.specs.PatternView.{pattern_of}
 use Rattle.sg_kinds.specs.ExprView.{expr_of, exprs_of, cases_of}
 use Rattle.sg_kinds.specs.Evaluation.{Gives, limited, value_within, row_reached, first_case, bound_by}
 use Rattle.sg_pool.proofs.Grown.{grown_itself, grown_twice}
+use Rattle.sg_eval.specs.Answers.{given}
 use Rattle.sg_eval.specs.Lives.{value_in, IsReached, bound_in, AreUsable, IsMatched}
 use Rattle.sg_eval.specs.declared.live.Live.TheVariants as live
 use Rattle.sg_eval.specs.declared.live.Stop.TheVariants as stop
@@ -15,11 +16,16 @@ use Rattle.sg_eval.proofs.Bindings.{known_on, known_with, bound_more, all_usable
 use Rattle.sg_eval.proofs.MadeLater.{made_later}
 use Rattle.sg_eval.proofs.eval.+eval.Goals as goal
 
-pub enter-returns-clause-value : goal.enter-returns-clause-value
-enter-returns-clause-value t c = λ last g.
-    subst (IsReached last c.step.result c.step.new.fuel)
-    (entered c.args.scope.now.spec.now c.args.room (expr_of c.args.e.now) (bound_in last c.args.scope.now.args.now c.args.env.now.items) c.args.fuel.now (omega arith) (omega arith))
-    (c.step.ensures.value last g)
+pub reach-returns-in_default : goal.reach-returns-in_default
+reach-returns-in_default t c = record {
+  value = λ last g.
+      subst (IsReached last (given c.descend.result) c.descend.new.fuel)
+      (entered c.args.scope.now.spec.now c.args.room (expr_of c.args.e.now) (bound_in last c.args.scope.now.args.now c.args.env.now.items) c.args.fuel.now (omega arith) (omega arith))
+      (c.descend.ensures.value last g);
+  env = c.descend.ensures.env;
+  grown = c.descend.ensures.grown;
+  made = c.descend.ensures.made;
+}
 
 pub single-applied-requires : goal.single-applied-requires
 single-applied-requires t c = (c.in_ok-x.ensures.value c.enter.new.pool (grown_itself c.enter.new.pool)).1

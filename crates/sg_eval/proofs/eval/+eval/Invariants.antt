@@ -8,43 +8,49 @@ use Rattle.sg_eval.specs.MadeTerms.{AreMade}
 use Rattle.sg_eval.proofs.eval.+eval.Given as goal
 
 abbrev pub decreases-enter : goal.decreases-enter
-decreases-enter l = 4 * l.room
+decreases-enter l = 7 * l.room + 1
+
+abbrev pub decreases-reach : goal.decreases-reach
+decreases-reach l = 7 * l.room
+
+abbrev pub decreases-descend : goal.decreases-descend
+decreases-descend l = 7 * l.room + 6
 
 abbrev pub decreases-step : goal.decreases-step
-decreases-step l = 4 * l.room + 3
+decreases-step l = 7 * l.room + 5
 
 abbrev pub decreases-single : goal.decreases-single
-decreases-single l = 4 * l.room + 1
+decreases-single l = 7 * l.room + 3
 
 abbrev pub decreases-binary : goal.decreases-binary
-decreases-binary l = 4 * l.room + 1
+decreases-binary l = 7 * l.room + 3
 
 abbrev pub decreases-logical : goal.decreases-logical
-decreases-logical l = 4 * l.room + 1
+decreases-logical l = 7 * l.room + 3
 
 abbrev pub decreases-cons : goal.decreases-cons
-decreases-cons l = 4 * l.room + 1
+decreases-cons l = 7 * l.room + 3
 
 abbrev pub decreases-choice : goal.decreases-choice
-decreases-choice l = 4 * l.room + 1
+decreases-choice l = 7 * l.room + 3
 
 abbrev pub decreases-apply : goal.decreases-apply
-decreases-apply l = 4 * l.room + 2
+decreases-apply l = 7 * l.room + 4
 
 abbrev pub decreases-call : goal.decreases-call
-decreases-call l = 4 * l.room + 2
+decreases-call l = 7 * l.room + 4
 
 abbrev pub decreases-bind : goal.decreases-bind
-decreases-bind l = 4 * l.room + 1
+decreases-bind l = 7 * l.room + 3
 
 abbrev pub decreases-with : goal.decreases-with
-decreases-with l = 4 * l.room + 2
+decreases-with l = 7 * l.room + 4
 
 abbrev pub decreases-first_match : goal.decreases-first_match
-decreases-first_match l = 4 * l.room + 1
+decreases-first_match l = 7 * l.room + 3
 
 abbrev pub decreases-row : goal.decreases-row
-decreases-row l = 4 * l.room + 1
+decreases-row l = 7 * l.room + 3
 
 -- the values so far, and what is left of the row
 abbrev pub invariant-row-loop-rest : goal.invariant-row-loop-rest
