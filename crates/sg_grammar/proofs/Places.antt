@@ -1,5 +1,5 @@
 -- Places of texts among the keys of a set.
-use Rattle.std.proofs.Common.{◌≡◌, ℕ, ◌+◌, ◌≤◌, ◌||◌, Bool, true, false, not, cond, List, [], ◌∷◌, ◌++◌, length, map, refl, sym, ap, ◌∙◌, arith, ltb, Some, None}
+use Rattle.std.proofs.Common.{◌≡◌, ℕ, ◌+◌, ◌≤◌, ◌||◌, Bool, true, false, not, cond, List, [], ◌∷◌, ◌++◌, length, map, refl, sym, ap, ◌∙◌, arith, Some, None}
 use Rattle.std.specs.Prelude.{bytes_eq, nat_lt, position}
 use Rattle.std.specs.List.{position_or_len, list_any}
 use Rattle.std.proofs.lemmas.Bool.{ltb-false}
@@ -38,6 +38,7 @@ map-push : {X : Type 0} (f : X → List ℕ) (xs : List X) (x : X) → map f (xs
 map-push f [] x = refl
 map-push f (y ∷ xs) x = ap (λ l. f y ∷ l) (map-push f xs x)
 
+-- a text that is not yet there
 pub map-with_text : {X : Type 0} (f : X → List ℕ) (keys : List X) (x : X) → map f (cond (list_any (λ y. bytes_eq (f x) (f y)) keys) keys (keys ++ x ∷ [])) ≡ with_text (map f keys) (f x)
 map-with_text f keys x =
     by (list_any (λ y. bytes_eq (f x) (f y)) keys) ∙ ap (λ b. cond b (map f keys) (map f keys ++ f x ∷ [])) (sym (any-map f (bytes_eq (f x)) keys))
@@ -45,3 +46,7 @@ map-with_text f keys x =
     by : (b : Bool) → map f (cond b keys (keys ++ x ∷ [])) ≡ cond b (map f keys) (map f keys ++ f x ∷ [])
     by true = refl
     by false = map-push f keys x
+
+-- one that is there
+pub with_text-there : {X : Type 0} (f : X → List ℕ) (keys : List X) (s : List ℕ) (b : Bool) → b ≡ list_any (λ x. bytes_eq s (f x)) keys → b ≡ true → map f keys ≡ with_text (map f keys) s
+with_text-there f keys s b is there = sym (ap (λ c. cond c (map f keys) (map f keys ++ s ∷ [])) (any-map f (bytes_eq s) keys ∙ sym is ∙ there))

@@ -1,12 +1,13 @@
 //! The grammar of a specification.
-ghost use Rattle.std.specs.Prelude.{◌≡◌, suc, ◌+◌, ◌≤◌, ◌<◌, ◌^◌, map, length, bytes_eq, IfOk, OnOk};
+ghost use Rattle.std.specs.Prelude.{◌≡◌, ℕ, suc, ◌+◌, ◌≤◌, ◌<◌, ◌^◌, map, length, bytes_eq, IfOk, OnOk};
 ghost use Rattle.std.specs.List.{position_or_len};
 ghost use Rattle.sg_patterns.specs.Lexemes.{with_text, literals_in, literals_of};
 ghost use Rattle.sg_kinds.specs.Instances.{below};
 ghost use Rattle.sg_kinds.specs.declared.spec.Symbol.TheVariants as written;
 ghost use Rattle.sg_prec.specs.Levels.{levels_before};
-ghost use Rattle.sg_prec.specs.Spread.{spread_of};
-ghost use Rattle.sg_grammar.specs.Numbered.{first_literal, first_lexeme, first_nonterminal, nonterminal_count, level_number, symbol_count, lexeme_number, symbol_number, spread_number, made_by, rule_of, starts_of, grammar_of, start_of};
+ghost use Rattle.sg_prec.specs.Spread.{lowered, spread_of};
+ghost use Rattle.sg_prec.specs.Sources.{at_levels, leveled, step_from, spread_from};
+ghost use Rattle.sg_grammar.specs.Numbered.{first_literal, first_lexeme, first_nonterminal, nonterminal_count, level_number, symbol_count, lexeme_number, symbol_number, spread_number, rule_of, starts_of, grammar_of, start_of};
 
 use crate::grammar::{Grammar, MOST, Made, Production};
 use crate::named::named_by;
@@ -17,7 +18,7 @@ use sg_kinds::memory::NoMemory;
 use sg_kinds::row::Row;
 use sg_kinds::spec::{Entry, Phylum, Production as Written, Spec, Symbol};
 use sg_prec::named::named_over;
-use sg_prec::{From, LevelSymbol, Levels, Spread, spread};
+use sg_prec::{Levels, RuleLevels, Source, spread};
 use std::alloc::Global;
 
 /// The literals of a specification, by first occurrence; how many levels stand before those of each nonterminal, and
@@ -46,11 +47,13 @@ fn number(n: usize) -> Result<u32, NoMemory>
 }
 
 /// Puts a text behind the others, unless it is among them.
-fn add(literals: &mut IndexSet<Vec<u8>>, text: Vec<u8>) -> Result<(), NoMemory>
+fn add(alloc: Global, literals: &mut IndexSet<Vec<u8>>, text: &[u8]) -> Result<(), NoMemory>
     ensures { OnOk result (map (λ v. v.items) literals.new.keys
-        ≡ with_text (map (λ v. v.items) literals.old.keys) text.items) }
+        ≡ with_text (map (λ v. v.items) literals.old.keys) text.now) }
 {
-    literals.insert(text)?;
+    if !literals.contains(text) {
+        literals.insert(Vec::from_slice(alloc, text)?)?;
+    }
     Ok(())
 }
 
@@ -76,7 +79,7 @@ fn add_all(
 {
     for symbol in symbols {
         if let Symbol::Quoted(text) = symbol {
-            add(literals, Vec::from_slice(alloc, text.as_slice())?)?;
+            add(alloc, literals, text.as_slice())?;
         }
     }
     Ok(())
@@ -115,16 +118,6 @@ fn levels_before(alloc: Global, spec: &Spec) -> Result<Vec<u32>, NoMemory>
     }
     before.push(total)?;
     Ok(before)
-}
-
-/// What the result of a production of the spread grammar is.
-fn made_by(from: From) -> Made
-    ensures { result ≡ made_by from }
-{
-    match from {
-        From::Written(expr) => Made::Outcome(expr),
-        From::Chain(_) => Made::Same,
-    }
 }
 
 impl<'a> Numbering<'a> {
@@ -214,30 +207,77 @@ impl<'a> Numbering<'a> {
         }
     }
 
-    /// The number of a symbol.
-    fn symbol(&self, symbol: &LevelSymbol) -> Result<u32, NoMemory>
-        ensures { IfOk result (λ n. n ≡ spread_number self.now.spec.now symbol.now) }
+    /// The number of a symbol, a nonterminal at this level.
+    fn symbol(&self, level: u32, symbol: &Symbol) -> Result<u32, NoMemory>
+        ensures { IfOk result (λ n. n ≡ spread_number self.now.spec.now (lowered level symbol.now)) }
     {
         match symbol {
-            LevelSymbol::Quoted(text) => self.literal(text.as_slice()),
-            LevelSymbol::Lexical(p) => self.lexical(*p),
-            LevelSymbol::Level(n, i) => self.level(*n, *i),
+            Symbol::Quoted(text) => self.literal(text.as_slice()),
+            Symbol::Lexical(p) => self.lexical(*p),
+            Symbol::Nonterminal(n) => self.level(*n, level),
         }
     }
 
-    fn rule(&self, alloc: Global, production: &Spread) -> Result<Production, NoMemory>
-        ensures { IfOk result (λ r. r ≡ rule_of self.now.spec.now production.now) }
+    /// The numbers of symbols, of which the first is at one level and the others at another.
+    fn right(
+        &self,
+        alloc: Global,
+        first: u32,
+        rest: u32,
+        symbols: &[Symbol],
+    ) -> Result<Vec<u32>, NoMemory>
+        ensures { IfOk result (λ v. v.items
+            ≡ map (spread_number self.now.spec.now) (at_levels first rest symbols.now)) }
     {
-        let mut right = Vec::with_capacity(alloc, production.right.len())?;
-        for symbol in production.right.as_slice() {
-            right.push(self.symbol(symbol)?)?;
+        let mut right = Vec::with_capacity(alloc, symbols.len())?;
+        let mut level = first;
+        for symbol in symbols {
+            right.push(self.symbol(level, symbol)?)?;
+            level = rest;
         }
-        let left = self.level(production.left, production.level)?;
+        Ok(right)
+    }
+
+    /// A written production at these levels.
+    fn written(
+        &self,
+        alloc: Global,
+        production: &Written,
+        levels: RuleLevels,
+    ) -> Result<Production, NoMemory>
+        ensures { IfOk result (λ r. r ≡ rule_of self.now.spec.now (leveled production.now levels)) }
+    {
+        let symbols = production.right.as_slice();
+        let right = self.right(alloc, levels.first, levels.rest, symbols)?;
+        let left = self.level(production.left, levels.level)?;
         Ok(Production {
             left,
             right: Row::new(right),
-            made: made_by(production.from),
+            made: Made::Outcome(production.expr),
         })
+    }
+
+    /// The step of a nonterminal from a level to the next.
+    fn step(&self, alloc: Global, n: u32, level: u32) -> Result<Production, NoMemory>
+        ensures { (line : ℕ) → IfOk result (λ r. r ≡ rule_of self.now.spec.now (step_from n level line)) }
+    {
+        let left = self.level(n, level)?;
+        let mut right = Vec::with_capacity(alloc, 1)?;
+        right.push(number(left as usize + 1)?)?;
+        Ok(Production {
+            left,
+            right: Row::new(right),
+            made: Made::Same,
+        })
+    }
+
+    fn rule(&self, alloc: Global, source: Source<'_>) -> Result<Production, NoMemory>
+        ensures { IfOk result (λ r. r ≡ rule_of self.now.spec.now (spread_from source.entry)) }
+    {
+        match source {
+            Source::Rule(production, levels) => self.written(alloc, production, levels),
+            Source::Step(n, level, _) => self.step(alloc, n, level),
+        }
     }
 
     fn start(&self, alloc: Global, place: usize, entry: &Entry) -> Result<Production, NoMemory>
@@ -264,8 +304,8 @@ impl<'a> Numbering<'a> {
             self.spec.levels.as_slice(),
         )?;
         let mut rules = Vec::with_capacity(alloc, found.len())?;
-        for production in &found {
-            rules.push(self.rule(alloc, production)?)?;
+        for source in &found {
+            rules.push(self.rule(alloc, *source)?)?;
         }
         Ok(rules)
     }

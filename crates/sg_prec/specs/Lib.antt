@@ -3,4 +3,5 @@ pub mod WellGrouped
 pub mod Levels
 pub mod LineTable
 pub mod Spread
+pub mod Sources
 pub mod LevelDerives

@@ -9,5 +9,5 @@ mod productions;
 mod spreading;
 
 pub use levels::Levels;
-pub use productions::{From, LevelSymbol, Spread};
+pub use productions::{From, LevelSymbol, RuleLevels, Source, Spread};
 pub use spreading::spread;

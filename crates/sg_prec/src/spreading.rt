@@ -3,15 +3,15 @@ ghost use Rattle.std.specs.Prelude.{◌≡◌, ◌++◌, ◌<◌, ◌^◌, map, 
 ghost use Rattle.sg_kinds.specs.Instances.{below};
 ghost use Rattle.sg_prec.specs.Levels.{height, level_by, levels_of, rank};
 ghost use Rattle.sg_prec.specs.Precedence.{is_before_itself};
-ghost use Rattle.sg_prec.specs.Spread.{chain, lowered, operands, spread_of, spread_right, spread_rule};
+ghost use Rattle.sg_prec.specs.Sources.{operand_levels, spread_from};
+ghost use Rattle.sg_prec.specs.Spread.{chain, spread_of, spread_rule};
 
 use crate::levels::Levels;
 use crate::lines::{Lines, is_before_itself};
 use crate::named::named_over;
-use crate::productions::{From, LevelSymbol, Spread};
+use crate::productions::{RuleLevels, Source};
 use sg_kinds::memory::NoMemory;
-use sg_kinds::row::Row;
-use sg_kinds::spec::{LevelLine, Production, Symbol};
+use sg_kinds::spec::{LevelLine, Production};
 use std::alloc::Global;
 
 /// What the spread grammar is made of.
@@ -31,49 +31,6 @@ fn number(n: usize) -> Result<u32, NoMemory>
         Ok(n as u32)
     } else {
         Err(NoMemory)
-    }
-}
-
-/// A symbol, a nonterminal at this level.
-fn lowered(alloc: Global, level: u32, symbol: &Symbol) -> Result<LevelSymbol, NoMemory>
-    ensures { IfOk result (λ x. x ≡ lowered level symbol.now) }
-{
-    match symbol {
-        Symbol::Quoted(text) => Ok(LevelSymbol::Quoted(text.copy(alloc)?)),
-        Symbol::Lexical(p) => Ok(LevelSymbol::Lexical(*p)),
-        Symbol::Nonterminal(n) => Ok(LevelSymbol::Level(*n, level)),
-    }
-}
-
-/// Symbols, all nonterminals at one level.
-fn lowered_all(alloc: Global, level: u32, symbols: &[Symbol]) -> Result<Row<LevelSymbol>, NoMemory>
-    ensures { IfOk result (λ right. right ≡ map (lowered level) symbols.now) }
-{
-    let mut right = Vec::with_capacity(alloc, symbols.len())?;
-    for symbol in symbols {
-        right.push(lowered(alloc, level, symbol)?)?;
-    }
-    Ok(Row::new(right))
-}
-
-/// The right side of an infix production, its operands at these levels.
-fn operands(
-    alloc: Global,
-    first: u32,
-    last: u32,
-    symbols: &[Symbol],
-) -> Result<Row<LevelSymbol>, NoMemory>
-    ensures { IfOk result (λ right. right ≡ operands first last symbols.now) }
-{
-    match symbols {
-        [a, o, b] => {
-            let mut right = Vec::with_capacity(alloc, 3)?;
-            right.push(lowered(alloc, first, a)?)?;
-            right.push(lowered(alloc, 0, o)?)?;
-            right.push(lowered(alloc, last, b)?)?;
-            Ok(Row::new(right))
-        }
-        _ => lowered_all(alloc, 0, symbols),
     }
 }
 
@@ -121,17 +78,12 @@ impl<'a> Spreading<'a> {
         }
     }
 
-    /// The right side of an infix production of a line.
-    fn infix_right(
-        &self,
-        alloc: Global,
-        line: u32,
-        production: &Production,
-    ) -> Result<Row<LevelSymbol>, NoMemory>
-        ensures { IfOk result (λ right. right ≡ spread_right self.now.lines.lines.now self.now.written.now
-            production.now.left (Some line) false production.now.right) }
+    /// The levels of the operands of an infix production of a line.
+    fn infix_operands(&self, n: u32, line: u32) -> Result<(u32, u32), NoMemory>
+        ensures { IfOk result (λ o. o
+            ≡ operand_levels self.now.lines.lines.now self.now.written.now n (Some line) false) }
     {
-        let rank = self.rank(production.left, line);
+        let rank = self.rank(n, line);
         let first = if self.lines.groups_left(line) {
             rank
         } else {
@@ -142,109 +94,84 @@ impl<'a> Spreading<'a> {
         } else {
             rank + 1
         };
-        operands(
-            alloc,
-            number(first)?,
-            number(last)?,
-            production.right.as_slice(),
-        )
+        Ok((number(first)?, number(last)?))
     }
 
-    /// The right side of a production that is no infix one.
-    fn plain_right(
-        &self,
-        alloc: Global,
-        production: &Production,
-    ) -> Result<Row<LevelSymbol>, NoMemory>
-        ensures { IfOk result (λ right. right ≡ spread_right self.now.lines.lines.now self.now.written.now
-            production.now.left None (is_before_itself production.now.left production.now.right) production.now.right) }
+    /// The level of the nonterminals on the right side of a production that is no infix one.
+    fn plain_operand(&self, production: &Production) -> Result<u32, NoMemory>
+        ensures { IfOk result (λ i. (i, i) ≡ operand_levels self.now.lines.lines.now self.now.written.now
+            production.now.left None (is_before_itself production.now.left production.now.right)) }
     {
-        let symbols = production.right.as_slice();
-        if is_before_itself(production.left, symbols) {
-            lowered_all(alloc, number(self.height(production.left))?, symbols)
+        if is_before_itself(production.left, production.right.as_slice()) {
+            number(self.height(production.left))
         } else {
-            lowered_all(alloc, 0, symbols)
+            Ok(0)
         }
     }
 
-    /// The right side of a production.
-    fn right(
-        &self,
-        alloc: Global,
-        line: Option<u32>,
-        production: &Production,
-    ) -> Result<Row<LevelSymbol>, NoMemory>
-        ensures { IfOk result (λ right. right ≡ spread_right self.now.lines.lines.now self.now.written.now
-            production.now.left line (is_before_itself production.now.left production.now.right) production.now.right) }
+    /// The levels of the nonterminals on the right side of a production of this line: where the first symbol is one,
+    /// and where another is.
+    fn operands(&self, line: Option<u32>, production: &Production) -> Result<(u32, u32), NoMemory>
+        ensures { IfOk result (λ o. o ≡ operand_levels self.now.lines.lines.now self.now.written.now
+            production.now.left line (is_before_itself production.now.left production.now.right)) }
     {
         match line {
-            Some(line) => self.infix_right(alloc, line, production),
-            None => self.plain_right(alloc, production),
+            Some(line) => self.infix_operands(production.left, line),
+            None => {
+                let level = self.plain_operand(production)?;
+                Ok((level, level))
+            }
         }
     }
 
     /// A written production at its level.
-    fn rule(&self, alloc: Global, production: &Production) -> Result<Spread, NoMemory>
-        ensures { IfOk result (λ x. x
+    fn rule<'b>(&self, production: &'b Production) -> Result<Source<'b>, NoMemory>
+        ensures { IfOk result (λ x. spread_from x
             ≡ spread_rule self.now.lines.lines.now self.now.written.now production.now) }
     {
         let line = self.lines.infix_line(production);
-        let right = self.right(alloc, line, production)?;
+        let (first, rest) = self.operands(line, production)?;
         let level = number(self.level(production.left, line))?;
-        Ok(Spread {
-            left: production.left,
-            level,
-            right,
-            from: From::Written(production.expr),
-        })
+        Ok(Source::Rule(production, RuleLevels { level, first, rest }))
     }
 
     /// The step from a level to the next.
-    fn chain(&self, alloc: Global, n: u32, level: usize) -> Result<Spread, NoMemory>
-        requires { level < 2 ^ 63 }
-        ensures { IfOk result (λ x. x ≡ chain self.now.lines.lines.now self.now.written.now n level) }
+    fn step(&self, n: u32, level: usize) -> Result<Source<'a>, NoMemory>
+        ensures { IfOk result (λ x. spread_from x ≡ chain self.now.lines.lines.now self.now.written.now n level) }
     {
-        let next = number(level + 1)?;
-        let mut right = Vec::with_capacity(alloc, 1)?;
-        right.push(LevelSymbol::Level(n, next))?;
-        Ok(Spread {
-            left: n,
-            level: number(level)?,
-            right: Row::new(right),
-            from: From::Chain(self.levels.line(n, level)),
-        })
+        Ok(Source::Step(n, number(level)?, self.levels.line(n, level)))
     }
 
     /// Puts the steps of a nonterminal behind the others.
-    fn add_chains(&self, alloc: Global, n: u32, all: &mut Vec<Spread>) -> Result<(), NoMemory>
-        ensures { OnOk result (all.new.items ≡ all.old.items
+    fn add_steps(&self, n: u32, all: &mut Vec<Source<'a>>) -> Result<(), NoMemory>
+        ensures { OnOk result (map spread_from all.new.items ≡ map spread_from all.old.items
             ++ map (chain self.now.lines.lines.now self.now.written.now n)
             (below (height self.now.lines.lines.now self.now.written.now n))) }
     {
         let height = self.height(n);
         for level in 0..height {
-            all.push(self.chain(alloc, n, level)?)?;
+            all.push(self.step(n, level)?)?;
         }
         Ok(())
     }
 }
 
-/// The productions of the spread grammar of written productions and precedence lines: the written ones, each in its
-/// place, and then the steps of each nonterminal. Past 4,294,967,295 lines there is no memory.
-pub fn spread(
+/// The productions of the spread grammar of written productions and precedence lines, by what they come from: the
+/// written ones, each in its place, and then the steps of each nonterminal. Past 4,294,967,295 lines there is no memory.
+pub fn spread<'a>(
     alloc: Global,
-    written: &[Production],
-    lines: &[LevelLine],
-) -> Result<Vec<Spread>, NoMemory>
-    ensures { IfOk result (λ all. all.items ≡ spread_of lines.now written.now) }
+    written: &'a [Production],
+    lines: &'a [LevelLine],
+) -> Result<Vec<Source<'a>>, NoMemory>
+    ensures { IfOk result (λ all. map spread_from all.items ≡ spread_of lines.now written.now) }
 {
     let spreading = Spreading::new(alloc, written, lines)?;
-    let mut all = Vec::new(alloc);
+    let mut all = Vec::with_capacity(alloc, written.len())?;
     for production in written {
-        all.push(spreading.rule(alloc, production)?)?;
+        all.push(spreading.rule(production)?)?;
     }
     for n in 0..named_over(written) {
-        spreading.add_chains(alloc, n as u32, &mut all)?;
+        spreading.add_steps(n as u32, &mut all)?;
     }
     Ok(all)
 }
