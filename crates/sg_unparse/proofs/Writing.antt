@@ -95,6 +95,9 @@ module _ (at : Place → NodeId) where
   pub newline_written : (old mid new : Writer) (u : Place) → Wrote at old mid (as_they_are u (10 ∷ [])) → Wrote at mid new (blanks_of u) → Wrote at old new (newline u)
   newline_written old mid new u v w = wrote_as old new (in_turn (as_they_are u (10 ∷ [])) (blanks_of u)) (newline u) (λ m. refl) (wrote_turn old mid new (as_they_are u (10 ∷ [])) (blanks_of u) v w)
 
+  pub newline_flat : (old mid : Writer) (u : Place) → mid.margin ≡ 0 → Wrote at old mid (as_they_are u (10 ∷ [])) → Wrote at old mid (newline u)
+  newline_flat old mid u none v = newline_written old mid mid u v (blanks_written mid mid u 0 (omega (arith, none)) (wrote_as mid mid nothing (as_they_are u (replicate 0 32)) (λ m. refl) (wrote_nothing mid)))
+
   -- a text
   pub plain_newline : (old new : Writer) (u : Place) (b : ℕ) → b ≡ 10 → Wrote at old new (newline u) → Wrote at old new (plain u (b ∷ []))
   plain_newline old new u b e w = wrote_as old new (newline u) (plain u (b ∷ [])) (λ m. ap (λ xs. (xs, m)) (sym (append-nil (newline u m).0)) ∙ ap (λ (t : Bool). in_turn (if t then newline u else as_they_are u (b ∷ [])) nothing m) (sym (eq-eqb b 10 e))) w

@@ -1,5 +1,6 @@
 // The page of the term that a node holds.
-ghost use Rattle.std.specs.Prelude.{◌≡◌, ◌<◌, ℕ, [], ◌∷◌, Bool, List, drop, length, map, ◌++◌, Some, None, option_map, unwrap_or, slice_get, IsSome, All, OnOk, IfOk, MatchBool};
+ghost use Rattle.std.specs.Prelude.{◌≡◌, ◌<◌, ℕ, [], ◌∷◌, Bool, List, drop, length, map, ◌++◌, Some, None, option_map, unwrap_or, slice_get, IsSome, All, OnOk, IfOk, MatchBool, if◌then◌else◌, codes};
+ghost use Rattle.std.specs.Fmt.{signed_decimal};
 ghost use Rattle.sg_kinds.specs.Places.{Place};
 ghost use Rattle.sg_kinds.specs.Sound.{IsItem};
 ghost use Rattle.sg_kinds.specs.Specification.{args_of, attrs_of};
@@ -16,18 +17,20 @@ ghost use Rattle.sg_terms.specs.Found.{op_at};
 ghost use Rattle.sg_terms.specs.Occurrences.{node_there};
 ghost use Rattle.sg_unparse.specs.Along.{IsAlong, is_captured, node_along, stored, typed_in, content_in, items_in, kids_in, own_in, shows_in, unparsed_in};
 ghost use Rattle.sg_unparse.specs.Cells.{goes_on as does_go_on, marks_of, plain as plain_text};
-ghost use Rattle.sg_unparse.specs.Printing.{value_text};
+ghost use Rattle.sg_unparse.specs.Printing.{text_shown, value_text};
 ghost use Rattle.sg_unparse.specs.Written.{Wrote, sheet_of};
 ghost use Rattle.sg_unparse.specs.declared.writer.Writer.{Writer as AWriter};
 
 use crate::page::Page;
-use crate::shown::{scheme_of, write_value};
+use crate::shown::{fault_text, scheme_of, write_text};
 use crate::writer::Writer;
+use itoa::Buffer;
 use sg_forest::NodeId;
 use sg_kinds::ids::{OpId, PhylumId, ValueId};
 use sg_kinds::marks::ChildPlace;
 use sg_kinds::memory::NoMemory;
 use sg_kinds::spec::{Attr, Item, Occurrence, Operator, Spec};
+use sg_pool::entry::PoolEntry;
 use sg_terms::Terms;
 use std::alloc::Global;
 
@@ -121,11 +124,12 @@ pub struct Shown<'a> {
     pub text: &'a [u8],
 }
 
-/// A node whose scheme is written, and its operator.
+/// A node whose scheme is written, its operator, and how many arguments that has.
 #[derive(Clone, Copy)]
 pub struct Site {
     pub node: NodeId,
     pub op: OpId,
+    pub count: usize,
 }
 
 // whether a text is typed in the place of a node
@@ -136,6 +140,65 @@ fn is_typed(captured: Option<NodeId>, n: NodeId) -> bool
         Some(m) => n.key == m.key,
         None => false,
     }
+}
+
+// writes a truth value
+#[inline(never)]
+fn truth(w: &mut Writer, owner: NodeId, b: bool) -> Result<(), NoMemory>
+    ensures { OnOk result ((at : Place → Id) (u : Place) → at u ≡ owner →
+        Wrote at w.old w.new (plain_text u (if b then codes "true" else codes "false"))) }
+{
+    if b {
+        w.plain(owner, b"true")
+    } else {
+        w.plain(owner, b"false")
+    }
+}
+
+// writes a number
+#[inline(never)]
+fn number(w: &mut Writer, owner: NodeId, n: &i64) -> Result<(), NoMemory>
+    ensures { OnOk result ((at : Place → Id) (u : Place) → at u ≡ owner →
+        Wrote at w.old w.new (plain_text u (signed_decimal n.now))) }
+{
+    let mut digits = Buffer::new();
+    w.plain(owner, digits.format(*n).as_bytes())
+}
+
+// writes the empty text of a phylum
+#[inline(never)]
+fn empty_text(
+    spec: &Spec,
+    w: &mut Writer,
+    room: &mut Vec<u8>,
+    owner: NodeId,
+    p: PhylumId,
+) -> Result<(), NoMemory>
+    ensures { OnOk result ((at : Place → Id) (u : Place) → at u ≡ owner →
+        Wrote at w.old w.new (plain_text u (text_shown spec.now p []))) }
+{
+    room.clear();
+    write_text(room, spec, p, b"")?;
+    w.plain(owner, room.as_slice())
+}
+
+// writes a text of a phylum
+#[inline(always)]
+fn chars(
+    spec: &Spec,
+    w: &mut Writer,
+    room: &mut Vec<u8>,
+    owner: NodeId,
+    p: PhylumId,
+    text: &[u8],
+) -> Result<(), NoMemory>
+    ensures { OnOk result ((at : Place → Id) (u : Place) → at u ≡ owner →
+        Wrote at w.old w.new (plain_text u (text_shown spec.now p text.now))) }
+{
+    if text.is_empty() {
+        return empty_text(spec, w, room, owner, p);
+    }
+    w.plain(owner, text)
 }
 
 // writes a value of a node, as its phylum's values are shown
@@ -152,10 +215,13 @@ fn value(
         Wrote at w.old w.new
         (plain_text u (value_text shown.now.terms.now.spec p (value_at shown.now.terms.now.pool id)))) }
 {
-    room.clear();
-    write_value(room, shown.terms.spec(), p, shown.terms.pool(), id)?;
-    w.plain(owner, room.as_slice())?;
-    Ok(())
+    match shown.terms.pool().entry(id) {
+        PoolEntry::Bool(b) => truth(w, owner, *b),
+        PoolEntry::Int(n) => number(w, owner, n),
+        PoolEntry::Text(text) => chars(shown.terms.spec(), w, room, owner, p, text.as_slice()),
+        PoolEntry::Tree(_, _) => Ok(()),
+        PoolEntry::Fault(kind) => w.plain(owner, fault_text(*kind)),
+    }
 }
 
 // writes a leaf
@@ -229,6 +295,7 @@ fn write_child(
 ) -> Result<(), NoMemory>
     requires live { IsLive (nodes shown.now.terms.now) site.now.node }
     requires op { op_at shown.now.terms.now site.now.node ≡ Some site.now.op }
+    requires count { site.now.count ≡ length (args_of shown.now.terms.now.spec.ops site.now.op) }
     ensures { OnOk result ((root : Id) (u : Place) (k : ℕ) (elided : Bool) (ts : AllTerms) (is : List AnItem)
         (end : AWriter) →
         IsAlong shown.now.terms.now root u site.now.node (Node site.now.op k elided ts) →
@@ -243,8 +310,7 @@ fn write_child(
 {
     shown.terms.facts();
     let k = *next;
-    let count = arity(shown.terms.spec(), site.op);
-    if k >= count {
+    if k >= site.count {
         return Ok(());
     }
     let kid = shown.terms.kid(site.node, k);
@@ -268,6 +334,7 @@ fn write_item(
 ) -> Result<(), NoMemory>
     requires live { IsLive (nodes shown.now.terms.now) site.now.node }
     requires op { op_at shown.now.terms.now site.now.node ≡ Some site.now.op }
+    requires count { site.now.count ≡ length (args_of shown.now.terms.now.spec.ops site.now.op) }
     requires item { IsItem shown.now.terms.now.spec site.now.op item.now }
     ensures { OnOk result ((root : Id) (u : Place) (k : ℕ) (elided : Bool) (ts : AllTerms) (is : List AnItem)
         (end : AWriter) →
@@ -316,6 +383,7 @@ fn write_items(
 ) -> Result<(), NoMemory>
     requires live { IsLive (nodes shown.now.terms.now) site.now.node }
     requires op { op_at shown.now.terms.now site.now.node ≡ Some site.now.op }
+    requires count { site.now.count ≡ length (args_of shown.now.terms.now.spec.ops site.now.op) }
     requires items { All (IsItem shown.now.terms.now.spec site.now.op) items.now }
     ensures { OnOk result ((root : Id) (u : Place) (k : ℕ) (elided : Bool) (ts : AllTerms) →
         IsAlong shown.now.terms.now root u site.now.node (Node site.now.op k elided ts) →
@@ -354,7 +422,8 @@ fn write_scheme(
         shown.terms.scheme(n),
     ) {
         Some(scheme) => {
-            let site = Site { node: n, op };
+            let count = arity(shown.terms.spec(), op);
+            let site = Site { node: n, op, count };
             write_items(shown, &site, w, room, scheme.items.as_slice())?;
             Ok(())
         }

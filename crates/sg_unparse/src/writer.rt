@@ -68,6 +68,7 @@ impl Writer {
     }
 
     /// Writes a byte that a node owns; where the page is full, notes that it is cut.
+    #[inline(always)]
     pub fn put(&mut self, owner: NodeId, b: u8) -> Result<(), NoMemory>
         ensures { OnOk result ((at : Place → Id) (u : Place) → at u ≡ owner →
             Wrote at self.old self.new (as_they_are u (b ∷ []))) }
@@ -83,6 +84,7 @@ impl Writer {
     }
 
     // writes a text that the page has room for
+    #[inline(always)]
     fn fill(&mut self, owner: NodeId, text: &[u8]) -> Result<(), NoMemory>
         requires { length text.now ≤ 1048576 - length self.old.text.items }
         ensures { OnOk result ((at : Place → Id) (u : Place) → at u ≡ owner →
@@ -97,21 +99,31 @@ impl Writer {
         Ok(())
     }
 
-    /// Writes bytes as they are.
-    pub fn bytes(&mut self, owner: NodeId, text: &[u8]) -> Result<(), NoMemory>
+    // writes bytes as they are, as far as the page has room
+    #[inline(never)]
+    fn bytes_cut(&mut self, owner: NodeId, text: &[u8]) -> Result<(), NoMemory>
         ensures { OnOk result ((at : Place → Id) (u : Place) → at u ≡ owner →
             Wrote at self.old self.new (as_they_are u text.now)) }
     {
         if self.more {
             return Ok(());
         }
-        if text.len() <= CELLS.saturating_sub(self.text.len()) {
-            return self.fill(owner, text);
-        }
         for b in text {
             self.put(owner, *b)?;
         }
         Ok(())
+    }
+
+    /// Writes bytes as they are.
+    #[inline(always)]
+    pub fn bytes(&mut self, owner: NodeId, text: &[u8]) -> Result<(), NoMemory>
+        ensures { OnOk result ((at : Place → Id) (u : Place) → at u ≡ owner →
+            Wrote at self.old self.new (as_they_are u text.now)) }
+    {
+        if text.len() <= CELLS.saturating_sub(self.text.len()) {
+            return self.fill(owner, text);
+        }
+        self.bytes_cut(owner, text)
     }
 
     // as many blanks as the margin, or as the page has room for and one more
@@ -123,6 +135,7 @@ impl Writer {
     }
 
     // writes as many blanks as the margin, as far as the page has room for them
+    #[inline(never)]
     fn blanks(&mut self, owner: NodeId) -> Result<(), NoMemory>
         ensures { OnOk result ((at : Place → Id) (u : Place) → at u ≡ owner →
             Wrote at self.old self.new (blanks_of u)) }
@@ -138,11 +151,15 @@ impl Writer {
     }
 
     /// Writes a newline and the margin.
+    #[inline(never)]
     pub fn newline(&mut self, owner: NodeId) -> Result<(), NoMemory>
         ensures { OnOk result ((at : Place → Id) (u : Place) → at u ≡ owner →
             Wrote at self.old self.new (a_newline u)) }
     {
         self.put(owner, b'\n')?;
+        if self.margin == 0 {
+            return Ok(());
+        }
         self.blanks(owner)?;
         Ok(())
     }
@@ -160,21 +177,31 @@ impl Writer {
         Ok(())
     }
 
-    /// Writes a text, in which a byte 10 acts as a newline with its margin.
-    pub fn plain(&mut self, owner: NodeId, text: &[u8]) -> Result<(), NoMemory>
+    // writes a text byte by byte
+    #[inline(never)]
+    fn plain_bytes(&mut self, owner: NodeId, text: &[u8]) -> Result<(), NoMemory>
         ensures { OnOk result ((at : Place → Id) (u : Place) → at u ≡ owner →
             Wrote at self.old self.new (plain_text u text.now)) }
     {
         if self.more {
             return Ok(());
         }
-        if !text.contains(&b'\n') {
-            return self.bytes(owner, text);
-        }
         for b in text {
             self.plain_byte(owner, *b)?;
         }
         Ok(())
+    }
+
+    /// Writes a text, in which a byte 10 acts as a newline with its margin.
+    #[inline(never)]
+    pub fn plain(&mut self, owner: NodeId, text: &[u8]) -> Result<(), NoMemory>
+        ensures { OnOk result ((at : Place → Id) (u : Place) → at u ≡ owner →
+            Wrote at self.old self.new (plain_text u text.now)) }
+    {
+        if !text.contains(&b'\n') {
+            return self.bytes(owner, text);
+        }
+        self.plain_bytes(owner, text)
     }
 
     // takes 2 off the margin so many times, not below 0, and then adds 2 so many times
@@ -193,6 +220,7 @@ impl Writer {
     }
 
     // writes a piece of a string
+    #[inline(always)]
     fn piece(&mut self, owner: NodeId, piece: &Piece) -> Result<(), NoMemory>
         ensures { OnOk result ((at : Place → Id) (u : Place) → at u ≡ owner →
             Wrote at self.old self.new (a_piece u piece.now)) }
@@ -205,6 +233,7 @@ impl Writer {
     }
 
     /// Writes the pieces of a string.
+    #[inline(always)]
     pub fn pieces(&mut self, owner: NodeId, pieces: &[Piece]) -> Result<(), NoMemory>
         ensures { OnOk result ((at : Place → Id) (u : Place) → at u ≡ owner →
             Wrote at self.old self.new (all_pieces u pieces.now)) }

@@ -26,15 +26,15 @@ pub write_child-kid-kid-requires-clause-place : goal.write_child-kid-kid-require
 write_child-kid-kid-requires-clause-place t c = λ x found.
     let g = c.args.shown.now.terms.now in
     let arity = arity_is g c.facts.ensures c.args.site.now.node c.args.site.now.op c.requires.op x found in
-    let count = c.arity-count.ensures ∙ ap (λ (s : Spec). length (args_of s.ops c.args.site.now.op)) c.spec.ensures in
-    omega (arith, arity, count, c.if-k-count.false)
+    let count = c.requires.count in
+    omega (arith, arity, count, c.if-k-site.false)
 
-pub write_child-returns-then-k-count : goal.write_child-returns-then-k-count
-write_child-returns-then-k-count t c = λ root u k elided ts is end a w.
+pub write_child-returns-then-k-site : goal.write_child-returns-then-k-site
+write_child-returns-then-k-site t c = λ root u k elided ts is end a w.
     let g = c.args.shown.now.terms.now in
     let kids = kids_counted g c.facts.ensures c.args.site.now.node c.requires.live c.args.site.now.op k elided ts a.holds in
-    let count = c.arity-count.ensures ∙ ap (λ (s : Spec). length (args_of s.ops c.args.site.now.op)) c.spec.ensures in
-    child_past g root c.args.shown.now.captured c.args.shown.now.text.now u c.args.site.now.op (goes_on ts) is ts c.args.next.now c.args.w.now end c.args.place (omega (arith, kids, count, c.if-k-count.true)) w
+    let count = c.requires.count in
+    child_past g root c.args.shown.now.captured c.args.shown.now.text.now u c.args.site.now.op (goes_on ts) is ts c.args.next.now c.args.w.now end c.args.place (omega (arith, kids, count, c.if-k-site.true)) w
 
 pub write_child-returns-then-is_hidden : goal.write_child-returns-then-is_hidden
 write_child-returns-then-is_hidden t c = λ root u k elided ts is end a w.
@@ -42,8 +42,8 @@ write_child-returns-then-is_hidden t c = λ root u k elided ts is end a w.
     let captured = c.args.shown.now.captured in
     let text = c.args.shown.now.text.now in
     let kids = kids_counted g c.facts.ensures c.args.site.now.node c.requires.live c.args.site.now.op k elided ts a.holds in
-    let count = c.arity-count.ensures ∙ ap (λ (s : Spec). length (args_of s.ops c.args.site.now.op)) c.spec.ensures in
-    let s = slice_get-there (terms_of ts) c.args.next.now (omega (arith, kids, count, c.if-k-count.false)) in
+    let count = c.requires.count in
+    let s = slice_get-there (terms_of ts) c.args.next.now (omega (arith, kids, count, c.if-k-site.false)) in
     let hidden = MatchBool-at_true _ _ c.if-is_hidden.true c.is_hidden.ensures in
     subst (λ (p : ChildPlace). Wrote (node_along g root) c.args.w.now end (items_in g root captured text u c.args.site.now.op (goes_on ts) (Child p ∷ is) (drop c.args.next.now (kids_in g root captured text u ts)))) (sym hidden)
     (child_hidden g root captured text u c.args.site.now.op (goes_on ts) is ts c.args.next.now c.args.w.now end s.0 s.1 w)
@@ -52,8 +52,8 @@ pub write_child-returns : goal.write_child-returns
 write_child-returns t c = λ root u k elided ts is end a w.
     let g = c.args.shown.now.terms.now in
     let kids = kids_counted g c.facts.ensures c.args.site.now.node c.requires.live c.args.site.now.op k elided ts a.holds in
-    let count = c.arity-count.ensures ∙ ap (λ (s : Spec). length (args_of s.ops c.args.site.now.op)) c.spec.ensures in
-    let s = slice_get-there (terms_of ts) c.args.next.now (omega (arith, kids, count, c.if-k-count.false)) in
+    let count = c.requires.count in
+    let s = slice_get-there (terms_of ts) c.args.next.now (omega (arith, kids, count, c.if-k-site.false)) in
     child_shown g root c.args.shown.now.captured c.args.shown.now.text.now u c.args.site.now.op (goes_on ts) is ts c.args.next.now c.args.w.now end c.node.new.w c.args.place s.0
     (MatchBool-at_false _ _ c.if-is_hidden.false c.is_hidden.ensures) s.1
     (c.in_ok-node.ensures root (c.args.next.now ∷ u) s.0 (record {
@@ -129,7 +129,8 @@ write_scheme-write_items-requires t c =
     let g = c.args.shown.now.terms.now in
     let found = ap (λ s. scheme_of s c.args.op c.scheme.result) (sym (as_shown g c.spec.result.now c.view.result c.spec.ensures c.view.ensures)) ∙ c.in-Some.ensures in
     let sound = items_sound g c.facts.ensures c.args.op c.scheme.result c.in-Some.scheme.now found in
-    (omega arith, (c.requires.live, (c.requires.op, subst (All (IsItem g.spec c.args.op)) (sym c.as_slice.ensures) sound)))
+    let count = c.arity-count.ensures ∙ ap (λ (s : Spec). length (args_of s.ops c.args.op)) c.spec-in-Some.ensures in
+    (omega arith, (c.requires.live, (c.requires.op, (count, subst (All (IsItem g.spec c.args.op)) (sym c.as_slice.ensures) sound))))
 
 pub write_scheme-returns-in_ok-write_items-in-Some : goal.write_scheme-returns-in_ok-write_items-in-Some
 write_scheme-returns-in_ok-write_items-in-Some t c = λ root u s a.
