@@ -1,4 +1,5 @@
 //! The search for a chain. What it finds is tested by its caller, so nothing is claimed of it here.
+use crate::unenclosed::is_listed;
 use sg_kinds::ids::{OpId, PhylumId};
 use sg_kinds::memory::NoMemory;
 use sg_kinds::spec::{Far, Operator};
@@ -16,10 +17,6 @@ pub struct Step {
 struct Above {
     op: OpId,
     phylum: PhylumId,
-}
-
-fn is_listed(list: &[Far], phylum: PhylumId) -> bool {
-    list.iter().any(|far| far.phylum == phylum)
 }
 
 // Puts a phylum last that was not met yet.

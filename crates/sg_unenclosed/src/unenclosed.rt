@@ -83,7 +83,7 @@ fn chain_lines(alloc: Global, table: &Table, steps: &[Step], op: OpId) -> Result
     Ok(out)
 }
 
-fn is_listed(list: &[Far], phylum: PhylumId) -> bool
+pub(crate) fn is_listed(list: &[Far], phylum: PhylumId) -> bool
     ensures { result ≡ is_listed_in list.now phylum }
 {
     list.iter().any(|far| far.phylum == phylum)
