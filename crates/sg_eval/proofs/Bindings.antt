@@ -32,7 +32,8 @@ known_at n (l ∷ ls) zero id h e = let same : l ≡ live.Kept id = cc in subst 
 known_at n (l ∷ ls) (suc k) id h e = known_at n ls k id h.1 e
 
 known_more_one : (m n : ℕ) (l : Live) → m ≤ n → IsKnown m l → IsKnown n l
-known_more_one m n (live.Truth b) le h = tt
+known_more_one m n live.False le h = tt
+known_more_one m n live.True le h = tt
 known_more_one m n (live.Number z) le h = tt
 known_more_one m n (live.Kept k) le h = omega (arith, h)
 
@@ -52,7 +53,8 @@ pub stands_later : (us vs : List Value) (k : ℕ) (v : Value) → StandsFor us k
 stands_later us vs k v s g = value_stays us vs k g (slice_get_within us k v s) ∙ stands_at us k v s
 
 pub live_stays : (us vs : List Value) (l : Live) → IsGrown us vs → IsKnown (length us) l → value_in vs l ≡ value_in us l
-live_stays us vs (live.Truth b) g h = refl
+live_stays us vs live.False g h = refl
+live_stays us vs live.True g h = refl
 live_stays us vs (live.Number z) g h = refl
 live_stays us vs (live.Kept k) g h = value_stays us vs k g h
 
@@ -67,12 +69,14 @@ kept_known (v ∷ pool) zero h = omega arith
 kept_known (v ∷ pool) (suc k) h = let r : k < length pool = kept_known pool k h in omega (arith, r)
 
 pub usable_known : (pool : List Value) (l : Live) → IsUsable pool l → IsKnown (length pool) l
-usable_known pool (live.Truth b) h = tt
+usable_known pool live.False h = tt
+usable_known pool live.True h = tt
 usable_known pool (live.Number z) h = tt
 usable_known pool (live.Kept k) h = kept_known pool k h
 
 pub usable_later : (us vs : List Value) (l : Live) → IsGrown us vs → IsUsable us l → IsUsable vs l
-usable_later us vs (live.Truth b) g h = tt
+usable_later us vs live.False g h = tt
+usable_later us vs live.True g h = tt
 usable_later us vs (live.Number z) g h = tt
 usable_later us vs (live.Kept k) g h = subst (λ v. IsTrue (is_settled v)) (sym (value_stays us vs k g (kept_known us k h))) h
 

@@ -23,7 +23,8 @@ negative_settled (Fault kind) h = cc
 
 pub negative_untyped : (pool : List Value) (f : Unary) (l : Live) → f ≡ Negative → IsUsable pool l → ((x : ℤ) → l ≡ live.Number x → ⊥) → applied f (value_in pool l) ≡ untyped
 negative_untyped pool f (live.Number x) e u n = absurd (n x refl)
-negative_untyped pool f (live.Truth x) e u n = ap (λ g. applied g (Truth x)) e
+negative_untyped pool f live.False e u n = ap (λ g. applied g (Truth false)) e
+negative_untyped pool f live.True e u n = ap (λ g. applied g (Truth true)) e
 negative_untyped pool f (live.Kept k) e u n = ap (λ g. applied g (value_at pool k)) e ∙ negative_settled (value_at pool k) u
 
 not_settled : (v : Value) → IsTrue (is_settled v) → applied Not v ≡ untyped
@@ -33,10 +34,11 @@ not_settled (Chars s) h = refl
 not_settled (Tree op vs) h = refl
 not_settled (Fault kind) h = cc
 
-pub not_untyped : (pool : List Value) (f : Unary) (l : Live) → f ≡ Not → IsUsable pool l → ((x : Bool) → l ≡ live.Truth x → ⊥) → applied f (value_in pool l) ≡ untyped
-not_untyped pool f (live.Truth x) e u n = absurd (n x refl)
-not_untyped pool f (live.Number x) e u n = ap (λ g. applied g (Number x)) e
-not_untyped pool f (live.Kept k) e u n = ap (λ g. applied g (value_at pool k)) e ∙ not_settled (value_at pool k) u
+pub not_untyped : (pool : List Value) (f : Unary) (l : Live) → f ≡ Not → IsUsable pool l → (l ≡ live.False → ⊥) → (l ≡ live.True → ⊥) → applied f (value_in pool l) ≡ untyped
+not_untyped pool f live.False e u n m = absurd (n refl)
+not_untyped pool f live.True e u n m = absurd (m refl)
+not_untyped pool f (live.Number x) e u n m = ap (λ g. applied g (Number x)) e
+not_untyped pool f (live.Kept k) e u n m = ap (λ g. applied g (value_at pool k)) e ∙ not_settled (value_at pool k) u
 
 digits_settled : (v : Value) → IsTrue (is_settled v) → applied NumberToText v ≡ untyped
 digits_settled (Truth b) h = cc
@@ -47,7 +49,8 @@ digits_settled (Fault kind) h = cc
 
 pub digits_untyped : (pool : List Value) (f : Unary) (l : Live) → f ≡ NumberToText → IsUsable pool l → ((x : ℤ) → l ≡ live.Number x → ⊥) → applied f (value_in pool l) ≡ untyped
 digits_untyped pool f (live.Number x) e u n = absurd (n x refl)
-digits_untyped pool f (live.Truth x) e u n = ap (λ g. applied g (Truth x)) e
+digits_untyped pool f live.False e u n = ap (λ g. applied g (Truth false)) e
+digits_untyped pool f live.True e u n = ap (λ g. applied g (Truth true)) e
 digits_untyped pool f (live.Kept k) e u n = ap (λ g. applied g (value_at pool k)) e ∙ digits_settled (value_at pool k) u
 
 -- an operator of two numbers, on two values that are not both numbers
@@ -86,7 +89,8 @@ settled_whole (Number z) h = cc
 settled_whole v h = refl
 
 not_whole : (pool : List Value) (l : Live) → IsUsable pool l → ((z : ℤ) → l ≡ live.Number z → ⊥) → is_whole (value_in pool l) ≡ false
-not_whole pool (live.Truth b) u n = refl
+not_whole pool live.False u n = refl
+not_whole pool live.True u n = refl
 not_whole pool (live.Number z) u n = absurd (n z refl)
 not_whole pool (live.Kept k) u n = settled_whole (value_at pool k) u
 

@@ -9,6 +9,7 @@ use Rattle.sg_kinds.specs.declared.marks.FaultKind.TheVariants.{NoMatch}
 use Rattle.sg_kinds.specs.Expressions.{Expr, Exprs, Cases, Pattern, AndExpr, Case}
 use Rattle.sg_pool.specs.Pools.{value_at, IsGrown}
 use Rattle.sg_kinds.specs.Evaluation.{Inside, Reached, Operands, Gives, untyped, then_with, row_with, row_reached, with_row, first_case, if_bound, bound_by, body_of, body_reached, limited, choose, connected, step, value_within}
+use Rattle.sg_eval.specs.Truths.{truth_of}
 use Rattle.sg_eval.specs.Lives.{value_in, is_settled, IsKnown, IsUsable, AreUsable, IsReached, AreReached, IsHalted, IsMatched, bound_in, needs_second}
 use Rattle.sg_eval.proofs.Bindings.{live_stays, lives_stay, bound_more}
 use Rattle.sg_eval.proofs.Kept.{settled_limited}
@@ -47,7 +48,8 @@ goes_settled (Tree op vs) left go h = refl
 goes_settled (Fault kind) left go h = cc
 
 goes_usable : (pool : List Value) (l : Live) (left : ℕ) (go : Value → ℕ → Reached) → IsUsable pool l → then_with (Gives (value_in pool l) left) go ≡ go (value_in pool l) left
-goes_usable pool (live.Truth b) left go h = refl
+goes_usable pool live.False left go h = refl
+goes_usable pool live.True left go h = refl
 goes_usable pool (live.Number z) left go h = refl
 goes_usable pool (live.Kept k) left go h = goes_settled (value_at pool k) left go h
 
@@ -59,7 +61,8 @@ then_reached pool l left r go a after h k = subst (λ x. IsReached pool a after 
 
 -- what was reached is in the limits
 usable_limited : (pool : List Value) (l : Live) (left : ℕ) → IsUsable pool l → limited (Gives (value_in pool l) left) ≡ Gives (value_in pool l) left
-usable_limited pool (live.Truth b) left h = refl
+usable_limited pool live.False left h = refl
+usable_limited pool live.True left h = refl
 usable_limited pool (live.Number z) left h = refl
 usable_limited pool (live.Kept k) left h = settled_limited (value_at pool k) left h
 
@@ -83,12 +86,22 @@ settled_chooses (Chars s) chosen other left h = refl
 settled_chooses (Tree op vs) chosen other left h = refl
 settled_chooses (Fault kind) chosen other left h = refl
 
-pub chooses_nothing : (pool : List Value) (l : Live) (chosen other : ℕ → Reached) (left : ℕ) → IsUsable pool l → ((b : Bool) → l ≡ live.Truth b → ⊥) → choose (value_in pool l) chosen other left ≡ Gives untyped left
-chooses_nothing pool (live.Truth b) chosen other left u n = absurd (n b refl)
+-- what stands for a truth value
+pub truth_value : (pool : List Value) (l : Live) (b : Bool) → Some b ≡ truth_of l → value_in pool l ≡ Truth b
+truth_value pool live.False false e = refl
+truth_value pool live.False true e = cc
+truth_value pool live.True false e = cc
+truth_value pool live.True true e = refl
+truth_value pool (live.Number z) b e = cc
+truth_value pool (live.Kept k) b e = cc
+
+pub chooses_nothing : (pool : List Value) (l : Live) (chosen other : ℕ → Reached) (left : ℕ) → IsUsable pool l → truth_of l ≡ None → choose (value_in pool l) chosen other left ≡ Gives untyped left
+chooses_nothing pool live.False chosen other left u n = cc
+chooses_nothing pool live.True chosen other left u n = cc
 chooses_nothing pool (live.Number z) chosen other left u n = refl
 chooses_nothing pool (live.Kept k) chosen other left u n = settled_chooses (value_at pool k) chosen other left u
 
-pub connects_nothing : (pool : List Value) (how : Connective) (l : Live) (second : ℕ → Reached) (left : ℕ) → IsUsable pool l → ((b : Bool) → l ≡ live.Truth b → ⊥) → connected how (value_in pool l) second left ≡ Gives untyped left
+pub connects_nothing : (pool : List Value) (how : Connective) (l : Live) (second : ℕ → Reached) (left : ℕ) → IsUsable pool l → truth_of l ≡ None → connected how (value_in pool l) second left ≡ Gives untyped left
 connects_nothing pool Both l second left u n = chooses_nothing pool l second (Gives (Truth false)) left u n
 connects_nothing pool Either l second left u n = chooses_nothing pool l (Gives (Truth true)) second left u n
 
@@ -117,7 +130,8 @@ row_settled (Chars s) left go h = refl
 row_settled (Tree op vs) left go h = refl
 
 row_usable : (pool : List Value) (l : Live) (left : ℕ) (go : Value → ℕ → Operands) → IsUsable pool l → row_with (Gives (value_in pool l) left) go ≡ go (value_in pool l) left
-row_usable pool (live.Truth b) left go h = refl
+row_usable pool live.False left go h = refl
+row_usable pool live.True left go h = refl
 row_usable pool (live.Number z) left go h = refl
 row_usable pool (live.Kept k) left go h = row_settled (value_at pool k) left go h
 

@@ -1,5 +1,5 @@
 -- What an evaluation answers, in two registers.
-use Rattle.std.specs.Prelude.{true, false, Result, Ok, Err}
+use Rattle.std.specs.Prelude.{Result, Ok, Err}
 use Rattle.sg_kinds.specs.declared.marks.FaultKind.TheVariants as kind
 use Rattle.sg_eval.specs.declared.answer.Answer.{Answer}
 use Rattle.sg_eval.specs.declared.answer.Answer.TheVariants as answer
@@ -10,8 +10,8 @@ use Rattle.sg_eval.specs.declared.live.Stop.TheVariants as stop
 
 -- what stands for the value, or why there is none
 abbrev pub given : Answer → Result Live Stop
-given answer.False = Ok (live.Truth false)
-given answer.True = Ok (live.Truth true)
+given answer.False = Ok live.False
+given answer.True = Ok live.True
 given (answer.Number z) = Ok (live.Number z)
 given (answer.Kept k) = Ok (live.Kept k)
 given answer.Fuel = Err (stop.Fault kind.Fuel)

@@ -13,7 +13,8 @@ use Rattle.sg_eval.specs.declared.live.Stop.TheVariants as stop
 
 -- the value for which one stands in a pool
 abbrev pub value_in : List Value → Live → Value
-value_in pool (live.Truth b) = Truth b
+value_in pool live.False = Truth false
+value_in pool live.True = Truth true
 value_in pool (live.Number z) = Number z
 value_in pool (live.Kept k) = value_at pool k
 

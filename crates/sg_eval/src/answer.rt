@@ -46,8 +46,8 @@ impl Answer {
         ensures { given result ≡ reached }
     {
         match reached {
-            Ok(Live::Truth(false)) => Answer::False,
-            Ok(Live::Truth(true)) => Answer::True,
+            Ok(Live::False) => Answer::False,
+            Ok(Live::True) => Answer::True,
             Ok(Live::Number(n)) => Answer::Number(n),
             Ok(Live::Kept(number)) => Answer::Kept(number),
             Err(Stop::Fault(kind)) => Answer::fault(kind),
@@ -61,8 +61,8 @@ impl Answer {
         ensures { result ≡ given self }
     {
         match self {
-            Answer::False => Ok(Live::Truth(false)),
-            Answer::True => Ok(Live::Truth(true)),
+            Answer::False => Ok(Live::False),
+            Answer::True => Ok(Live::True),
             Answer::Number(n) => Ok(Live::Number(n)),
             Answer::Kept(number) => Ok(Live::Kept(number)),
             Answer::Fuel => Err(Stop::Fault(FaultKind::Fuel)),

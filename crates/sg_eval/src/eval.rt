@@ -226,7 +226,7 @@ fn logical(
     ensures made { AreMade scope.now.spec.now made.new pool.new }
 {
     let x = enter(scope, a, env, room, fuel, pool, made)?;
-    let Live::Truth(first) = x else {
+    let Some(first) = x.to_truth() else {
         return Err(Stop::Fault(FaultKind::NoMatch));
     };
     if needs_second(how, first) {
@@ -296,7 +296,7 @@ fn choice(
     ensures grown { IsGrown pool.old pool.new }
     ensures made { AreMade scope.now.spec.now made.new pool.new }
 {
-    let Live::Truth(chosen) = enter(scope, c, env, room, fuel, pool, made)? else {
+    let Some(chosen) = enter(scope, c, env, room, fuel, pool, made)?.to_truth() else {
         return Err(Stop::Fault(FaultKind::NoMatch));
     };
     if chosen {
@@ -503,7 +503,7 @@ fn constant(alloc: Global, literal: &Literal, pool: &mut Pool) -> Result<Live, S
     ensures grown { IsGrown pool.old pool.new }
 {
     match literal {
-        Literal::Truth(b) => Ok(Live::Truth(*b)),
+        Literal::Truth(b) => Ok(Live::truth(*b)),
         Literal::Number(n) => Ok(Live::Number(*n)),
         Literal::Text(bytes) => text(Vec::from_slice(alloc, bytes.as_slice())?, pool),
     }
@@ -532,7 +532,8 @@ fn named(scope: &Scope, env: &[Live], k: u32, pool: &Pool) -> Result<Live, Stop>
         (limited (Gives (unwrap_or (slice_get (bound_in last scope.now.args.now env.now) k) untyped) left)) }
 {
     match binding(scope, env, k) {
-        Some(Live::Truth(b)) => Ok(Live::Truth(b)),
+        Some(Live::False) => Ok(Live::False),
+        Some(Live::True) => Ok(Live::True),
         Some(Live::Number(n)) => Ok(Live::Number(n)),
         Some(Live::Kept(number)) => read(ValueId { number }, pool),
         None => Err(Stop::Fault(FaultKind::NoMatch)),

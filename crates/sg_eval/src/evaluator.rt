@@ -161,8 +161,8 @@ fn evaluate(
         Some(expr) => {
             let scope = Scope { alloc, spec, args };
             let mut env = made.take_row(alloc);
-            // 73,717 nodes were measured to take about a millisecond, and a call nested 2,048 times 640 KiB of stack as
-            // LLVM builds it, 1,536 KiB as Rattle's own compiler does
+            // 73,717 nodes were measured to take about a millisecond, and a call nested 2,048 times 750 KiB of stack as
+            // LLVM builds it, 1,300 KiB as Rattle's own compiler does
             let mut fuel = FUEL;
             let reached = enter(&scope, &expr.tree, &mut env, NESTING, &mut fuel, pool, made);
             made.leave_row(env);
@@ -179,7 +179,8 @@ fn settled(reached: Result<Live, Stop>, pool: &mut Pool) -> Result<ValueId, NoMe
     ensures grown { IsGrown pool.old pool.new }
 {
     match reached {
-        Ok(Live::Truth(b)) => pool.put_truth(b),
+        Ok(Live::False) => pool.put_truth(false),
+        Ok(Live::True) => pool.put_truth(true),
         Ok(Live::Number(n)) => pool.put_number(n),
         Ok(Live::Kept(number)) => Ok(ValueId { number }),
         Err(Stop::Fault(kind)) => pool.put_fault(kind),

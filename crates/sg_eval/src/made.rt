@@ -65,6 +65,7 @@ impl MadeTerms {
     }
 
     // an empty row: that of a call that has ended, else a new one
+    #[inline(always)]
     pub(crate) fn take_row(&mut self, alloc: Global) -> Vec<Live>
         ensures empty { result.items ≡ [] }
         ensures same { self.new ≡ self.old }
@@ -77,6 +78,7 @@ impl MadeTerms {
     }
 
     // keeps the row of a call that has ended, where there is memory for it
+    #[inline(always)]
     pub(crate) fn leave_row(&mut self, row: Vec<Live>)
         ensures { self.new ≡ self.old }
     {

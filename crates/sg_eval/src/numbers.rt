@@ -19,10 +19,10 @@ pub fn arithmetic(sign: Sign, x: i64, y: i64) -> Result<Live, Stop>
         Sign::Mul => in_range(x.checked_mul(y)),
         Sign::Div => quotient(x, y),
         Sign::Rem => remainder(x, y),
-        Sign::Below => Ok(Live::Truth(x < y)),
-        Sign::AtMost => Ok(Live::Truth(x <= y)),
-        Sign::Above => Ok(Live::Truth(x > y)),
-        Sign::AtLeast => Ok(Live::Truth(x >= y)),
+        Sign::Below => Ok(Live::truth(x < y)),
+        Sign::AtMost => Ok(Live::truth(x <= y)),
+        Sign::Above => Ok(Live::truth(x > y)),
+        Sign::AtLeast => Ok(Live::truth(x >= y)),
         _ => Err(Stop::Fault(FaultKind::NoMatch)),
     }
 }

@@ -26,7 +26,8 @@ pub fn applied(alloc: Global, f: Unary, x: Live, pool: &mut Pool) -> Result<Live
             _ => Err(Stop::Fault(FaultKind::NoMatch)),
         },
         Unary::Not => match x {
-            Live::Truth(b) => Ok(Live::Truth(!b)),
+            Live::False => Ok(Live::True),
+            Live::True => Ok(Live::False),
             _ => Err(Stop::Fault(FaultKind::NoMatch)),
         },
         Unary::TextToNumber => match x {
@@ -53,8 +54,8 @@ pub fn combined(alloc: Global, sign: Sign, x: Live, y: Live, pool: &mut Pool) ->
     ensures grown { IsGrown pool.old pool.new }
 {
     match sign {
-        Sign::Equal => Ok(Live::Truth(same(x, y, pool))),
-        Sign::Unequal => Ok(Live::Truth(!same(x, y, pool))),
+        Sign::Equal => Ok(Live::truth(same(x, y, pool))),
+        Sign::Unequal => Ok(Live::truth(!same(x, y, pool))),
         Sign::Join => match (x, y) {
             (Live::Kept(x), Live::Kept(y)) => texts::joined(alloc, x, y, pool),
             _ => Err(Stop::Fault(FaultKind::NoMatch)),
@@ -74,7 +75,7 @@ fn same(x: Live, y: Live, pool: &Pool) -> bool
 {
     pool.sound();
     match (x, y) {
-        (Live::Truth(x), Live::Truth(y)) => x == y,
+        (Live::False, Live::False) | (Live::True, Live::True) => true,
         (Live::Number(x), Live::Number(y)) => x == y,
         (Live::Kept(x), Live::Kept(y)) => x == y,
         _ => false,

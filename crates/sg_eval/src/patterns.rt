@@ -175,7 +175,8 @@ fn has_number(id: ValueId, x: Live, pool: &Pool) -> bool
 {
     pool.sound();
     match x {
-        Live::Truth(b) => matches!(pool.entry(id), PoolEntry::Bool(a) if *a == b),
+        Live::False => matches!(pool.entry(id), PoolEntry::Bool(a) if !*a),
+        Live::True => matches!(pool.entry(id), PoolEntry::Bool(a) if *a),
         Live::Number(n) => matches!(pool.entry(id), PoolEntry::Int(a) if *a == n),
         Live::Kept(number) => id.number == number,
     }
@@ -187,7 +188,8 @@ fn is_literal(literal: &Literal, x: Live, pool: &Pool) -> bool
     ensures { result ≡ same_value (literal_of literal.now) (value_in pool.now x) }
 {
     match x {
-        Live::Truth(b) => matches!(literal, Literal::Truth(a) if *a == b),
+        Live::False => matches!(literal, Literal::Truth(a) if !*a),
+        Live::True => matches!(literal, Literal::Truth(a) if *a),
         Live::Number(n) => matches!(literal, Literal::Number(a) if *a == n),
         Live::Kept(number) => is_literal_at(literal, number, pool),
     }
@@ -212,7 +214,8 @@ fn is_value(v: &Value, x: Live, pool: &Pool) -> bool
     ensures { result ≡ same_value v.now (value_in pool.now x) }
 {
     match x {
-        Live::Truth(b) => v.same(&Value::truth(b)),
+        Live::False => v.same(&Value::truth(false)),
+        Live::True => v.same(&Value::truth(true)),
         Live::Number(n) => v.same(&Value::number(n)),
         Live::Kept(number) => is_value_at(v, ValueId { number }, pool),
     }

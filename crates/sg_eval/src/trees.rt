@@ -27,7 +27,8 @@ pub fn interned(l: Live, pool: &mut Pool) -> Result<ValueId, NoMemory>
     ensures grown { IsGrown pool.old pool.new }
 {
     match l {
-        Live::Truth(b) => pool.put_truth(b),
+        Live::False => pool.put_truth(false),
+        Live::True => pool.put_truth(true),
         Live::Number(n) => pool.put_number(n),
         Live::Kept(number) => Ok(ValueId { number }),
     }
@@ -44,7 +45,7 @@ pub fn tree(alloc: Global, op: OpId, kids: &[Live], pool: &mut Pool) -> Result<L
     for kid in kids {
         numbers.push(interned(*kid, pool)?)?;
     }
-    match pool.node(op, &numbers) {
+    match pool.node(op, numbers) {
         Ok(id) => Ok(Live::Kept(id.number)),
         Err(PoolFault::Size) => Err(Stop::Fault(FaultKind::Size)),
         Err(PoolFault::NoMemory) => Err(Stop::NoMemory),
@@ -92,7 +93,7 @@ pub fn read(id: ValueId, pool: &Pool) -> Result<Live, Stop>
         IsReached last result left (limited (Gives (value_at last id) left)) }
 {
     match pool.entry(id) {
-        PoolEntry::Bool(b) => Ok(Live::Truth(*b)),
+        PoolEntry::Bool(b) => Ok(Live::truth(*b)),
         PoolEntry::Int(n) => Ok(Live::Number(*n)),
         PoolEntry::Fault(kind) => Err(Stop::Fault(*kind)),
         _ => {

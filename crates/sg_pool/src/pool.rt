@@ -266,18 +266,18 @@ impl Pool {
     /// A number whose value is the tree of an operator over the values of these numbers; `Size` exactly where that
     /// tree is over a limit of values.
     #[tactic(auto, using(crate::proofs::Pooled::below_all))]
-    pub fn node(&mut self, op: OpId, kids: &[ValueId]) -> Result<ValueId, PoolFault>
-        requires { All (λ k. k < length self.old) kids.now }
-        ensures stands { IfOk result (λ id. StandsFor self.new id (tree_over self.old op kids.now)) }
-        ensures pool { OnOk result (self.new ≡ with_value self.old (tree_over self.old op kids.now)) }
-        ensures size { IsErrOf result PoolFault.Size ↔ (is_within_limits (tree_over self.old op kids.now) ≡ false) }
+    pub fn node(&mut self, op: OpId, kids: Vec<ValueId>) -> Result<ValueId, PoolFault>
+        requires { All (λ k. k < length self.old) kids.items }
+        ensures stands { IfOk result (λ id. StandsFor self.new id (tree_over self.old op kids.items)) }
+        ensures pool { OnOk result (self.new ≡ with_value self.old (tree_over self.old op kids.items)) }
+        ensures size { IsErrOf result PoolFault.Size ↔ (is_within_limits (tree_over self.old op kids.items) ≡ false) }
         ensures err { OnErr result (self.new ≡ self.old) }
         ensures grown { IsGrown self.old self.new }
     {
-        let Some(measure) = self.measure_over(kids) else {
+        let Some(measure) = self.measure_over(&kids) else {
             return Err(PoolFault::Size);
         };
-        let numbers = Row::new(Vec::from_slice(self.alloc, kids)?);
+        let numbers = Row::new(kids);
         Ok(self.enter(PoolEntry::Tree(op, numbers), measure)?)
     }
 

@@ -62,16 +62,19 @@ fn values_over_the_limits_are_refused(rt: HostRuntime) {
     let mut top = pool.put_truth(true).expect(&rt, "a number");
     for _ in 0..1023u32 {
         assert!(rt; top.number < pool.len());
+        let kids = Vec::from_slice(rt.alloc(), &[top]).expect(&rt, "a row");
         top = pool
-            .node(OpId { number: 1 }, &[top])
+            .node(OpId { number: 1 }, kids)
             .ok()
             .expect(&rt, "a number");
     }
     assert!(rt; top.number < pool.len() && long.number < pool.len());
     assert!(rt; pool.depth(top) == 1024 && pool.size(top) == 1024 && pool.size(long) == 65536);
-    let deep = pool.node(OpId { number: 1 }, &[top]);
+    let kids = Vec::from_slice(rt.alloc(), &[top]).expect(&rt, "a row");
+    let deep = pool.node(OpId { number: 1 }, kids);
     assert!(rt; matches!(deep, Err(PoolFault::Size)) && long.number < pool.len());
-    let large = pool.node(OpId { number: 2 }, &[long]);
+    let kids = Vec::from_slice(rt.alloc(), &[long]).expect(&rt, "a row");
+    let large = pool.node(OpId { number: 2 }, kids);
     assert!(rt; matches!(large, Err(PoolFault::Size)) && pool.len() == 1025);
     let fault = pool.put_fault(FaultKind::Fuel).expect(&rt, "a number");
     assert!(rt; fault.number < pool.len() && pool.len() == 1026);

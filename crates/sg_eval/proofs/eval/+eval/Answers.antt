@@ -11,7 +11,7 @@ use Rattle.sg_eval.specs.Answers.{given}
 use Rattle.sg_eval.specs.Lives.{value_in, IsReached, bound_in, AreUsable, IsMatched}
 use Rattle.sg_eval.specs.declared.live.Live.TheVariants as live
 use Rattle.sg_eval.specs.declared.live.Stop.TheVariants as stop
-use Rattle.sg_eval.proofs.Steps.{entered, goes, stopped, stopped_limited, then_reached, reached_limited, halted, row_goes, chooses_nothing, connects_nothing, connects_second, connects_first, row_stops, row_steps, usable_push, body_there, no_function, no_body, with_body, case_taken, case_passed, take_front}
+use Rattle.sg_eval.proofs.Steps.{entered, truth_value, goes, stopped, stopped_limited, then_reached, reached_limited, halted, row_goes, chooses_nothing, connects_nothing, connects_second, connects_first, row_stops, row_steps, usable_push, body_there, no_function, no_body, with_body, case_taken, case_passed, take_front}
 use Rattle.sg_eval.proofs.Bindings.{known_on, known_with, bound_more, all_usable_known, usable_known, known_stays}
 use Rattle.sg_eval.proofs.MadeLater.{made_later}
 use Rattle.sg_eval.proofs.eval.+eval.Goals as goal
@@ -126,38 +126,40 @@ bind-returns-clause-value t c = λ last g.
 pub choice-returns-in_default : goal.choice-returns-in_default
 choice-returns-in_default t c = record {
   value = λ last g.
-      let u = c.in_ok-chosen.ensures.value last g in
-      then_reached last c.in_ok-chosen.field-0 c.enter.new.fuel _ _ (Err (stop.Fault NoMatch)) c.enter.new.fuel u (ap limited (chooses_nothing last c.in_ok-chosen.field-0 _ _ c.enter.new.fuel u.1 c.in_default.not-Truth));
+      let u = c.in_ok-enter.ensures.value last g in
+      then_reached last c.in_ok-enter.field-0 c.enter.new.fuel _ _ (Err (stop.Fault NoMatch)) c.enter.new.fuel u (ap limited (chooses_nothing last c.in_ok-enter.field-0 _ _ c.enter.new.fuel u.1 (sym c.in_default.ensures)));
   env = tt;
   grown = c.enter.ensures.grown;
   made = c.enter.ensures.made;
 }
 
 pub choice-enter-requires-then-chosen : goal.choice-enter-requires-then-chosen
-choice-enter-requires-then-chosen t c = (search rules, (known_on _ _ _ _ _ c.enter.ensures.grown c.in_ok-chosen.ensures.env c.requires.known, c.enter.ensures.made))
+choice-enter-requires-then-chosen t c = (search rules, (known_on _ _ _ _ _ c.enter.ensures.grown c.in_ok-enter.ensures.env c.requires.known, c.enter.ensures.made))
 
 pub choice-enter-requires-else-chosen : goal.choice-enter-requires-else-chosen
-choice-enter-requires-else-chosen t c = (search rules, (known_on _ _ _ _ _ c.enter.ensures.grown c.in_ok-chosen.ensures.env c.requires.known, c.enter.ensures.made))
+choice-enter-requires-else-chosen t c = (search rules, (known_on _ _ _ _ _ c.enter.ensures.grown c.in_ok-enter.ensures.env c.requires.known, c.enter.ensures.made))
 
 pub choice-returns-then-chosen-clause-value : goal.choice-returns-then-chosen-clause-value
 choice-returns-then-chosen-clause-value t c = λ last g.
     let e = c.enter-then-chosen in
-    let x = c.in_ok-chosen.ensures.value last (grown_twice _ _ _ e.ensures.grown g) in
-    then_reached last (live.Truth true) c.enter.new.fuel _ _ e.result e.new.fuel (rw (c.in-Truth.is, c.if-chosen.true) at x)
-    (reached_limited last e.result e.new.fuel _ (rw c.in_ok-chosen.ensures.env at (e.ensures.value last g)))
+    let x = c.in_ok-enter.ensures.value last (grown_twice _ _ _ e.ensures.grown g) in
+    then_reached last c.in_ok-enter.field-0 c.enter.new.fuel _ _ e.result e.new.fuel x
+    (rw (truth_value last c.in_ok-enter.field-0 c.in-Some.chosen c.in-Some.ensures, c.if-chosen.true)
+    (reached_limited last e.result e.new.fuel _ (rw c.in_ok-enter.ensures.env at (e.ensures.value last g))))
 
 pub choice-returns-else-chosen-clause-value : goal.choice-returns-else-chosen-clause-value
 choice-returns-else-chosen-clause-value t c = λ last g.
     let e = c.enter-else-chosen in
-    let x = c.in_ok-chosen.ensures.value last (grown_twice _ _ _ e.ensures.grown g) in
-    then_reached last (live.Truth false) c.enter.new.fuel _ _ e.result e.new.fuel (rw (c.in-Truth.is, c.if-chosen.false) at x)
-    (reached_limited last e.result e.new.fuel _ (rw c.in_ok-chosen.ensures.env at (e.ensures.value last g)))
+    let x = c.in_ok-enter.ensures.value last (grown_twice _ _ _ e.ensures.grown g) in
+    then_reached last c.in_ok-enter.field-0 c.enter.new.fuel _ _ e.result e.new.fuel x
+    (rw (truth_value last c.in_ok-enter.field-0 c.in-Some.chosen c.in-Some.ensures, c.if-chosen.false)
+    (reached_limited last e.result e.new.fuel _ (rw c.in_ok-enter.ensures.env at (e.ensures.value last g))))
 
 pub logical-returns-in_default : goal.logical-returns-in_default
 logical-returns-in_default t c = record {
   value = λ last g.
       let u = c.in_ok-x.ensures.value last g in
-      then_reached last c.in_ok-x.x c.enter.new.fuel _ _ (Err (stop.Fault NoMatch)) c.enter.new.fuel u (ap limited (connects_nothing last c.args.how c.in_ok-x.x _ c.enter.new.fuel u.1 c.in_default.not-Truth));
+      then_reached last c.in_ok-x.x c.enter.new.fuel _ _ (Err (stop.Fault NoMatch)) c.enter.new.fuel u (ap limited (connects_nothing last c.args.how c.in_ok-x.x _ c.enter.new.fuel u.1 (sym c.in_default.ensures)));
   env = tt;
   grown = c.enter.ensures.grown;
   made = c.enter.ensures.made;
@@ -171,14 +173,15 @@ logical-returns-then-needs_second-clause-value t c = λ last g.
     let e = c.enter-then-needs_second in
     let x = c.in_ok-x.ensures.value last (grown_twice _ _ _ e.ensures.grown g) in
     let y = rw c.in_ok-x.ensures.env at (e.ensures.value last g) in
-    then_reached last (live.Truth c.in-Truth.first) c.enter.new.fuel _ _ e.result e.new.fuel (rw c.in-Truth.is at x)
-    (reached_limited last e.result e.new.fuel _ (subst (IsReached last e.result e.new.fuel) (sym (connects_second c.args.how c.in-Truth.first _ c.enter.new.fuel (sym c.if-needs_second.ensures))) y))
+    then_reached last c.in_ok-x.x c.enter.new.fuel _ _ e.result e.new.fuel x
+    (rw (truth_value last c.in_ok-x.x c.in-Some.first c.in-Some.ensures)
+    (reached_limited last e.result e.new.fuel _ (subst (IsReached last e.result e.new.fuel) (sym (connects_second c.args.how c.in-Some.first _ c.enter.new.fuel (sym c.if-needs_second.ensures))) y)))
 
 pub logical-returns-else-needs_second-clause-value : goal.logical-returns-else-needs_second-clause-value
 logical-returns-else-needs_second-clause-value t c = λ last g.
     let x = c.in_ok-x.ensures.value last g in
-    then_reached last (live.Truth c.in-Truth.first) c.enter.new.fuel _ _ (Ok (live.Truth c.in-Truth.first)) c.enter.new.fuel (rw c.in-Truth.is at x)
-    (ap limited (connects_first c.args.how c.in-Truth.first _ c.enter.new.fuel (sym c.if-needs_second.ensures)), tt)
+    then_reached last c.in_ok-x.x c.enter.new.fuel _ _ (Ok c.in_ok-x.x) c.enter.new.fuel x
+    (rw (truth_value last c.in_ok-x.x c.in-Some.first c.in-Some.ensures) (ap limited (connects_first c.args.how c.in-Some.first _ c.enter.new.fuel (sym c.if-needs_second.ensures))), x.1)
 
 pub with-first_match-requires : goal.with-first_match-requires
 with-first_match-requires t c = (

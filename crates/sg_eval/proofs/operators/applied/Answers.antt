@@ -14,7 +14,7 @@ returns-in_default c = record {
 
 pub returns-in_default-x : goal.returns-in_default-x
 returns-in_default-x c = record {
-  value = λ last left g. ap (λ v. limited (Gives v left)) (not_untyped last c.args.f c.args.x c.in-Not.is (usable_later c.args.pool.now last c.args.x g c.requires) c.in_default-x.not-Truth);
+  value = λ last left g. ap (λ v. limited (Gives v left)) (not_untyped last c.args.f c.args.x c.in-Not.is (usable_later c.args.pool.now last c.args.x g c.requires) c.in_default-x.not-False c.in_default-x.not-True);
   grown = grown_itself c.args.pool.now;
 }
 

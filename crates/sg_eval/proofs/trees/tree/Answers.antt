@@ -18,10 +18,9 @@ returns-in-Ok-clause-value c = λ last left g.
     let before = grown_twice c.loop-kid.pool c.node.new.self last c.in-Ok.ensures.grown g in
     let e : map (value_at last) numbers ≡ map (value_in last) kids = c.loop-kid.invariant.values last before ∙ ap (map (value_in last)) (take_all c.loop-kid.kid-index kids c.loop-kid-test.false) in
     let tree : tree_over c.loop-kid.pool c.args.op numbers ≡ Tree c.args.op (row_of (map (value_in last) kids)) = tree_is c.loop-kid.pool last c.args.op numbers kids before c.loop-kid.invariant.below e in
-    let whole : tree_over c.loop-kid.pool c.args.op c.deref.result.now ≡ Tree c.args.op (row_of (map (value_in last) kids)) = ap (tree_over c.loop-kid.pool c.args.op) c.deref.ensures.value ∙ tree in
-    let within : is_within (Tree c.args.op (row_of (map (value_in last) kids))) ≡ true = subst (λ v. is_within v ≡ true) whole (not_false _ (λ f. let h = c.in-Ok.ensures.size.1 f in cc)) in
+    let within : is_within (Tree c.args.op (row_of (map (value_in last) kids))) ≡ true = subst (λ v. is_within v ≡ true) tree (not_false _ (λ f. let h = c.in-Ok.ensures.size.1 f in cc)) in
     kept_reached last (Tree c.args.op (row_of (map (value_in last) kids))) c.id.inside.number left
-    (ap (value_at last) c.id.view_is ∙ stands_later c.node.new.self last c.in-Ok.id _ c.in-Ok.ensures.stands g ∙ whole) within
+    (ap (value_at last) c.id.view_is ∙ stands_later c.node.new.self last c.in-Ok.id _ c.in-Ok.ensures.stands g ∙ tree) within
 
 pub returns-in-Err-Size-clause-value : goal.returns-in-Err-Size-clause-value
 returns-in-Err-Size-clause-value c = λ last left g.
@@ -30,6 +29,5 @@ returns-in-Err-Size-clause-value c = λ last left g.
     let before = grown_twice c.loop-kid.pool c.node.new.self last c.in-Err-Size.ensures.grown g in
     let e : map (value_at last) numbers ≡ map (value_in last) kids = c.loop-kid.invariant.values last before ∙ ap (map (value_in last)) (take_all c.loop-kid.kid-index kids c.loop-kid-test.false) in
     let tree : tree_over c.loop-kid.pool c.args.op numbers ≡ Tree c.args.op (row_of (map (value_in last) kids)) = tree_is c.loop-kid.pool last c.args.op numbers kids before c.loop-kid.invariant.below e in
-    let whole : tree_over c.loop-kid.pool c.args.op c.deref.result.now ≡ Tree c.args.op (row_of (map (value_in last) kids)) = ap (tree_over c.loop-kid.pool c.args.op) c.deref.ensures.value ∙ tree in
-    let over : is_within (Tree c.args.op (row_of (map (value_in last) kids))) ≡ false = subst (λ v. is_within v ≡ false) whole (c.in-Err-Size.ensures.size.0 (ap Err c.in-Err-Size.field-0-is)) in
+    let over : is_within (Tree c.args.op (row_of (map (value_in last) kids))) ≡ false = subst (λ v. is_within v ≡ false) tree (c.in-Err-Size.ensures.size.0 (ap Err c.in-Err-Size.field-0-is)) in
     over_limit (Tree c.args.op (row_of (map (value_in last) kids))) left over
