@@ -13,6 +13,11 @@ use std::marker::Model;
 /// How many steps are tried before numbers are put into an order, which costs more where a relation has few pairs.
 const FEW: usize = 4096;
 
+/// So many steps of a round are free; behind them there may be so many for each number that is done.
+const FREE: usize = 64;
+
+const FOR_EACH: usize = 8;
+
 /// A relation on the numbers below its size, each of them a vertex of a graph.
 #[derive(Drop)]
 pub struct Relation {
@@ -168,7 +173,7 @@ impl Relation {
         let mut grown = false;
         for a in 0..self.size() {
             let here = steps.saturating_sub(before);
-            if *steps > FEW || here.saturating_sub(64) / 8 > a {
+            if *steps > FEW || here.saturating_sub(FREE) / FOR_EACH > a {
                 return None;
             }
             if self.lengthen_from(a, steps) {
