@@ -40,7 +40,8 @@ impl From<NoMemory> for TermFault {
 }
 
 /// Makes a tree that holds a term, under a new root. `Size` says exactly that the term is over a limit. After a refusal
-/// every node is as it was, and none is new. It allocates two vectors for each node and nothing else but the values.
+/// every node is as it was, and none is new. It allocates at most two vectors for each node and nothing else but the
+/// values.
 pub fn build(alloc: Global, terms: &mut Terms, t: &Term) -> Result<NodeId, TermFault>
     requires fits { (p : ℕ) × Fits terms.old.spec t.now p }
     ensures held { IfOk result (λ n. Holds terms.new n t.now) }

@@ -1,7 +1,9 @@
 // The numbers of a node's values.
-ghost use Rattle.std.specs.Prelude.{◌≡◌, ◌<◌, [], ◌∷◌, length, slice_get, slice_set, Some};
+ghost use Rattle.std.specs.Prelude.{◌≡◌, ◌<◌, [], ◌∷◌, length, replicate, slice_get, slice_set, Some, IfOk};
 
 use sg_kinds::ids::ValueId;
+use sg_kinds::memory::NoMemory;
+use std::alloc::Global;
 use std::marker::Model;
 
 /// The numbers of a node's values, which contracts see as a list. Up to three stand in their place and need no memory
@@ -46,18 +48,18 @@ impl Values {
         }
     }
 
-    /// These numbers. It takes no memory, and up to three give theirs back.
-    pub fn new(numbers: Vec<ValueId>) -> Values
-        ensures { result ≡ numbers.items }
+    /// A number so many times. Up to three take no memory.
+    pub fn repeated(alloc: Global, number: ValueId, count: usize) -> Result<Values, NoMemory>
+        ensures { IfOk result (λ v. v ≡ replicate count number) }
     {
-        let form = match numbers.as_slice() {
-            [] => Form::Empty,
-            [a] => Form::One([*a]),
-            [a, b] => Form::Two([*a, *b]),
-            [a, b, c] => Form::Three([*a, *b, *c]),
-            _ => Form::Long(numbers),
+        let form = match count {
+            0 => Form::Empty,
+            1 => Form::One([number]),
+            2 => Form::Two([number; 2]),
+            3 => Form::Three([number; 3]),
+            _ => Form::Long(vec![in alloc; number; count]?),
         };
-        Values { form }
+        Ok(Values { form })
     }
 
     /// The number in a slot, counted from 0.

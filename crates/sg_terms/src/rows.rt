@@ -5,7 +5,7 @@ ghost use Rattle.sg_kinds.specs.declared.spec.Operator.{Operator};
 ghost use Rattle.sg_kinds.specs.Typing.{slots_there};
 ghost use Rattle.sg_kinds.specs.Sound.{AreCounted};
 
-use sg_groves::Kind;
+use sg_groves::{Kind, Values};
 use sg_kinds::ids::{OpId, ValueId};
 use sg_kinds::memory::NoMemory;
 use sg_kinds::row::item;
@@ -41,14 +41,14 @@ fn slot_count(spec: &Spec, op: OpId) -> usize
 }
 
 /// Number 0 for each slot of a node of an operator: no value is known yet.
-pub fn unknown(alloc: Global, spec: &Spec, op: OpId) -> Result<Vec<ValueId>, NoMemory>
+pub fn unknown(alloc: Global, spec: &Spec, op: OpId) -> Result<Values, NoMemory>
     requires op { op < length spec.now.ops }
     requires counted { AreCounted spec.now }
     requires phyla { All (λ (o : Operator). o.phylum < length spec.now.phyla) spec.now.ops }
-    ensures count { IfOk result (λ v. length v.items ≡ length (slots_there spec.now op 0)) }
-    ensures zero { IfOk result (λ v. All (λ k. k ≡ 0) v.items) }
+    ensures count { IfOk result (λ v. length v ≡ length (slots_there spec.now op 0)) }
+    ensures zero { IfOk result (λ v. All (λ k. k ≡ 0) v) }
 {
-    vec![in alloc; ValueId { number: 0 }; slot_count(spec, op)]
+    Values::repeated(alloc, ValueId { number: 0 }, slot_count(spec, op))
 }
 
 /// How many arguments an equation has at most.

@@ -269,14 +269,14 @@ impl Terms {
         ensures terms { KeepsTerms self.old self.new }
         ensures pool { self.new.pool ≡ self.old.pool }
     {
-        let Ok(numbers) = unknown(self.alloc, &self.spec, op) else {
+        let Ok(values) = unknown(self.alloc, &self.spec, op) else {
             return Err(kids);
         };
         let kind = kind_of(&self.spec, op);
         let part = Part {
             scheme,
             elided,
-            values: Values::new(numbers),
+            values,
         };
         grow(&mut self.trees, kind, part, kids)
     }

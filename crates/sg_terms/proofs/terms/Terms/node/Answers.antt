@@ -1,5 +1,4 @@
-use Rattle.std.proofs.Common.{◌≡◌, refl, sym, ap, ◌∙◌, subst, length}
-use Rattle.std.specs.Prelude.{All}
+use Rattle.std.proofs.Common.{◌≡◌, refl, sym, ◌∙◌}
 use Rattle.sg_pool.proofs.Grown.{grown_itself}
 use Rattle.sg_forest.proofs.Laws.{KeepsTrees-kids}
 use Rattle.sg_terms.proofs.Made.{IsGrove-node, held_node, unknown_node}
@@ -31,8 +30,8 @@ pub invariant_of-self : goal.invariant_of-self
 invariant_of-self c =
     let roots = rw (← c.self.view_is) at c.requires.roots in (
       IsGrove-node c.self.inside.spec c.self.inside.view c.self.inside.trees c.grow.new.trees c.self.inside.pool c.self.inside.pool (grown_itself c.self.inside.pool) c.self.invariant.0 c.grow.ensures.kids c.grow.ensures.forest
-          c.args.op c.kind_of-kind.result (record { scheme = c.args.scheme; elided = c.args.elided; values = c.new.result }) c.args.kids.items c.grow.result c.kind_of-kind.ensures.op c.kind_of-kind.ensures.phylum c.kind_of-kind.ensures.arity c.requires.scheme
-          (ap length c.new.ensures ∙ c.in-Ok.ensures.count) (subst (All (λ k. k ≡ 0)) (sym c.new.ensures) c.in-Ok.ensures.zero) roots c.grow.ensures.grown c.grow.ensures.err,
+          c.args.op c.kind_of-kind.result (record { scheme = c.args.scheme; elided = c.args.elided; values = c.in-Ok.values }) c.args.kids.items c.grow.result c.kind_of-kind.ensures.op c.kind_of-kind.ensures.phylum c.kind_of-kind.ensures.arity c.requires.scheme
+          c.in-Ok.ensures.count c.in-Ok.ensures.zero roots c.grow.ensures.grown c.grow.ensures.err,
       c.self.invariant.1,
     )
 
@@ -40,13 +39,13 @@ pub returns-clause-held : goal.returns-clause-held
 returns-clause-held c =
     rw (← c.self.view_is)
     (held_node c.self.inside.spec c.self.inside.view c.self.inside.trees c.grow.new.trees c.self.inside.pool c.self.inside.pool (grown_itself c.self.inside.pool) c.self.invariant.0 c.grow.ensures.kids c.grow.ensures.forest
-    c.args.op c.kind_of-kind.result (record { scheme = c.args.scheme; elided = c.args.elided; values = c.new.result }) c.args.kids.items c.grow.result c.kind_of-kind.ensures.op refl c.grow.ensures.tree)
+    c.args.op c.kind_of-kind.result (record { scheme = c.args.scheme; elided = c.args.elided; values = c.in-Ok.values }) c.args.kids.items c.grow.result c.kind_of-kind.ensures.op refl c.grow.ensures.tree)
 
 pub returns-clause-unknown : goal.returns-clause-unknown
 returns-clause-unknown c =
     rw (← c.self.view_is)
     (unknown_node c.self.inside.spec c.self.inside.view c.self.inside.trees c.grow.new.trees c.self.inside.pool c.self.inside.pool (grown_itself c.self.inside.pool) c.self.invariant.0 c.grow.ensures.kids c.grow.ensures.forest
-    c.args.op c.kind_of-kind.result (record { scheme = c.args.scheme; elided = c.args.elided; values = c.new.result }) c.args.kids.items c.grow.result (ap length c.new.ensures ∙ c.in-Ok.ensures.count) (subst (All (λ k. k ≡ 0)) (sym c.new.ensures) c.in-Ok.ensures.zero) c.grow.ensures.grown)
+    c.args.op c.kind_of-kind.result (record { scheme = c.args.scheme; elided = c.args.elided; values = c.in-Ok.values }) c.args.kids.items c.grow.result c.in-Ok.ensures.count c.in-Ok.ensures.zero c.grow.ensures.grown)
 
 pub returns-clause-kept : goal.returns-clause-kept
 returns-clause-kept c = rw (← c.self.view_is) (record { spec = refl; view = refl; pool = grown_itself c.self.inside.pool; kids = c.grow.ensures.kids; ways = c.grow.ensures.ways })
