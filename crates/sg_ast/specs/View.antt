@@ -9,6 +9,7 @@ use Rattle.sg_ast.specs.declared.pattern.Patterns.{Patterns}
 use Rattle.sg_ast.specs.declared.pattern.Patterns.TheVariants as patterns
 use Rattle.sg_ast.specs.declared.expr.Expr.{Expr}
 use Rattle.sg_ast.specs.declared.expr.Expr.TheVariants as expr
+use Rattle.sg_ast.specs.declared.expr.Operands.TheVariants as operands
 use Rattle.sg_ast.specs.declared.expr.Exprs.{Exprs}
 use Rattle.sg_ast.specs.declared.expr.Exprs.TheVariants as exprs
 use Rattle.sg_ast.specs.declared.expr.Cases.{Cases}
@@ -43,7 +44,7 @@ abbrev mutual
   expr_of (expr.Made made n p) = plain_expr.MadeOf made n.value p
   expr_of (expr.Paren' a x p) = plain_expr.Paren (expr_of x) p
   expr_of (expr.Prefix' f a x p) = plain_expr.Single f (expr_of x) p
-  expr_of (expr.Binary' s a x b y) = plain_expr.Binary s (expr_of x) (expr_of y)
+  expr_of (expr.Binary' s a (operands.Both x y)) = plain_expr.Binary s (expr_of x) (expr_of y)
   expr_of (expr.Choice' a x b y c z) = plain_expr.Choice (expr_of x) (expr_of y) (expr_of z)
   expr_of (expr.Call n xs) = plain_expr.Call n.value (exprs_of xs)
   expr_of (expr.Let' n a x b y p) = plain_expr.Let n.value (expr_of x) (expr_of y) p

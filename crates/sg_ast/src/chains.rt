@@ -5,7 +5,7 @@ ghost use Rattle.sg_ast.specs.Parts.{target_place};
 ghost use Rattle.sg_ast.specs.View.{pattern_of, patterns_of, expr_of, exprs_of, cases_of, case_of};
 
 use crate::decl::Target;
-use crate::expr::{Cases, Expr, Exprs};
+use crate::expr::{Cases, Expr, Exprs, Operands};
 use crate::name::Occurrence;
 use crate::pattern::{Pattern, Patterns};
 use sg_kinds::fault::Position;
@@ -127,7 +127,11 @@ impl Expr {
             Expr::Call(name, _) => name.place,
             Expr::Attribute(reference) => reference.of.place(),
             Expr::Remote(remote) => remote.place,
-            Expr::Binary(_, left, _) | Expr::Choice(left, _, _) => left.place(),
+            Expr::Binary(_, operands) => {
+                let Operands::Both(left, _) = &**operands;
+                left.place()
+            }
+            Expr::Choice(test, _, _) => test.place(),
         }
     }
 }

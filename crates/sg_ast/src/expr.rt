@@ -72,7 +72,8 @@ pub enum Expr {
     Made(Made, Box<Name>, Position),
     Paren(Box<Expr>, Position),
     Prefix(Prefix, Box<Expr>, Position),
-    Binary(Infix, Box<Expr>, Box<Expr>),
+    /// An operator between its operands.
+    Binary(Infix, Box<Operands>),
     /// `a ? b : c`
     Choice(Box<Expr>, Box<Expr>, Box<Expr>),
     /// An operator or a function with its arguments.
@@ -81,6 +82,13 @@ pub enum Expr {
     Let(Box<Name>, Box<Expr>, Box<Expr>, Position),
     /// `with (a) (p : b ..)`: what is looked at, the head, the first case's expression and the other cases.
     With(Box<Expr>, Box<WithHead>, Box<Expr>, Box<Cases>),
+}
+
+/// What stands on both sides of an operator, side by side. It has one variant, since the definitions recur through enums alone.
+#[cycle(ast)]
+#[derive(Drop)]
+pub enum Operands {
+    Both(Expr, Expr),
 }
 
 /// Arguments.

@@ -3,7 +3,7 @@ ghost use Rattle.std.specs.Prelude.{◌≡◌, ◌++◌, OnOk};
 ghost use Rattle.sg_ast.specs.View.{expr_of, exprs_of, cases_of};
 ghost use Rattle.sg_ast.specs.Remotes.{remotes_of, remotes_of_all, remotes_of_cases, remotes_seen};
 
-use crate::expr::{Cases, Expr, Exprs};
+use crate::expr::{Cases, Expr, Exprs, Operands};
 use crate::name::Remote;
 use sg_kinds::memory::NoMemory;
 
@@ -24,7 +24,8 @@ pub fn remotes<'a>(e: &'a Expr, found: &mut Vec<&'a Remote>) -> Result<(), NoMem
             Ok(())
         }
         Expr::Paren(inner, _) | Expr::Prefix(_, inner, _) => remotes(inner, found),
-        Expr::Binary(_, left, right) => {
+        Expr::Binary(_, operands) => {
+            let Operands::Both(left, right) = &**operands;
             remotes(left, found)?;
             remotes(right, found)
         }

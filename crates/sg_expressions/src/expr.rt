@@ -15,7 +15,7 @@ ghost use Rattle.sg_expressions.specs.WithParts as parts;
 
 use crate::nodes::{CaseChain, CaseNodes, Node, Nodes, chained, deeper};
 use crate::remote::remote;
-use sg_ast::expr::{Expr, Exprs, Infix, Prefix, WithHead};
+use sg_ast::expr::{Expr, Exprs, Infix, Operands, Prefix, WithHead};
 use sg_ast::name::Name;
 use sg_ast::pattern::Pattern;
 use sg_cursor::{
@@ -82,9 +82,8 @@ fn binary_of(alloc: Global, operator: Infix, left: Node, right: Node) -> Result<
     ensures { IfOk result (λ n. node_of n ≡ plain.Binary operator (node_of left) (node_of right)) }
 {
     let depth = deeper(left.depth, right.depth);
-    let left = Box::new(alloc, left.expr)?;
-    let right = Box::new(alloc, right.expr)?;
-    Ok(Node::above(depth, Expr::Binary(operator, left, right)))
+    let operands = Box::new(alloc, Operands::Both(left.expr, right.expr))?;
+    Ok(Node::above(depth, Expr::Binary(operator, operands)))
 }
 
 /// `a ? b : c` with these parts.

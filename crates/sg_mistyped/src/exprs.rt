@@ -13,7 +13,7 @@ ghost use Rattle.sg_mistyped.specs.Mistyped as spec;
 
 use crate::mistyped::{Mistyped, Wanted, add, like, one, put};
 use crate::patterns::pattern;
-use sg_ast::expr::{Cases, Expr, Exprs, Infix};
+use sg_ast::expr::{Cases, Expr, Exprs, Infix, Operands};
 use sg_ast::name::Name;
 use sg_ast::pattern::Pattern;
 use sg_kinds::ids::PhylumId;
@@ -99,7 +99,10 @@ fn expr(
             where_wanted(walk, operand, &of, scope, found)?;
             Ok(of)
         }
-        Expr::Binary(sign, left, right) => binary(walk, *sign, left, right, scope, found),
+        Expr::Binary(sign, operands) => {
+            let Operands::Both(left, right) = &**operands;
+            binary(walk, *sign, left, right, scope, found)
+        }
         Expr::Choice(condition, first, second) => {
             choice(walk, condition, first, second, scope, found)
         }

@@ -24,7 +24,7 @@ use crate::operators::{between, prefix_of, prefix_type};
 use crate::pattern::pattern;
 use crate::scope::{Scope, Variable};
 use crate::types::{BOOL, INT, STR, earlier, phylum_or_none, untyped};
-use sg_ast::expr::{Cases, Expr, Exprs, Infix, Prefix};
+use sg_ast::expr::{Cases, Expr, Exprs, Infix, Operands, Prefix};
 use sg_ast::name::{Name, Pair, Quoted, Reference, Remote};
 use sg_ast::pattern::Pattern;
 use sg_kinds::expr::{CaseList, ExprList, ExprTree};
@@ -246,7 +246,10 @@ pub fn expr(walk: &Walk<'_>, e: &Expr, scope: &mut Scope) -> Result<Found, NoMem
         Expr::Made(made, name, place) => Ok(made_term(walk.names, *made, name, *place)),
         Expr::Paren(inner, place) => paren(walk, inner, *place, scope),
         Expr::Prefix(prefix, operand, place) => single(walk, *prefix, operand, *place, scope),
-        Expr::Binary(sign, left, right) => binary(walk, *sign, left, right, scope),
+        Expr::Binary(sign, operands) => {
+            let Operands::Both(left, right) = &**operands;
+            binary(walk, *sign, left, right, scope)
+        }
         Expr::Choice(condition, first, second) => choice(walk, condition, first, second, scope),
         Expr::Call(name, args) => call(walk, name, args, scope),
         Expr::Let(name, bound, body, place) => bind(walk, name, bound, body, *place, scope),

@@ -3,7 +3,7 @@ ghost use Rattle.std.specs.Prelude.{◌≡◌, OnOk, IfOk};
 ghost use Rattle.sg_ast.specs.View.{expr_of, exprs_of, cases_of};
 ghost use Rattle.sg_typing.specs.Arguments as spec;
 
-use sg_ast::expr::{Cases, Expr, Exprs};
+use sg_ast::expr::{Cases, Expr, Exprs, Operands};
 use sg_ast::name::Remote;
 use sg_kinds::ids::OpId;
 use sg_kinds::memory::NoMemory;
@@ -78,7 +78,8 @@ fn collect(
         Expr::Remote(remote) => add_remote(alloc, names, op, remote, args),
         Expr::Paren(inner, _) => collect(alloc, names, op, inner, args),
         Expr::Prefix(_, operand, _) => collect(alloc, names, op, operand, args),
-        Expr::Binary(_, left, right) => {
+        Expr::Binary(_, operands) => {
+            let Operands::Both(left, right) = &**operands;
             collect(alloc, names, op, left, args)?;
             collect(alloc, names, op, right, args)
         }

@@ -8,7 +8,7 @@ ghost use Rattle.sg_names.specs.Uses as uses;
 use crate::found::Found;
 use crate::known::Context;
 use crate::scope::Scope;
-use sg_ast::expr::{Cases, Expr, Exprs};
+use sg_ast::expr::{Cases, Expr, Exprs, Operands};
 use sg_ast::name::Pair;
 use sg_ast::pattern::{Pattern, Patterns};
 use sg_kinds::memory::NoMemory;
@@ -127,7 +127,8 @@ pub(crate) fn expr(
         Expr::Paren(inner, _) | Expr::Prefix(_, inner, _) => {
             self::expr(context, scope, found, inner)
         }
-        Expr::Binary(_, left, right) => {
+        Expr::Binary(_, operands) => {
+            let Operands::Both(left, right) = &**operands;
             self::expr(context, scope, found, left)?;
             self::expr(context, scope, found, right)
         }
