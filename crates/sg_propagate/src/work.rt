@@ -7,6 +7,9 @@ use sg_kinds::memory::NoMemory;
 use std::alloc::Global;
 use std::marker::Model;
 
+// for how many active nodes there is room from the start: a set that grows puts all of its members anew each time
+const ROOM: usize = 1024;
+
 /// The slots of nodes whose values have become others, and the nodes that are active: those below which some may
 /// become so. Contracts see two lists whose order says nothing.
 #[derive(Drop)]
@@ -24,13 +27,17 @@ impl Model for Work {
 }
 
 impl Work {
-    /// Nothing changed, and no node active.
+    /// Nothing changed, and no node active. There is room for as many active nodes as a long way up has, where there is memory
+    /// for it.
     pub fn new(alloc: Global) -> Work
         ensures { result ≡ record { changed = []; active = [] } }
     {
         Work {
             changed: IndexSet::new(alloc),
-            active: IndexSet::new(alloc),
+            active: match IndexSet::with_capacity(alloc, ROOM) {
+                Ok(active) => active,
+                Err(_) => IndexSet::new(alloc),
+            },
         }
     }
 

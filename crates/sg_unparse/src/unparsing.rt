@@ -481,7 +481,7 @@ fn page(alloc: Global, shown: &Shown, n: NodeId) -> Result<Page, NoMemory>
         (unparsed_in shown.now.terms.now root shown.now.captured shown.now.text.now u t 0).0) }
 {
     shown.terms.facts();
-    let mut w = Writer::new(alloc);
+    let mut w = Writer::new(alloc)?;
     let mut room = Vec::new(alloc);
     node(shown, &mut w, &mut room, n)?;
     Page::of(alloc, w)

@@ -1,5 +1,5 @@
 // What is written of a page, cell by cell.
-ghost use Rattle.std.specs.Prelude.{◌≡◌, ◌≤◌, ◌+◌, ◌-◌, [], ◌∷◌, min, length, OnOk, IsTrue};
+ghost use Rattle.std.specs.Prelude.{◌≡◌, ◌≤◌, ◌+◌, ◌-◌, [], ◌∷◌, min, length, OnOk, IfOk, IsTrue};
 ghost use Rattle.sg_kinds.specs.Places.{Place};
 ghost use Rattle.sg_forest.specs.declared.node_id.NodeId.{NodeId as Id};
 ghost use Rattle.sg_unparse.specs.Cells.{Writing, as_they_are, ended, newline as a_newline, piece as a_piece, pieces as all_pieces, plain as plain_text};
@@ -14,6 +14,11 @@ use std::alloc::Global;
 
 // blanks, written up to 64 at once
 const BLANKS: [u8; 64] = [b' '; 64];
+
+// for how many bytes, and for how many nodes, a page has room before it grows
+const TEXT: usize = 8192;
+
+const NODES: usize = 1024;
 
 /// A page while it is written, and the margin in blanks.
 #[derive(Drop)]
@@ -47,17 +52,17 @@ fn own(runs: &mut Vec<Run>, from: u32, owner: NodeId) -> Result<(), NoMemory>
 }
 
 impl Writer {
-    /// Nothing is written, and the margin is 0.
-    pub fn new(alloc: Global) -> Writer
-        ensures { (at : Place → Id) → HoldsMarks at result [] 0 }
+    /// Nothing is written, and the margin is 0. There is room for a page of some 250 lines.
+    pub fn new(alloc: Global) -> Result<Writer, NoMemory>
+        ensures { IfOk result (λ w. (at : Place → Id) → HoldsMarks at w [] 0) }
     {
-        Writer {
-            text: Vec::new(alloc),
-            runs: Vec::new(alloc),
-            spans: Vec::new(alloc),
+        Ok(Writer {
+            text: Vec::with_capacity(alloc, TEXT)?,
+            runs: Vec::with_capacity(alloc, NODES)?,
+            spans: Vec::with_capacity(alloc, NODES)?,
             margin: 0,
             more: false,
-        }
+        })
     }
 
     /// How many cells there are.
