@@ -3,10 +3,10 @@ ghost use Rattle.std.specs.Prelude.{◌≡◌, ◌++◌, OnOk};
 ghost use Rattle.sg_saved_form.specs.Files.{Whole, Quote, Flag, escaped_byte, spelled};
 ghost use Rattle.sg_saved.specs.Spelling.{operator_name};
 
+use itoa::Buffer;
 use sg_kinds::ids::OpId;
 use sg_kinds::memory::NoMemory;
 use sg_kinds::spec::Spec;
-use std::alloc::Global;
 
 /// The name of an operator, empty where there is none of this number.
 pub fn operator_name(spec: &Spec, op: OpId) -> &[u8]
@@ -28,11 +28,11 @@ pub fn put_truth(out: &mut Vec<u8>, b: bool) -> Result<(), NoMemory>
 }
 
 /// Writes a number.
-pub fn put_number(alloc: Global, out: &mut Vec<u8>, n: &i64) -> Result<(), NoMemory>
+pub fn put_number(out: &mut Vec<u8>, n: &i64) -> Result<(), NoMemory>
     ensures { OnOk result (out.new.items ≡ out.old.items ++ spelled (Whole n.now)) }
 {
-    let digits = n.to_string(alloc)?;
-    out.extend_from_slice(digits.as_bytes())?;
+    let mut digits = Buffer::new();
+    out.extend_from_slice(digits.format(*n).as_bytes())?;
     Ok(())
 }
 

@@ -13,17 +13,17 @@ use std::alloc::Global;
 /// Writes a value.
 #[cycle(spell)]
 #[tactic(auto, using(sg_kinds::proofs::Kids::depth_at))]
-fn put_value(alloc: Global, out: &mut Vec<u8>, spec: &Spec, v: &Value) -> Result<(), NoMemory>
+fn put_value(out: &mut Vec<u8>, spec: &Spec, v: &Value) -> Result<(), NoMemory>
     ensures { OnOk result (out.new.items ≡ out.old.items ++ spelled spec.now v.now) }
 {
     match &v.node {
         ValueNode::Bool(b) => put_truth(out, *b),
-        ValueNode::Int(n) => put_number(alloc, out, n),
+        ValueNode::Int(n) => put_number(out, n),
         ValueNode::Text(text) => put_text(out, text.as_slice()),
         ValueNode::Tree(op, kids) => {
             out.extend_from_slice(operator_name(spec, *op))?;
             out.push(b'(')?;
-            put_values(alloc, out, spec, kids)?;
+            put_values(out, spec, kids)?;
             out.push(b')')?;
             Ok(())
         }
@@ -34,12 +34,7 @@ fn put_value(alloc: Global, out: &mut Vec<u8>, spec: &Spec, v: &Value) -> Result
 /// Writes values with a comma between them.
 #[cycle(spell)]
 #[tactic(auto, using(sg_kinds::proofs::Kids::depth_at))]
-fn put_values(
-    alloc: Global,
-    out: &mut Vec<u8>,
-    spec: &Spec,
-    values: &[Value],
-) -> Result<(), NoMemory>
+fn put_values(out: &mut Vec<u8>, spec: &Spec, values: &[Value]) -> Result<(), NoMemory>
     ensures { OnOk result (out.new.items
         ≡ out.old.items ++ spelled_all (raws_of spec.now (row_of values.now))) }
 {
@@ -47,7 +42,7 @@ fn put_values(
         if i > 0 {
             out.push(b',')?;
         }
-        put_value(alloc, out, spec, &values[i])?;
+        put_value(out, spec, &values[i])?;
     }
     Ok(())
 }
@@ -57,6 +52,6 @@ pub fn spell(alloc: Global, spec: &Spec, v: &Value) -> Result<Vec<u8>, NoMemory>
     ensures { IfOk result (λ out. out.items ≡ spelled spec.now v.now) }
 {
     let mut out = Vec::new(alloc);
-    put_value(alloc, &mut out, spec, v)?;
+    put_value(&mut out, spec, v)?;
     Ok(out)
 }

@@ -30,7 +30,7 @@ fn kid_count(terms: &Terms, op: OpId) -> usize
 }
 
 /// Writes the value of a leaf.
-fn put_leaf(alloc: Global, out: &mut Vec<u8>, terms: &Terms, n: NodeId) -> Result<(), NoMemory>
+fn put_leaf(out: &mut Vec<u8>, terms: &Terms, n: NodeId) -> Result<(), NoMemory>
     requires live { IsLive (nodes terms.now) n }
     requires leaf { op_at terms.now n ≡ None }
     ensures { OnOk result ((p : ℕ) (v : Value) → Holds terms.now n (Leaf p v)
@@ -39,21 +39,21 @@ fn put_leaf(alloc: Global, out: &mut Vec<u8>, terms: &Terms, n: NodeId) -> Resul
     terms.facts();
     match terms.pool().entry(terms.stored(n, 0)) {
         PoolEntry::Bool(b) => put_truth(out, *b),
-        PoolEntry::Int(n) => put_number(alloc, out, n),
+        PoolEntry::Int(n) => put_number(out, n),
         PoolEntry::Text(text) => put_text(out, text.as_slice()),
         PoolEntry::Tree(_, _) | PoolEntry::Fault(_) => put_text(out, b""),
     }
 }
 
 /// Writes the term that a node holds.
-fn put_node(alloc: Global, out: &mut Vec<u8>, terms: &Terms, n: NodeId) -> Result<(), NoMemory>
+fn put_node(out: &mut Vec<u8>, terms: &Terms, n: NodeId) -> Result<(), NoMemory>
     requires { IsLive (nodes terms.now) n }
     ensures { OnOk result ((t : Term) → Holds terms.now n t
         → out.new.items ≡ out.old.items ++ spelled terms.now.spec (value_of t)) }
 {
     terms.facts();
     let Some(op) = terms.op(n) else {
-        return put_leaf(alloc, out, terms, n);
+        return put_leaf(out, terms, n);
     };
     let count = kid_count(terms, op);
     out.extend_from_slice(operator_name(terms.spec(), op))?;
@@ -62,7 +62,7 @@ fn put_node(alloc: Global, out: &mut Vec<u8>, terms: &Terms, n: NodeId) -> Resul
         if k > 0 {
             out.push(b',')?;
         }
-        put_node(alloc, out, terms, terms.kid(n, k))?;
+        put_node(out, terms, terms.kid(n, k))?;
     }
     out.push(b')')?;
     Ok(())
@@ -76,7 +76,7 @@ pub fn write(alloc: Global, terms: &Terms, root: NodeId) -> Result<Vec<u8>, NoMe
         → out.items ≡ saved terms.now.spec (value_of t)) }
 {
     let mut out = Vec::from_slice(alloc, b"SGT1\n")?;
-    put_node(alloc, &mut out, terms, root)?;
+    put_node(&mut out, terms, root)?;
     out.push(b'\n')?;
     Ok(out)
 }

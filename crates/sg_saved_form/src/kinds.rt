@@ -24,10 +24,6 @@ pub enum Kind {
 pub fn kind_of(byte: u8) -> Kind
     ensures { result ≡ kind_of byte }
 {
-    // most bytes are letters of names: two comparisons, before the table of all others
-    if b'a' <= byte && byte <= b'z' || b'A' <= byte && byte <= b'Z' {
-        return Kind::Letter;
-    }
     match byte {
         b'a'..=b'z' | b'A'..=b'Z' | b'_' => Kind::Letter,
         b'0' => Kind::Zero,
