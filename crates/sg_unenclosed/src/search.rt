@@ -1,5 +1,7 @@
 //! The search for a chain. What it finds is tested by its caller, so nothing is claimed of it here.
-use crate::unenclosed::is_listed;
+ghost use Rattle.std.specs.Prelude.{◌≡◌};
+ghost use Rattle.sg_unenclosed.specs.Unenclosed.{is_listed as is_listed_in};
+
 use sg_kinds::ids::{OpId, PhylumId};
 use sg_kinds::memory::NoMemory;
 use sg_kinds::spec::{Far, Operator};
@@ -17,6 +19,13 @@ pub struct Step {
 struct Above {
     op: OpId,
     phylum: PhylumId,
+}
+
+/// Whether a list has a phylum.
+pub fn is_listed(list: &[Far], phylum: PhylumId) -> bool
+    ensures { result ≡ is_listed_in list.now phylum }
+{
+    list.iter().any(|far| far.phylum == phylum)
 }
 
 // Puts a phylum last that was not met yet.

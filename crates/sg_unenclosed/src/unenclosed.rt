@@ -3,9 +3,9 @@ ghost use Rattle.std.specs.Prelude.{◌≡◌, ◌++◌, flat_map, slice_get, So
 ghost use Rattle.sg_ast.specs.View.{trees_of};
 ghost use Rattle.sg_kinds.specs.Specification.{phylum_name, phylum_of};
 ghost use Rattle.sg_remote.specs.Longer.{names_of};
-ghost use Rattle.sg_unenclosed.specs.Unenclosed.{TellsBare, TellsChain, TellsOneOf, chain_text, is_among as is_among_of, is_listed as is_listed_in, is_link as is_link_of, is_step_by, leads as leads_to, line_text, operator_text, step_text};
+ghost use Rattle.sg_unenclosed.specs.Unenclosed.{TellsBare, TellsChain, TellsOneOf, chain_text, is_among as is_among_of, is_link as is_link_of, is_step_by, leads as leads_to, line_text, operator_text, step_text};
 
-use crate::search::{Step, steps};
+use crate::search::{Step, is_listed, steps};
 use sg_ast::decl::Decl;
 use sg_kinds::decimal::write_number;
 use sg_kinds::fault::Position;
@@ -81,12 +81,6 @@ fn chain_lines(alloc: Global, table: &Table, steps: &[Step], op: OpId) -> Result
     write_steps(alloc, &mut out, table, steps)?;
     write_operator(alloc, &mut out, table, op)?;
     Ok(out)
-}
-
-pub(crate) fn is_listed(list: &[Far], phylum: PhylumId) -> bool
-    ensures { result ≡ is_listed_in list.now phylum }
-{
-    list.iter().any(|far| far.phylum == phylum)
 }
 
 fn is_among(args: &[PhylumId], phylum: PhylumId) -> bool
