@@ -26,6 +26,7 @@ use sg_outside::{Shelf, Sink};
 use sg_replies::Reply;
 use sg_script::Command;
 use std::alloc::Global;
+use std::mem::forget;
 
 const USAGE: &[u8] =
     b"usage: ssled show SPEC | run SPEC SCRIPT [W H] | check SPEC | load N | report SPEC FILE ATTR\n";
@@ -97,7 +98,9 @@ fn check<S: Shelf, K: Sink>(
         → Played (with_spec checked name.now r.verdict) [] replies.new.items (ended result)
         (world (S.state shelf.old) (K.state sink.old) n) (world (S.state shelf.new) (K.state sink.new) n) }
 {
-    open(alloc, name, shelf, sink, replies)?;
+    // the program ends with its answer: the system takes the language's memory back at once, where freeing it node by node took
+    // up to a quarter of the time
+    forget(open(alloc, name, shelf, sink, replies)?);
     end(finish(sink, b"ok\n", Status::Done))
 }
 
